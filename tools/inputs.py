@@ -151,8 +151,8 @@ KINDS: dict[str, Callable[[float], list[Item]]] = {
 }
 
 # Texts, for `doc`, that are repeated in one and whose characters each become nodes; and the bytes of these for each
-# character: 144 and, if it is a text, those of a string of one character. A blank before a line feed is preserved: it is in
-# a `span` of its own, with its list, css and a `style`.
+# character: 136 and, if it is a text, those of a string of one character. A blank before a line feed is preserved: it is in
+# a `span` of its own, with its list and a `style`.
 ALONE: dict[str, tuple[str, int]] = {
-    "blanks": (" ", 176), "line feeds": ("\n", 144), "U+200B": ("\u200b", 176), "blanks and line feeds by turns": (" \n", 352),
+    "blanks": (" ", 168), "line feeds": ("\n", 136), "U+200B": ("\u200b", 168), "blanks and line feeds by turns": (" \n", 272),
 }  # fmt: skip

@@ -5,7 +5,7 @@ use Rattle.html_dom_tree.specs.Views.{node_view, nodes_view, element_view}
 use Rattle.html_dom_tree.specs.declared.node.HtmlElement.{HtmlElement}
 use Rattle.html_dom_tree.specs.declared.node.HtmlNode.{HtmlNode}
 use Rattle.html_dom_tree.specs.declared.node.HtmlNode.TheVariants.{Element}
-use Rattle.html_dom_document.specs.Documents.{node_at, as_element, element_at, is_element_at}
+use Rattle.html_dom_document.specs.Documents.{node_at, as_element, element_at_index, is_element_at}
 use Rattle.html_dom_document.specs.RootPlaces.{view-Element}
 
 pub within : (ns : List HtmlNode) (i : ℕ) → is_element_at (nodes_view ns) i ≡ true → i < length ns
@@ -28,7 +28,7 @@ is_element ns i x stands is =
 
 pub element_seen : (ns : List HtmlNode) (i : ℕ) (x : HtmlNode) (e : HtmlElement) →
     is_element_at (nodes_view ns) i ≡ true → x ≡ get_or ns i x → x ≡ Element e →
-    element_at (nodes_view ns) i ≡ Some (element_view e)
+    element_at_index (nodes_view ns) i ≡ Some (element_view e)
 element_seen ns i x e stands is here =
     ap as_element (seen_at ns i x stands is)
     ∙ (ap (λ n. as_element (Some (node_view n))) here

@@ -4,11 +4,11 @@ use Rattle.std.proofs.lemmas.Option.{none-some, same_Some}
 use Rattle.html_dom_tree.specs.PlainTree.{Plain, element_normal}
 use Rattle.html_dom_tree.specs.Tree.{Head, tag_node, text_node, element_node, frame_node, NodesView, none, node, ElementView}
 use Rattle.html_dom_document.specs.DomIndices.{◌then◌, dom_index}
-use Rattle.html_dom_document.specs.Places.{PositionView, PlaceView, is_html, children_path, node_places, nodes_places, document_places, first_position}
+use Rattle.html_dom_document.specs.Places.{PositionView, PlaceView, is_named_html, children_path, node_places, nodes_places, document_places, first_position}
 use Rattle.html_dom_document.specs.Introspectors.{IntrospectorView, recorded_view}
 use Rattle.html_dom_document.specs.Paths.{holders, Lead}
 use Rattle.html_dom_document.proofs.Leading.{paths_lead}
-use Rattle.html_dom_document.specs.Documents.{DocumentView, nodes_before, element_at}
+use Rattle.html_dom_document.specs.Documents.{DocumentView, nodes_before, element_at_index}
 use Rattle.html_dom_document.specs.Positions.{first_holder, led_to, PositionsLead}
 
 found_after : (ps qs : List PlaceView) (l : ℕ) → first_position ps l ≡ None →
@@ -67,12 +67,12 @@ first_leads root (p ∷ ps) (f ∷ fs) l e lead held =
         (p.position, refl, lead.0 ∙ ap (λ g. Some (element_normal g)) (same_Some f e held))
     by so false held = so held
 
-root_path : (h : Head) (i : ℕ) → is_html h ≡ true → children_path h [] i ≡ []
+root_path : (h : Head) (i : ℕ) → is_named_html h ≡ true → children_path h [] i ≡ []
 root_path h i html = ap (λ out. if out then [] else i ∷ []) html
 
 -- what is found below an `html` element at a place, and not before it, is found in the list
 found_below : (ns acc : NodesView) (i l : ℕ) (h : Head) (children : NodesView)
-    (x : PositionView) → element_at ns i ≡ Some (h, children) → is_html h ≡ true →
+    (x : PositionView) → element_at_index ns i ≡ Some (h, children) → is_named_html h ≡ true →
     first_position (nodes_places [] acc (nodes_before ns i)) l ≡ None →
     first_position (document_places children) l ≡ Some x →
     first_position (nodes_places [] acc ns) l ≡ Some x

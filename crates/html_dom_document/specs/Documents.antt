@@ -65,12 +65,12 @@ as_element (Some (element_node h ns)) = Some (h, ns)
 as_element (Some (frame_node f)) = None
 
 -- the element at an index of a list, if there is one
-abbrev pub element_at : NodesView → ℕ → Option ElementView
-element_at ns i = as_element (node_at ns i)
+abbrev pub element_at_index : NodesView → ℕ → Option ElementView
+element_at_index ns i = as_element (node_at ns i)
 
 -- whether an element is at an index of a list
 abbrev pub is_element_at : NodesView → ℕ → Bool
-is_element_at ns i = is_some (element_at ns i)
+is_element_at ns i = is_some (element_at_index ns i)
 
 -- the list with that element at an index
 abbrev pub with_element : NodesView → ℕ → ElementView → NodesView
@@ -80,7 +80,7 @@ with_element (node n ns) (suc i) e = node n (with_element ns i e)
 
 -- the root of an output; `HtmlOutput` always has one
 abbrev pub root_of : OutputView → Option ElementView
-root_of o = element_at o.nodes o.root
+root_of o = element_at_index o.nodes o.root
 
 -- the output with that root instead of its own
 abbrev pub with_root : OutputView → ElementView → OutputView

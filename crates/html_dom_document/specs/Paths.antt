@@ -2,7 +2,7 @@
 use Rattle.std.specs.Prelude.{◌≡◌, ℕ, zero, suc, List, [], ◌∷◌, ◌++◌, true, false, Option, Some, None, option_and_then}
 use Rattle.html_dom_tree.specs.PlainTree.{Plain, words, branch, Plains, no_plains, plain, element_normal}
 use Rattle.html_dom_tree.specs.Tree.{starts, ends, Head, tag_node, text_node, element_node, frame_node, NodesView, none, node, ElementView}
-use Rattle.html_dom_document.specs.Places.{PlaceView, is_html, node_places}
+use Rattle.html_dom_document.specs.Places.{PlaceView, is_named_html, node_places}
 
 -- the child at an index
 abbrev pub nth : Plains → ℕ → Option Plain
@@ -26,7 +26,7 @@ ArePlain (node (tag_node t) ns) = ArePlain ns
 ArePlain (node (text_node [] span) ns) = ⊥
 ArePlain (node (text_node (c ∷ cs) span) ns) = ArePlain ns
 ArePlain (node (element_node h children) ns) =
-    (is_html h ≡ false) × ArePlain children × ArePlain ns
+    (is_named_html h ≡ false) × ArePlain children × ArePlain ns
 ArePlain (node (frame_node f) ns) = ⊥
 
 -- a list without its last item
@@ -55,6 +55,6 @@ Lead root (p ∷ ps) (e ∷ es) =
 -- the start tags below a root that is the only `html` element
 abbrev pub PathsLead : Type 0
 PathsLead = (index : ℕ) (h : Head) (children : NodesView) →
-    is_html h ≡ true → ArePlain children →
+    is_named_html h ≡ true → ArePlain children →
     Lead (element_normal (h, children)) (node_places [] index (element_node h children))
     (holders (h, children) children)

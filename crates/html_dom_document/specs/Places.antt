@@ -1,7 +1,7 @@
 -- Positions of start tags, and destinations of links (this project's rules, after typst-html).
 use Rattle.std.specs.Prelude.{ℕ, List, [], ◌∷◌, ◌++◌, Bool, false, ◌==◌, ◌||◌, if◌then◌else◌, codes, bytes_eq, Option, Some, None}
 use Rattle.std.specs.List.{list_any}
-use Rattle.html_dom_tree.specs.Frames.{PointView, FrameView, frame, FrameItemsView, no_items, item, FrameItemView, tag_item, group_item, link_item, other_item}
+use Rattle.html_dom_tree.specs.Frames.{PointView, FrameView, frame, FrameItemsView, no_frame_items, placed_item, FrameItemView, tag_item, group_item, link_item, other_item}
 use Rattle.html_dom_tree.specs.Tree.{TagView, starts, ends, Head, NodeView, tag_node, text_node, element_node, frame_node, NodesView, none, node}
 use Rattle.html_dom_document.specs.DomIndices.{◌then◌, dom_index}
 
@@ -16,12 +16,13 @@ pub record PlaceView : Type 0 where
   pub dest : Option ℕ
   pub position : PositionView
 
-abbrev pub is_html : Head → Bool
-is_html h = bytes_eq h.name (codes "html")
+-- an element that is named `html`
+abbrev pub is_named_html : Head → Bool
+is_named_html h = bytes_eq h.name (codes "html")
 
 -- the path of an element's children, without `html` elements
 abbrev pub children_path : Head → (path : List ℕ) → (index : ℕ) → List ℕ
-children_path h path index = if is_html h then path else path ++ index ∷ []
+children_path h path index = if is_named_html h then path else path ++ index ∷ []
 
 -- a tag at a position: a start tag is recorded
 abbrev pub tag_places : TagView → PositionView → List PlaceView
@@ -35,8 +36,8 @@ unfoldable mutual
   frame_places path (frame picture items) = items_places path items
 
   pub items_places : (path : List ℕ) → FrameItemsView → List PlaceView
-  items_places path no_items = []
-  items_places path (item point x rest) = item_places path point x ++ items_places path rest
+  items_places path no_frame_items = []
+  items_places path (placed_item point x rest) = item_places path point x ++ items_places path rest
 
   pub item_places : (path : List ℕ) → PointView → FrameItemView → List PlaceView
   item_places path point (tag_item t) = tag_places t (record { path = path; point = Some point })
@@ -89,8 +90,8 @@ unfoldable mutual
   frame_links (frame picture items) = items_links items
 
   pub items_links : FrameItemsView → List ℕ
-  items_links no_items = []
-  items_links (item point x rest) = item_links x ++ items_links rest
+  items_links no_frame_items = []
+  items_links (placed_item point x rest) = item_links x ++ items_links rest
 
   pub item_links : FrameItemView → List ℕ
   item_links (tag_item t) = []

@@ -2,7 +2,7 @@
 use Rattle.std.specs.Prelude.{◌≡◌, ℕ, List, [], ◌∷◌, true, ◌==◌, if◌then◌else◌, Option, Some, None, option_and_then}
 use Rattle.html_dom_tree.specs.PlainTree.{Plain, element_normal}
 use Rattle.html_dom_tree.specs.Tree.{ElementView}
-use Rattle.html_dom_document.specs.Places.{PositionView, PlaceView, is_html, document_places, first_position}
+use Rattle.html_dom_document.specs.Places.{PositionView, PlaceView, is_named_html, document_places, first_position}
 use Rattle.html_dom_document.specs.Paths.{follow, ArePlain, without_last, holders}
 use Rattle.html_dom_document.specs.Documents.{OutputView, DocumentView, nodes_before, root_of}
 
@@ -30,7 +30,7 @@ led_to root position = follow (without_last position.path) root
 -- each location that starts below it and not before it leads to the element that holds the tag
 abbrev pub PositionsLead : DocumentView → Type 0
 PositionsLead d = (root : ElementView) (location : ℕ) (holder : ElementView) →
-    root_of d.output ≡ Some root → is_html root.0 ≡ true → ArePlain root.1 →
+    root_of d.output ≡ Some root → is_named_html root.0 ≡ true → ArePlain root.1 →
     NotBeforeRoot d.output location → holder_below root location ≡ Some holder →
     option_and_then (led_to (element_normal root)) (d.introspector.position location)
     ≡ Some (element_normal holder)

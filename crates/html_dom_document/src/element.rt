@@ -5,8 +5,18 @@ ghost use Rattle.html_dom_tree.specs.declared.node.HtmlNode.TheVariants.{Element
 ghost use Rattle.html_dom_tree.specs.contracts.node.HtmlNode as node_type;
 ghost use Rattle.html_dom_tree.specs.contracts.node.HtmlElement as element_type;
 ghost use Rattle.html_dom_document.specs.Documents.{as_element};
+ghost use Rattle.html_dom_document.specs.Places.{is_named_html};
 
 use html_dom_tree::{HtmlElement, HtmlNode};
+use html_names::tag;
+
+/// Returns whether the element is named `html`.
+#[tactic(auto, unfolding(html_names::specs::Tables::known_tags))]
+pub fn is_named_html(element: &HtmlElement) -> bool
+    ensures { result ≡ is_named_html (element_view element.now).0 }
+{
+    element.tag == tag::html
+}
 
 pub(crate) fn is_element(node: &HtmlNode) -> bool
     ensures { result ≡ is_some (as_element (Some (node_view node.now))) }

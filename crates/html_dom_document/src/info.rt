@@ -1,9 +1,10 @@
 ghost use Rattle.std.specs.Prelude.{◌≡◌, IfOk};
-ghost use Rattle.html_dom_tree.specs.Views.{optional_text_view, text_view};
+ghost use Rattle.html_dom_tree.specs.Views.{text_view};
 ghost use Rattle.html_dom_document.specs.Documents.{locale_of, no_info};
 ghost use Rattle.html_names.specs.Texts.{texts_view};
 ghost use Rattle.html_dom_document.specs.Views.{locale_view, info_view};
 
+use html_dom_tree::text::copy_optional_text;
 use std::alloc::{AllocError, Global};
 
 /// A language and optionally the region in which it is spoken, such as `en` and `GB`. The texts are
@@ -79,15 +80,6 @@ impl DocumentInfo {
             keywords: copy_texts(&self.keywords)?,
             locale,
         })
-    }
-}
-
-fn copy_optional_text(text: &Option<String>) -> Result<Option<String>, AllocError>
-    ensures { IfOk result (λ copy. optional_text_view copy ≡ optional_text_view text.now) }
-{
-    match text {
-        Some(text) => Ok(Some(text.clone()?)),
-        None => Ok(None),
     }
 }
 

@@ -35,6 +35,7 @@ mod tables;
 
 pub use document::HtmlDocument;
 pub use dom_indices::{DomIndices, HtmlSliceExt};
+pub use element::is_named_html;
 pub use info::{DocumentInfo, Locale};
 pub use introspect::HtmlIntrospector;
 pub use output::HtmlOutput;

@@ -4,15 +4,15 @@ ghost use Rattle.std.specs.Prelude.{◌≡◌, ◌++◌, [], ◌∷◌, option_m
 ghost use Rattle.html_dom_tree.specs.FrameViews.{point_view, tag_view, frame_view, frame_item_view};
 ghost use Rattle.html_dom_tree.specs.Views.{node_view, nodes_view, element_view};
 ghost use Rattle.html_dom_tree.specs.Tree.{none};
-ghost use Rattle.html_dom_document.specs.Places.{is_html, children_path, link_targets, tag_places, frame_places, item_places, node_places, nodes_places, frame_links, item_links, node_links, nodes_links};
+ghost use Rattle.html_dom_document.specs.Places.{children_path, link_targets, tag_places, frame_places, item_places, node_places, nodes_places, frame_links, item_links, node_links, nodes_links};
 ghost use Rattle.html_dom_document.specs.Paths.{without_last};
 ghost use Rattle.html_dom_document.specs.Records.{Records, location_view};
 
 use crate::cursor::Cursor;
+use crate::element::is_named_html;
 use crate::place::Place;
 use crate::position::{HtmlPosition, copy_path};
 use html_dom_tree::{Frame, FrameItem, HtmlElement, HtmlNode, Location, Point, Tag};
-use html_names::tag;
 use std::alloc::{AllocError, Global};
 
 /// The start tags and links of frames found so far, in document order.
@@ -141,7 +141,7 @@ impl Recorder {
             (nodes_places (children_path e.0 self.old.path.items index) none e.1)
             (nodes_links e.1) }
     {
-        if is_html(element) {
+        if is_named_html(element) {
             return self.add_nodes(&element.children);
         }
         self.path.push(index)?;
@@ -163,11 +163,4 @@ impl Recorder {
         }
         Ok(())
     }
-}
-
-#[tactic(auto, unfolding(html_names::specs::Tables::known_tags))]
-fn is_html(element: &HtmlElement) -> bool
-    ensures { result ≡ is_html (element_view element.now).0 }
-{
-    element.tag == tag::html
 }

@@ -21,7 +21,7 @@ module _ (own : List ℕ → List TextPair → List (List ℕ)) where
   -- it holds of the texts of each element at or below nodes, which are children from an index on
   abbrev HoldsBelow : (P : Placed → Type 0) (parent : List ℕ) (i : ℕ) (ns : NodesView) → Type 0
   HoldsBelow P parent i ns = (index child : ℕ) → index ≡ i + child → (rest : List ℕ) (a : ElementView)
-      → option_and_then (element_at rest) (documents.element_at ns child) ≡ Some a
+      → option_and_then (element_at rest) (documents.element_at_index ns child) ≡ Some a
       → (text : List ℕ) → Contains (own a.0.name a.0.attrs) text → P (parent ++ index ∷ rest, text)
 
   -- one node further on

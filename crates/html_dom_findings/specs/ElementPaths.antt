@@ -6,4 +6,5 @@ use Rattle.html_dom_tree.specs.Tree.{ElementView}
 -- the element to which a path of indices of children leads, if it leads to one
 abbrev pub element_at : (path : List ℕ) → ElementView → Option ElementView
 element_at [] e = Some e
-element_at (index ∷ path) e = option_and_then (element_at path) (documents.element_at e.1 index)
+element_at (index ∷ path) e =
+    option_and_then (element_at path) (documents.element_at_index e.1 index)

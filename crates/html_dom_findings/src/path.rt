@@ -42,7 +42,7 @@ pub fn element_at<'a>(root: &'a HtmlElement, path: &[usize]) -> Option<&'a HtmlE
 #[tactic(auto, using(crate::proofs::ElementPaths::node_within, crate::proofs::ElementPaths::none_past))]
 fn child_at(children: &[HtmlNode], index: usize) -> Option<&HtmlElement>
     ensures { option_map (λ e. element_view e.now) result
-        ≡ documents.element_at (nodes_view children.now) index }
+        ≡ documents.element_at_index (nodes_view children.now) index }
 {
     match children.get(index) {
         Some(node) => as_element(node),

@@ -13,8 +13,9 @@ use crate::wanted::{Wanted, copy_of, own_text};
 use html_dom_tree::{HtmlElement, HtmlFrame, HtmlNode, Point};
 use std::alloc::{AllocError, Global};
 
+/// A walk over a tree that finds its texts.
 #[derive(Drop)]
-struct Walk<S> {
+struct TextWalk<S> {
     alloc: Global,
     path: Vec<usize>,
     sink: S,
@@ -31,13 +32,13 @@ pub fn tell_texts<S: TextSink>(
     ensures { IfOk result (λ told. S.made_with told []
         ≡ S.made_with sink (element_placed (kind_of wanted) (element_view root.now))) }
 {
-    let mut walk = Walk {
+    let mut walk = TextWalk {
         alloc,
         path: Vec::new(alloc),
         sink,
     };
     pass_element(root, wanted, &mut walk)?;
-    let Walk { sink, .. } = walk;
+    let TextWalk { sink, .. } = walk;
     Ok(sink)
 }
 
@@ -48,7 +49,7 @@ fn leave(path: &mut Vec<usize>)
     let _ = path.pop();
 }
 
-fn pass_text<S: TextSink>(text: String, walk: &mut Walk<S>) -> Result<(), AllocError>
+fn pass_text<S: TextSink>(text: String, walk: &mut TextWalk<S>) -> Result<(), AllocError>
     ensures path { OnOk result (walk.new.path.items ≡ walk.old.path.items) }
     ensures taken { OnOk result (Takes (S.made_with walk.old.sink) (S.made_with walk.new.sink)
         (placed_at walk.old.path.items (text_view text ∷ []))) }
@@ -56,7 +57,10 @@ fn pass_text<S: TextSink>(text: String, walk: &mut Walk<S>) -> Result<(), AllocE
     walk.sink.take(walk.alloc, &walk.path, text)
 }
 
-fn pass_optional<S: TextSink>(text: Option<String>, walk: &mut Walk<S>) -> Result<(), AllocError>
+fn pass_optional<S: TextSink>(
+    text: Option<String>,
+    walk: &mut TextWalk<S>,
+) -> Result<(), AllocError>
     ensures path { OnOk result (walk.new.path.items ≡ walk.old.path.items) }
     ensures taken { OnOk result (Takes (S.made_with walk.old.sink) (S.made_with walk.new.sink)
         (placed_at walk.old.path.items (option_to_list (option_map text_view text)))) }
@@ -69,7 +73,7 @@ fn pass_optional<S: TextSink>(text: Option<String>, walk: &mut Walk<S>) -> Resul
 
 fn pass_anchors<S: TextSink>(
     anchors: &[(Point, String)],
-    walk: &mut Walk<S>,
+    walk: &mut TextWalk<S>,
 ) -> Result<(), AllocError>
     ensures path { OnOk result (walk.new.path.items ≡ walk.old.path.items) }
     ensures taken { OnOk result (Takes (S.made_with walk.old.sink) (S.made_with walk.new.sink)
@@ -84,7 +88,7 @@ fn pass_anchors<S: TextSink>(
 fn pass_frame<S: TextSink>(
     frame: &HtmlFrame,
     wanted: Wanted,
-    walk: &mut Walk<S>,
+    walk: &mut TextWalk<S>,
 ) -> Result<(), AllocError>
     ensures path { OnOk result (walk.new.path.items ≡ walk.old.path.items) }
     ensures taken { OnOk result (Takes (S.made_with walk.old.sink) (S.made_with walk.new.sink)
@@ -106,7 +110,7 @@ fn pass_frame<S: TextSink>(
 fn pass_own<S: TextSink>(
     element: &HtmlElement,
     wanted: Wanted,
-    walk: &mut Walk<S>,
+    walk: &mut TextWalk<S>,
 ) -> Result<(), AllocError>
     ensures path { OnOk result (walk.new.path.items ≡ walk.old.path.items) }
     ensures taken { let e = element_view element.now in
@@ -122,7 +126,7 @@ fn pass_own<S: TextSink>(
 fn pass_element<S: TextSink>(
     element: &HtmlElement,
     wanted: Wanted,
-    walk: &mut Walk<S>,
+    walk: &mut TextWalk<S>,
 ) -> Result<(), AllocError>
     ensures path { OnOk result (walk.new.path.items ≡ walk.old.path.items) }
     ensures taken { let e = element_view element.now in
@@ -139,7 +143,7 @@ fn pass_element<S: TextSink>(
 fn pass_node<S: TextSink>(
     child: &HtmlNode,
     wanted: Wanted,
-    walk: &mut Walk<S>,
+    walk: &mut TextWalk<S>,
 ) -> Result<(), AllocError>
     ensures path { OnOk result (walk.new.path.items ≡ walk.old.path.items) }
     ensures taken { OnOk result (Takes (S.made_with walk.old.sink) (S.made_with walk.new.sink)
@@ -156,7 +160,7 @@ fn pass_node<S: TextSink>(
 fn pass_nodes<S: TextSink>(
     nodes: &[HtmlNode],
     wanted: Wanted,
-    walk: &mut Walk<S>,
+    walk: &mut TextWalk<S>,
 ) -> Result<(), AllocError>
     ensures path { OnOk result (walk.new.path.items ≡ walk.old.path.items) }
     ensures taken { OnOk result (Takes (S.made_with walk.old.sink) (S.made_with walk.new.sink)

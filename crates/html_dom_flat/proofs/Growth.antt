@@ -15,7 +15,7 @@ use Rattle.html_dom_flat.specs.FlatViews.{FlatPair, flat_pair, flat_head, flat_n
 use Rattle.html_dom_flat.specs.Numbering.{AreKept, Grows, ArePairsOf}
 use Rattle.html_dom_flat.specs.declared.flat_node.FlatElement.{FlatElement}
 use Rattle.html_dom_flat.specs.declared.flat_node.FlatNode.{FlatNode}
-use Rattle.html_dom_flat.specs.declared.flat_node.FlatNode.TheVariants.{Tag, Text, Frame, Element}
+use Rattle.html_dom_flat.specs.declared.flat_node.FlatNode.TheVariants.{Element}
 
 kept_all : (names : List (List ℕ)) → AreKept names names
 kept_all names = λ number below. (below, refl)

@@ -4,7 +4,7 @@ ghost use Rattle.std.specs.Prelude.{◌≡◌, true, reverse};
 ghost use Rattle.html_dom_flat.specs.FlatViews.{are_given};
 
 use crate::flat_node::{FlatElement, FlatNode};
-use crate::moving::give_back;
+use crate::moving::{STEP, give_back};
 use crate::numbering::{numbered_attrs, set_past};
 use html_dom_tree::{HtmlAttrs, HtmlElement, HtmlFrame, HtmlNode, Span, Tag};
 use html_names::{HtmlTag, NameTable};
@@ -29,14 +29,15 @@ impl Builder {
     ghost use Rattle.html_dom_flat.specs.ClosedElements.{closed_at};
     ghost use Rattle.html_dom_flat.specs.Numbering.{AreNumbersOf};
 
-    pub(crate) fn new(alloc: Global) -> Builder
-        ensures list { builder_view result ≡ [] }
-        ensures count { vec_len result.nodes ≡ 0 }
+    /// An empty list with room for that many nodes.
+    pub(crate) fn with_room(alloc: Global, room: usize) -> Result<Builder, AllocError>
+        ensures list { IfOk result (λ builder. builder_view builder ≡ []) }
+        ensures count { IfOk result (λ builder. vec_len builder.nodes ≡ 0) }
     {
-        Builder {
-            nodes: Vec::new(alloc),
+        Ok(Builder {
+            nodes: Vec::with_capacity(alloc, room)?,
             names: NameTable::new(alloc),
-        }
+        })
     }
 
     #[inline(always)]
@@ -53,15 +54,15 @@ impl Builder {
     fn numbered(
         &mut self,
         alloc: Global,
-        tag: &HtmlTag,
+        tag: HtmlTag,
         attrs: HtmlAttrs,
     ) -> Result<(usize, Vec<(usize, String)>), AllocError>
         ensures numbers { IfOk result (λ numbers.
-            AreNumbersOf self.new.names numbers.0 numbers.1.items tag.now (attrs_view attrs)) }
+            AreNumbersOf self.new.names numbers.0 numbers.1.items tag (attrs_view attrs)) }
         ensures list { OnOk result (builder_view self.new ≡ builder_view self.old) }
         ensures count { OnOk result (vec_len self.new.nodes ≡ vec_len self.old.nodes) }
     {
-        let number = self.names.tag(tag)?;
+        let number = self.names.insert_tag(tag)?;
         let pairs = numbered_attrs(alloc, &mut self.names, attrs)?;
         Ok((number, pairs))
     }
@@ -127,7 +128,7 @@ impl Builder {
             span,
             pre_span,
         } = element;
-        let (tag, attrs) = self.numbered(alloc, &tag, attrs)?;
+        let (tag, attrs) = self.numbered(alloc, tag, attrs)?;
         self.push(FlatNode::Element(FlatElement {
             tag,
             attrs,
@@ -140,7 +141,20 @@ impl Builder {
         Ok(children)
     }
 
+    /// `move_node` by a call, which takes less where a list is short.
     #[cycle(flatten)]
+    #[inline(never)]
+    fn move_one(&mut self, alloc: Global, node: HtmlNode) -> Result<(), AllocError>
+        ensures list { OnOk result (builder_view self.new
+            ≡ builder_view self.old ++ node_flat (vec_len self.old.nodes) (node_view node)) }
+        ensures count { OnOk result (vec_len self.new.nodes
+            ≡ vec_len self.old.nodes + node_count (node_view node)) }
+    {
+        self.move_node(alloc, node)
+    }
+
+    #[cycle(flatten)]
+    #[inline(always)]
     #[tactic(auto, unfolding(crate::specs::Flat::node_flat, crate::specs::Flat::node_count))]
     fn move_node(&mut self, alloc: Global, node: HtmlNode) -> Result<(), AllocError>
         ensures list { OnOk result (builder_view self.new
@@ -174,10 +188,38 @@ impl Builder {
         Ok(())
     }
 
+    #[cycle(flatten)]
+    fn move_nodes(&mut self, alloc: Global, nodes: Vec<HtmlNode>) -> Result<(), AllocError>
+        ensures list { OnOk result (builder_view self.new
+            ≡ builder_view self.old ++ nodes_flat (vec_len self.old.nodes) (nodes_view nodes.items)) }
+        ensures count { OnOk result (vec_len self.new.nodes
+            ≡ vec_len self.old.nodes + nodes_count (nodes_view nodes.items)) }
+    {
+        if nodes.len() < STEP {
+            self.move_few(alloc, nodes)
+        } else {
+            self.move_many(alloc, nodes)
+        }
+    }
+
+    #[cycle(flatten)]
+    #[tactic(auto, unfolding(crate::specs::Flat::nodes_flat, crate::specs::Flat::nodes_count))]
+    fn move_few(&mut self, alloc: Global, nodes: Vec<HtmlNode>) -> Result<(), AllocError>
+        ensures list { OnOk result (builder_view self.new
+            ≡ builder_view self.old ++ nodes_flat (vec_len self.old.nodes) (nodes_view nodes.items)) }
+        ensures count { OnOk result (vec_len self.new.nodes
+            ≡ vec_len self.old.nodes + nodes_count (nodes_view nodes.items)) }
+    {
+        for node in nodes {
+            self.move_one(alloc, node)?;
+        }
+        Ok(())
+    }
+
     /// The memory of the nodes that were added is given back on the way.
     #[cycle(flatten)]
     #[tactic(auto, unfolding(crate::specs::Flat::nodes_flat, crate::specs::Flat::nodes_count))]
-    fn move_nodes(&mut self, alloc: Global, mut nodes: Vec<HtmlNode>) -> Result<(), AllocError>
+    fn move_many(&mut self, alloc: Global, mut nodes: Vec<HtmlNode>) -> Result<(), AllocError>
         ensures list { OnOk result (builder_view self.new
             ≡ builder_view self.old ++ nodes_flat (vec_len self.old.nodes) (nodes_view nodes.items)) }
         ensures count { OnOk result (vec_len self.new.nodes
@@ -203,6 +245,18 @@ impl Builder {
         }
         Ok(())
     }
+}
+
+/// How many nodes they are with all that is inside them. It is only a hint how much room they take.
+#[cycle(counting)]
+pub(crate) fn room_for(nodes: &[HtmlNode]) -> usize {
+    let mut room = nodes.len();
+    for node in nodes {
+        if let HtmlNode::Element(element) = node {
+            room = room.saturating_add(room_for(&element.children));
+        }
+    }
+    room
 }
 
 #[inline(never)]

@@ -4,7 +4,7 @@ ghost use Rattle.html_dom_flat.specs.Flat.{IsSpelling};
 ghost use Rattle.html_dom_flat.specs.FlatViews.{flat_nodes_view, are_given};
 ghost use Rattle.html_dom_flat.specs.Sets.{flat_node_is_set};
 
-use crate::builder::Builder;
+use crate::builder::{Builder, room_for};
 use crate::flat_node::FlatNode;
 use crate::moving::flat_tree_of;
 use crate::spelling::spelled_nodes;
@@ -53,7 +53,7 @@ impl FlatTree {
     pub fn from_nodes(alloc: Global, nodes: &[HtmlNode]) -> Result<FlatTree, AllocError>
         ensures { IfOk result (λ tree. tree_nodes tree ≡ nodes_view nodes.now) }
     {
-        let mut builder = Builder::new(alloc);
+        let mut builder = Builder::with_room(alloc, room_for(nodes))?;
         builder.push_nodes(alloc, nodes)?;
         let Builder { nodes, names } = builder;
         Ok(FlatTree { nodes, names })

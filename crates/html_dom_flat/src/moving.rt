@@ -5,13 +5,13 @@ ghost use Rattle.html_dom_tree.specs.Tree.{node, none, element_node};
 ghost use Rattle.html_dom_tree.specs.Views.{element_view};
 ghost use Rattle.html_dom_flat.specs.FlatTrees.{tree_nodes};
 
-use crate::builder::Builder;
+use crate::builder::{Builder, room_for};
 use crate::flat_tree::FlatTree;
 use html_dom_tree::{HtmlElement, HtmlNode};
 use std::alloc::{AllocError, Global};
 
 /// After how many nodes that are taken memory is given back.
-const STEP: usize = 4096;
+pub(crate) const STEP: usize = 4096;
 
 /// The list of this element and of all nodes below it, which are moved into it. It fails only where
 /// an allocation does; the tree is then gone.
@@ -21,7 +21,8 @@ pub fn flat_tree_of(alloc: Global, element: HtmlElement) -> Result<FlatTree, All
     ensures { let e = element_view element in
         IfOk result (λ tree. tree_nodes tree ≡ node (element_node e.0 e.1) none) }
 {
-    let mut builder = Builder::new(alloc);
+    let room = room_for(&element.children).saturating_add(1);
+    let mut builder = Builder::with_room(alloc, room)?;
     builder.move_element(alloc, element)?;
     let Builder { nodes, names } = builder;
     Ok(FlatTree { nodes, names })

@@ -22,7 +22,7 @@ pub(crate) fn numbered_attrs(
     }
     let mut pairs = Vec::with_capacity(alloc, attrs.0.len())?;
     for (attr, value) in attrs.0 {
-        pairs.push((names.attr(&attr)?, value))?;
+        pairs.push((names.insert_attr(attr)?, value))?;
     }
     Ok(pairs)
 }

@@ -1,7 +1,7 @@
 -- A document whose root was changed has the changed root.
 use Rattle.std.proofs.Common.{◌≡◌, ℕ, zero, suc, Bool, [], refl, sym}
 use Rattle.html_dom_tree.specs.Tree.{NodesView, none, node, ElementView, new_element}
-use Rattle.html_dom_document.specs.Documents.{DocumentView, document_root, element_at, given_root, with_element}
+use Rattle.html_dom_document.specs.Documents.{DocumentView, document_root, element_at_index, given_root, with_element}
 use Rattle.html_dom_link.specs.Anchors.{element_with_anchors, nodes_with_anchors}
 use Rattle.html_dom_link.specs.Events.{Targets}
 use Rattle.html_dom_link.specs.LinkAnchors.{document_with_new_anchors, document_targets}
@@ -10,8 +10,8 @@ use Rattle.html_dom_link.specs.Links.{Hrefs, document_hrefs, document_with_links
 -- an element put at a place stands there, unless there is no place
 pub placed : (ns : NodesView) (i : ℕ) (change : ElementView → ElementView)
     → change (new_element []) ≡ new_element []
-    → let old = given_root (element_at ns i) in
-    given_root (element_at (with_element ns i (change old)) i) ≡ change old
+    → let old = given_root (element_at_index ns i) in
+    given_root (element_at_index (with_element ns i (change old)) i) ≡ change old
 placed none i change e = sym e
 placed (node n ns) zero change e = refl
 placed (node n ns) (suc i) change e = placed ns i change e

@@ -2,7 +2,7 @@
 use Rattle.std.proofs.Common.{◌≡◌, ℕ, Bool, true, false, List, [], ◌∷◌, ◌++◌, drop, Option, Some, None, refl, ap, sym, ◌∙◌, subst}
 use Rattle.std.proofs.lemmas.List.{append-nil}
 use Rattle.html_dom_tree.specs.FrameFree.{NodeIsFrameFree, NodesAreFrameFree}
-use Rattle.html_dom_tree.specs.Frames.{PointView, FrameView, frame, FrameItemsView, no_items, item, tag_item, group_item, link_item, other_item}
+use Rattle.html_dom_tree.specs.Frames.{PointView, FrameView, frame, FrameItemsView, no_frame_items, placed_item, tag_item, group_item, link_item, other_item}
 use Rattle.html_dom_tree.specs.Tree.{starts, ends, tag_node, text_node, element_node, frame_node, NodesView, none, node}
 use Rattle.html_dom_tree.proofs.Basics.{or_else-none}
 use Rattle.html_names.specs.Names.{stands_in}
@@ -56,18 +56,18 @@ answers_are_first_ids x e f l n is =
 module _ (x : Targets) (none_is : (l : ℕ) → x.is_target l ≡ false) where
   no_items_starts : (is : FrameItemsView) → items_starts x is ≡ []
   unfolding items_starts
-  no_items_starts no_items = refl
-  no_items_starts (item p (tag_item (starts l label dest)) rest) =
+  no_items_starts no_frame_items = refl
+  no_items_starts (placed_item p (tag_item (starts l label dest)) rest) =
       rw (none_is l, no_items_starts rest) (by_point (x.points l))
     where
       by_point : (o : Option PointView) → with_frame_start false o l label [] ≡ []
       by_point None = refl
       by_point (Some q) = refl
-  no_items_starts (item p (tag_item (ends l)) rest) = no_items_starts rest
-  no_items_starts (item p (group_item (frame picture items)) rest) =
+  no_items_starts (placed_item p (tag_item (ends l)) rest) = no_items_starts rest
+  no_items_starts (placed_item p (group_item (frame picture items)) rest) =
       rw (no_items_starts items, no_items_starts rest) refl
-  no_items_starts (item p (link_item dest) rest) = no_items_starts rest
-  no_items_starts (item p other_item rest) = no_items_starts rest
+  no_items_starts (placed_item p (link_item dest) rest) = no_items_starts rest
+  no_items_starts (placed_item p other_item rest) = no_items_starts rest
 
   no_frame_starts : (f : FrameView) → frame_starts x f ≡ []
   no_frame_starts (frame picture items) = no_items_starts items

@@ -1,7 +1,7 @@
 -- Start tags of a frame, one item after the other.
 use Rattle.std.proofs.Common.{◌≡◌, ℕ, suc, ◌+◌, ◌<◌, ◌≤◌, Bool, true, false, List, [], ◌∷◌, ◌++◌, length, get_or, drop, refl, ap, sym, ◌∙◌, append_assoc, add-one, drop-cons, Option, Some, None}
 use Rattle.std.proofs.lemmas.List.{append-nil, drop_all}
-use Rattle.html_dom_tree.specs.Frames.{PointView, frame, FrameItemsView, no_items, item, FrameItemView, tag_item, group_item, link_item, other_item}
+use Rattle.html_dom_tree.specs.Frames.{PointView, frame, FrameItemsView, no_frame_items, placed_item, FrameItemView, tag_item, group_item, link_item, other_item}
 use Rattle.html_dom_tree.specs.Tags.{starts, ends}
 use Rattle.html_dom_tree.specs.FrameViews.{point_view, frame_item_view, frame_items_view}
 use Rattle.html_dom_tree.specs.declared.frame.Point.{Point}
@@ -30,7 +30,8 @@ with_starts-append ss ts w =
     (sym (append_assoc w.1 (start_pairs w.0.used ss) (start_pairs u ts))))
 
 pub starts_split : (x : Targets) (p : PointView) (c : FrameItemView) (is : FrameItemsView) →
-    items_starts x (item p c is) ≡ items_starts x (item p c no_items) ++ items_starts x is
+    items_starts x (placed_item p c is)
+    ≡ items_starts x (placed_item p c no_frame_items) ++ items_starts x is
 unfolding items_starts
 starts_split x p (tag_item (starts l label dest)) is = by (x.is_target l) (x.points l)
   where
@@ -53,12 +54,13 @@ pub item_named : (x : Targets) (items : List (Point × FrameItem)) (i : ℕ)
     (d : Point × FrameItem) (old new all : InFrame) → i < length items →
     with_starts (starts_from x (drop i items)) old ≡ all →
     (let it = get_or items i d in new ≡ with_starts
-    (items_starts x (item (point_view it.0) (frame_item_view it.1) no_items)) old) →
+    (items_starts x (placed_item (point_view it.0) (frame_item_view it.1) no_frame_items)) old) →
     with_starts (starts_from x (drop (i + 1) items)) new ≡ all
 item_named x items i d old new all h so_far more =
     let it = get_or items i d in
     let rest = drop (suc i) items in
-    let first = items_starts x (item (point_view it.0) (frame_item_view it.1) no_items) in
+    let first =
+    items_starts x (placed_item (point_view it.0) (frame_item_view it.1) no_frame_items) in
     rw (add-one, more)
     (sym (with_starts-append first (starts_from x rest) old)
     ∙ (ap (λ ss. with_starts ss old)
@@ -76,7 +78,7 @@ items_named x items i now all h e =
 -- what stands alone: the start tag of a target that has a point, of one that has none, of no
 -- target, and an end tag
 abbrev alone : Targets → PointView → FrameItemView → List FrameStart
-alone x p c = items_starts x (item p c no_items)
+alone x p c = items_starts x (placed_item p c no_frame_items)
 
 pub start_named : (x : Targets) (p q : PointView) (l : ℕ) (label : Option Name) (dest : Option ℕ)
     (old : InFrame) (name : Name) (st : WalkState) (pairs : List (PointView × Name)) →

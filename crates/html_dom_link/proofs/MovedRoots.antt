@@ -1,11 +1,11 @@
 -- A document whose root's children are taken out, and others are put in.
 use Rattle.std.proofs.Common.{◌≡◌, ℕ, zero, suc, refl, ap}
-use Rattle.html_dom_document.specs.Documents.{DocumentView, element_at, given_root, with_element}
+use Rattle.html_dom_document.specs.Documents.{DocumentView, element_at_index, given_root, with_element}
 use Rattle.html_dom_link.specs.MadeDocuments.{with_children}
 use Rattle.html_dom_tree.specs.Tree.{Head, NodesView, none, node}
 
 abbrev head_at : NodesView → ℕ → Head
-head_at ns i = (given_root (element_at ns i)).0
+head_at ns i = (given_root (element_at_index ns i)).0
 
 put_twice : (ns : NodesView) (i : ℕ) (as' bs : NodesView) →
     let put = with_element ns i (head_at ns i, as') in

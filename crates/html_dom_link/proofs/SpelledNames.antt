@@ -14,7 +14,7 @@ use Rattle.percent_encoding.specs.AsciiSet.{contains, should_percent_encode}
 use Rattle.percent_encoding.specs.Percent.{IsKept, encode_byte, percent_decode, percent_encode}
 use Rattle.percent_encoding.proofs.PercentLemmas.{All-percent_encode, IsAscii_from_kept, IsByte, IsEscapeByte, percent_decode-nil, percent_encode_unchanged, round_trip}
 use Rattle.html_dom_link.specs.GivenLinks.{LeadsTo}
-use Rattle.html_dom_link.specs.Indicated.{before_end, decoding, fragments_in, indicated_by, indicated_name, is_blank, is_dropped, unless_empty, url_end, url_fragment}
+use Rattle.html_dom_link.specs.Indicated.{before_end, decoding, fragments_in, indicated_by, indicated_name, is_control_or_space, is_dropped, unless_empty, url_end, url_fragment}
 use Rattle.html_dom_link.specs.LinkLaws.{LeadingHrefsLead, PlainHrefsLead}
 use Rattle.html_dom_link.specs.Links.{some_name}
 use Rattle.html_dom_link.specs.NewNames.{Name}
@@ -111,10 +111,10 @@ as_it_is f kept =
     ∙ (ap (percent_encode FRAGMENT) (encodes-IsAscii f (IsAscii_from_kept FRAGMENT f kept))
     ∙ percent_encode_unchanged FRAGMENT f kept)
 
-kept_is_no_blank : (c : ℕ) → is_in_fragment_set c ≡ false → is_blank c ≡ false
+kept_is_no_blank : (c : ℕ) → is_in_fragment_set c ≡ false → is_control_or_space c ≡ false
 kept_is_no_blank c e = grind (arith, nat_tests)
 
-no_blank_is_kept : (c : ℕ) → is_blank c ≡ false → is_dropped c ≡ false
+pub no_blank_is_kept : (c : ℕ) → is_control_or_space c ≡ false → is_dropped c ≡ false
 no_blank_is_kept c e = grind (arith, nat_tests)
 
 ends_itself : (cs : List ℕ) → AreKept cs → url_end cs ≡ cs
@@ -125,7 +125,7 @@ ends_itself (c ∷ cs) kept =
     rw (no_blank_is_kept c shown)
     (ap (before_end c) (ends_itself cs (All-tail (IsKept FRAGMENT) c cs kept)) ∙ by cs shown)
   where
-    by : (ds : List ℕ) → is_blank c ≡ false → before_end c ds ≡ c ∷ ds
+    by : (ds : List ℕ) → is_control_or_space c ≡ false → before_end c ds ≡ c ∷ ds
     by [] shown = rw shown refl
     by (d ∷ ds) shown = refl
 

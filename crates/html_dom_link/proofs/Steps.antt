@@ -1,5 +1,5 @@
 -- The walk goes on where it stopped, as a loop over nodes does.
-use Rattle.std.proofs.Common.{◌≡◌, ℕ, Bool, List, [], ◌∷◌, ◌++◌, Option, Some, None, String, Global, Bor, refl, ap, ◌∙◌}
+use Rattle.std.proofs.Common.{◌≡◌, ℕ, Bool, List, [], ◌∷◌, ◌++◌, Option, Some, None, String, Global, Bor, refl, sym, subst, ap, ◌∙◌}
 use Rattle.std.specs.Option.{option_copied}
 use Rattle.std.specs.Prelude.{option_map}
 use Rattle.html_dom_tree.specs.Attributes.{or_else}
@@ -8,6 +8,8 @@ use Rattle.html_dom_tree.specs.FrameViews.{optional_text_view}
 use Rattle.html_dom_tree.specs.Tree.{starts, ends, tag_node, text_node, element_node, frame_node, NodeView, NodesView, none, node}
 use Rattle.html_dom_tree.specs.Views.{text_view, node_view, nodes_view}
 use Rattle.html_dom_tree.specs.declared.node.HtmlNode.{HtmlNode}
+use Rattle.html_dom_tree.specs.declared.span.Span.{Span}
+use Rattle.html_dom_tree.proofs.Basics.{node_view-Text}
 use Rattle.html_dom_link.specs.NewNames.{Name, with_used_name, new_name}
 use Rattle.html_dom_link.specs.Events.{Targets, FrameStart, frame_starts}
 use Rattle.html_dom_link.specs.Namings.{start_pairs, used_after_starts}
@@ -106,3 +108,17 @@ frame_served x f g id pairs st served after own made serves own_id is named fram
     let state : after ≡ after_starts ss served = ap (λ w. w.0) named in
     let anchors : pairs ≡ f.anchors ++ start_pairs served.used ss = ap (λ w. w.1) named in
     rw (frame_is, is, anchors, state, serves.name, serves.state, own_id) refl
+
+-- a text while nothing waits
+text_alone : (x : Targets) (s : List ℕ) (span : ℕ) (st : WalkState) → st.waiting ≡ [] →
+    walk x (node (text_node s span) none) st ≡ (node (text_node s span) none, st)
+unfolding walk
+text_alone x s span st no_one = rw no_one refl
+
+pub text_kept : (x : Targets) (n : HtmlNode) (s : String Global) (span : Span) (st : WalkState) →
+    n ≡ HtmlNode.Text s span → st.waiting ≡ [] →
+    walk x (node (node_view n) none) st ≡ (node (node_view n) none, st)
+text_kept x n s span st is no_one =
+    subst (λ v. walk x (node v none) st ≡ (node v none, st))
+    (sym (ap node_view is ∙ node_view-Text s span))
+    (text_alone x (text_view s) span.0 st no_one)

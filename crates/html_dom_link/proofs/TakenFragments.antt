@@ -3,16 +3,15 @@ use Rattle.std.proofs.Common.{◌≡◌, ◌==◌, ℕ, List, [], ◌∷◌, ◌
 use Rattle.std.specs.List.{filter, list_all}
 use Rattle.std.specs.Str.{IsUtf8}
 use Rattle.std.proofs.lemmas.Bool.{and_parts}
-use Rattle.std.proofs.lemmas.Bool.Decides.{nat_tests}
 use Rattle.std.proofs.lemmas.Str.{chars-nil, chars_past_char, encodes-chars, encodes-IsAscii}
 use lib.Utf8.{encode, encodes}
 use Rattle.percent_encoding.specs.Percent.{percent_encode}
 use Rattle.percent_encoding.proofs.PercentLemmas.{IsAscii-percent_encode}
-use Rattle.html_dom_link.specs.Indicated.{before_end, behind_hash, decoding, is_blank, is_dropped, is_kept, leads, text_leads, unless_empty, url_end, url_fragment, without_end_blanks}
+use Rattle.html_dom_link.specs.Indicated.{before_end, behind_hash, decoding, is_control_or_space, is_dropped, is_kept, leads, text_leads, unless_empty, url_end, url_fragment, without_end_blanks}
 use Rattle.html_dom_link.specs.NewNames.{Name}
 use Rattle.html_dom_link.specs.Spellings.{is_in_fragment_set}
 use Rattle.html_dom_link.specs.declared.spellings.TheConstants.{FRAGMENT}
-use Rattle.html_dom_link.proofs.SpelledNames.{encoding_is, fragment_set_is}
+use Rattle.html_dom_link.proofs.SpelledNames.{encoding_is, fragment_set_is, no_blank_is_kept}
 
 -- what stands behind the `#`
 
@@ -20,11 +19,11 @@ module _ (rest later : List ℕ) (c : ℕ) (u : IsUtf8 rest) (parts : rest ≡ e
   pub at_hash : (c == 35) ≡ true → behind_hash (chars rest) ≡ Some (chars later)
   at_hash e = ap behind_hash (chars_past_char rest later c u parts) ∙ rw e refl
 
-  pub at_blank : (c == 35) ≡ false → is_blank c ≡ true →
+  pub at_blank : (c == 35) ≡ false → is_control_or_space c ≡ true →
       behind_hash (chars rest) ≡ behind_hash (chars later)
   at_blank e b = ap behind_hash (chars_past_char rest later c u parts) ∙ rw (e, b) refl
 
-  pub at_other : (c == 35) ≡ false → is_blank c ≡ false → behind_hash (chars rest) ≡ None
+  pub at_other : (c == 35) ≡ false → is_control_or_space c ≡ false → behind_hash (chars rest) ≡ None
   at_other e b = ap behind_hash (chars_past_char rest later c u parts) ∙ rw (e, b) refl
 
 pub at_no_hash : (rest : List ℕ) → rest ≡ [] → behind_hash (chars rest) ≡ None
@@ -32,15 +31,12 @@ at_no_hash rest none = ap (λ l. behind_hash (chars l)) none ∙ ap behind_hash 
 
 -- the end of a URL
 
-shown_is_kept : (c : ℕ) → is_blank c ≡ false → is_dropped c ≡ false
-shown_is_kept c e = grind (arith, nat_tests)
-
-shown_stays : (c : ℕ) (cs : List ℕ) → is_blank c ≡ false → before_end c cs ≡ c ∷ cs
+shown_stays : (c : ℕ) (cs : List ℕ) → is_control_or_space c ≡ false → before_end c cs ≡ c ∷ cs
 shown_stays c [] e = rw e refl
 shown_stays c (d ∷ ds) e = refl
 
 -- blanks before a character that shows stay
-blanks_stay : (bs : List ℕ) (c : ℕ) (cs : List ℕ) → is_blank c ≡ false →
+blanks_stay : (bs : List ℕ) (c : ℕ) (cs : List ℕ) → is_control_or_space c ≡ false →
     without_end_blanks (bs ++ c ∷ cs) ≡ bs ++ c ∷ without_end_blanks cs
 blanks_stay [] c cs e = shown_stays c (without_end_blanks cs) e
 blanks_stay (b ∷ bs) c cs e = ap (before_end b) (blanks_stay bs c cs e) ∙ by bs
@@ -50,23 +46,24 @@ blanks_stay (b ∷ bs) c cs e = ap (before_end b) (blanks_stay bs c cs e) ∙ by
     by [] = refl
     by (d ∷ ds) = refl
 
-all_go : (bs : List ℕ) → list_all is_blank bs ≡ true → without_end_blanks bs ≡ []
+all_go : (bs : List ℕ) → list_all is_control_or_space bs ≡ true → without_end_blanks bs ≡ []
 all_go [] e = refl
 all_go (b ∷ bs) e =
-    let both = and_parts (is_blank b) (list_all is_blank bs) e in
+    let both = and_parts (is_control_or_space b) (list_all is_control_or_space bs) e in
     ap (before_end b) (all_go bs both.1) ∙ rw both.0 refl
 
-more_blanks : (bs : List ℕ) (c : ℕ) → list_all is_blank bs ≡ true → is_blank c ≡ true →
-    list_all is_blank (bs ++ c ∷ []) ≡ true
+more_blanks : (bs : List ℕ) (c : ℕ) → list_all is_control_or_space bs ≡ true →
+    is_control_or_space c ≡ true →
+    list_all is_control_or_space (bs ++ c ∷ []) ≡ true
 more_blanks [] c all one = rw one refl
 more_blanks (b ∷ bs) c all one =
-    let both = and_parts (is_blank b) (list_all is_blank bs) all in
+    let both = and_parts (is_control_or_space b) (list_all is_control_or_space bs) all in
     rw both.0 (more_blanks bs c both.1 one)
 
 -- where a text is being taken: what is written, the blanks behind it, and what is left
 pub record IsTaken (end blanks rest whole : List ℕ) : Type 0 where
   pub utf8 : IsUtf8 rest
-  pub blank : list_all is_blank blanks ≡ true
+  pub blank : list_all is_control_or_space blanks ≡ true
   pub told : end ++ without_end_blanks (blanks ++ filter is_kept (chars rest)) ≡ url_end whole
 
 module _ (end blanks rest later whole : List ℕ) (c : ℕ) (so_far : IsTaken end blanks rest whole)
@@ -82,7 +79,8 @@ module _ (end blanks rest later whole : List ℕ) (c : ℕ) (so_far : IsTaken en
         ∙ so_far.told;
   }
 
-  pub held : is_dropped c ≡ false → is_blank c ≡ true → IsTaken end (blanks ++ c ∷ []) later whole
+  pub held : is_dropped c ≡ false → is_control_or_space c ≡ true →
+      IsTaken end (blanks ++ c ∷ []) later whole
   held e b = record {
     utf8 = u;
     blank = more_blanks blanks c so_far.blank b;
@@ -92,7 +90,7 @@ module _ (end blanks rest later whole : List ℕ) (c : ℕ) (so_far : IsTaken en
         ∙ so_far.told;
   }
 
-  pub written : is_blank c ≡ false → IsTaken ((end ++ blanks) ++ c ∷ []) [] later whole
+  pub written : is_control_or_space c ≡ false → IsTaken ((end ++ blanks) ++ c ∷ []) [] later whole
   written b = record {
     utf8 = u;
     blank = refl;
@@ -102,7 +100,7 @@ module _ (end blanks rest later whole : List ℕ) (c : ℕ) (so_far : IsTaken en
         ∙ (ap (λ l. end ++ l)
         (append_assoc blanks (c ∷ []) (without_end_blanks (filter is_kept (chars later)))
         ∙ (sym (blanks_stay blanks c (filter is_kept (chars later)) b)
-        ∙ ap (λ l. without_end_blanks (blanks ++ l)) (sym (left ∙ rw (shown_is_kept c b) refl))))
+        ∙ ap (λ l. without_end_blanks (blanks ++ l)) (sym (left ∙ rw (no_blank_is_kept c b) refl))))
         ∙ so_far.told));
   }
 

@@ -1,6 +1,6 @@
 -- The nodes below the root, in document order: one event for each.
 use Rattle.std.specs.Prelude.{ℕ, Bool, if◌then◌else◌, List, [], ◌∷◌, ◌++◌, Option, Some, None}
-use Rattle.html_dom_tree.specs.Frames.{PointView, FrameView, frame, FrameItemsView, no_items, item, tag_item, group_item, link_item, other_item}
+use Rattle.html_dom_tree.specs.Frames.{PointView, FrameView, frame, FrameItemsView, no_frame_items, placed_item, tag_item, group_item, link_item, other_item}
 use Rattle.html_dom_tree.specs.Tree.{starts, ends, tag_node, text_node, element_node, frame_node, NodesView, none, node}
 use Rattle.html_dom_link.specs.NewNames.{Name, first_id}
 
@@ -43,14 +43,14 @@ with_frame_start is_target (Some p) l label ss =
     if is_target then record { location = l; label = label; point = p } ∷ ss else ss
 
 unfoldable pub items_starts : Targets → FrameItemsView → List FrameStart
-items_starts x no_items = []
-items_starts x (item p (tag_item (starts l label dest)) rest) =
+items_starts x no_frame_items = []
+items_starts x (placed_item p (tag_item (starts l label dest)) rest) =
     with_frame_start (x.is_target l) (x.points l) l label (items_starts x rest)
-items_starts x (item p (tag_item (ends l)) rest) = items_starts x rest
-items_starts x (item p (group_item (frame picture items)) rest) =
+items_starts x (placed_item p (tag_item (ends l)) rest) = items_starts x rest
+items_starts x (placed_item p (group_item (frame picture items)) rest) =
     items_starts x items ++ items_starts x rest
-items_starts x (item p (link_item dest) rest) = items_starts x rest
-items_starts x (item p other_item rest) = items_starts x rest
+items_starts x (placed_item p (link_item dest) rest) = items_starts x rest
+items_starts x (placed_item p other_item rest) = items_starts x rest
 
 abbrev pub frame_starts : Targets → FrameView → List FrameStart
 frame_starts x (frame picture items) = items_starts x items

@@ -37,8 +37,8 @@ element_places e = place_names e.0.name e.0.attrs ++ nodes_places e.1
 -- the fragment of an `href`
 
 -- a control or a space, which a URL drops at its ends
-abbrev pub is_blank : ℕ → Bool
-is_blank c = nat_lt c 33
+abbrev pub is_control_or_space : ℕ → Bool
+is_control_or_space c = nat_lt c 33
 
 -- a tab, a line feed or a carriage return, which a URL drops
 abbrev pub is_dropped : ℕ → Bool
@@ -48,7 +48,7 @@ abbrev pub is_kept : ℕ → Bool
 is_kept c = not (is_dropped c)
 
 abbrev pub before_end : ℕ → List ℕ → List ℕ
-before_end c [] = if is_blank c then [] else c ∷ []
+before_end c [] = if is_control_or_space c then [] else c ∷ []
 before_end c (d ∷ ds) = c ∷ d ∷ ds
 
 abbrev pub without_end_blanks : List ℕ → List ℕ
@@ -62,7 +62,8 @@ unless_empty (c ∷ cs) = (c ∷ cs) ∷ []
 -- the text behind the `#` with which an `href` begins, past blanks
 abbrev pub behind_hash : (href : List ℕ) → Option (List ℕ)
 behind_hash [] = None
-behind_hash (c ∷ cs) = if c == 35 then Some cs else (if is_blank c then behind_hash cs else None)
+behind_hash (c ∷ cs) = if c == 35 then Some cs
+    else (if is_control_or_space c then behind_hash cs else None)
 
 -- the end of a URL as it is parsed
 abbrev pub url_end : List ℕ → List ℕ

@@ -2,12 +2,12 @@
 use Rattle.std.specs.Char.{to_ascii_lowercase}
 use Rattle.std.specs.List.{filter}
 use Rattle.std.specs.Prelude.{ℕ, Bool, true, false, ◌&&◌, ◌||◌, ◌==◌, List, [], ◌∷◌, codes, if◌then◌else◌}
-use Rattle.html_dom_link.specs.Indicated.{is_blank, is_kept}
+use Rattle.html_dom_link.specs.Indicated.{is_control_or_space, is_kept}
 
 -- the text behind leading blanks
 abbrev pub past_blanks : List ℕ → List ℕ
 past_blanks [] = []
-past_blanks (c ∷ cs) = if is_blank c then past_blanks cs else c ∷ cs
+past_blanks (c ∷ cs) = if is_control_or_space c then past_blanks cs else c ∷ cs
 
 -- the beginning of a URL as it is parsed (URL Standard 4.4): controls and spaces before it are
 -- dropped, and tabs, line feeds and carriage returns in it

@@ -6,10 +6,10 @@ use Rattle.html_dom_link.specs.UsedNames.{used_in}
 use Rattle.html_dom_link.specs.AnchorWalk.{WalkState}
 use Rattle.html_dom_link.specs.LocationMaps.{labels_in, names_in, locations_in}
 use Rattle.html_dom_link.specs.declared.sought.Sought.{Sought}
-use Rattle.html_dom_link.specs.declared.state.Walk.{Walk}
+use Rattle.html_dom_link.specs.declared.state.AnchorState.{AnchorState}
 
-abbrev pub walk_view : Walk → WalkState
-walk_view w = record {
+abbrev pub state_view : AnchorState → WalkState
+state_view w = record {
   waiting = locations_in w.waiting.items;
   labels = labels_in w.labels;
   used = used_in w.names.used;

@@ -5,14 +5,14 @@ ghost use Rattle.html_dom_document.specs.Introspectors.{has_location, location_t
 ghost use Rattle.html_dom_link.specs.MadeDocuments.{HasNewAnchors};
 ghost use Rattle.html_dom_link.specs.UsedNames.{used_in, IsBounded};
 ghost use Rattle.html_dom_link.specs.AnchorWalk.{at_first, walk};
-ghost use Rattle.html_dom_link.specs.WalkViews.{walk_view, targets_view};
+ghost use Rattle.html_dom_link.specs.WalkViews.{state_view, targets_view};
 
 use crate::elements::anchor_nodes;
 use crate::names::AnchorNames;
 use crate::names_in_tree::element_names;
 use crate::root_children::{put_children, take_children};
 use crate::sought::Sought;
-use crate::state::Walk;
+use crate::state::AnchorState;
 use html_dom_document::HtmlDocument;
 use html_dom_tree::{HtmlNode, Location};
 use std::alloc::{AllocError, Global};
@@ -91,13 +91,13 @@ fn walk_over(
     names: AnchorNames,
     sought: Sought<'_>,
     mut nodes: Vec<HtmlNode>,
-) -> Result<(Vec<HtmlNode>, Walk), AllocError>
-    ensures walk { IfOk result (λ made. (nodes_view made.0.items, walk_view made.1)
+) -> Result<(Vec<HtmlNode>, AnchorState), AllocError>
+    ensures walk { IfOk result (λ made. (nodes_view made.0.items, state_view made.1)
         ≡ walk (targets_view sought.entry) (nodes_view nodes.items)
         (at_first (used_in names.used))) }
-    ensures bounded { IfOk result (λ made. IsBounded (walk_view made.1).used) }
+    ensures bounded { IfOk result (λ made. IsBounded (state_view made.1).used) }
 {
-    let mut state = Walk::new(alloc, names);
+    let mut state = AnchorState::new(alloc, names);
     anchor_nodes(&mut nodes, &mut state, alloc, sought)?;
     state.names.are_bounded();
     Ok((nodes, state))

@@ -7,12 +7,12 @@ ghost use Rattle.html_dom_tree.specs.Views.{optional_text_view, node_view, nodes
 ghost use Rattle.html_dom_link.specs.Anchors.{span_before};
 ghost use Rattle.html_dom_link.specs.Joined.{is_end};
 ghost use Rattle.html_dom_link.specs.AnchorWalk.{walk};
-ghost use Rattle.html_dom_link.specs.WalkViews.{walk_view, targets_view};
+ghost use Rattle.html_dom_link.specs.WalkViews.{state_view, targets_view};
 
 use crate::changes::name_attrs;
 use crate::nodes::{anchor_frame, anchor_tag, anchor_text, has_end, push_span};
 use crate::sought::Sought;
-use crate::state::Walk;
+use crate::state::AnchorState;
 use html_dom_flat::give_back;
 use html_dom_tree::{HtmlElement, HtmlNode};
 use html_names::attr;
@@ -25,14 +25,14 @@ use std::mem;
 #[cycle(nodes)]
 fn anchor_element(
     element: &mut HtmlElement,
-    state: &mut Walk,
+    state: &mut AnchorState,
     alloc: Global,
     sought: Sought<'_>,
 ) -> Result<(), AllocError>
     ensures { let old = element_view element.old in let new = element_view element.new in
-        OnOk result ((node (element_node new.0 new.1) none, walk_view state.new)
+        OnOk result ((node (element_node new.0 new.1) none, state_view state.new)
         ≡ walk (targets_view sought.entry) (node (element_node old.0 old.1) none)
-        (walk_view state.old)) }
+        (state_view state.old)) }
 {
     let name = state.serve(alloc, element.attrs.get(&attr::id))?;
     name_attrs(&mut element.attrs, name)?;
@@ -43,13 +43,13 @@ fn anchor_element(
 #[cycle(nodes)]
 fn anchor_node(
     child: &mut HtmlNode,
-    state: &mut Walk,
+    state: &mut AnchorState,
     alloc: Global,
     sought: Sought<'_>,
 ) -> Result<Option<String>, AllocError>
     ensures { IfOk result (λ name.
-        (node (node_view child.new) (span_before (optional_text_view name) none), walk_view state.new)
-        ≡ walk (targets_view sought.entry) (node (node_view child.old) none) (walk_view state.old)) }
+        (node (node_view child.new) (span_before (optional_text_view name) none), state_view state.new)
+        ≡ walk (targets_view sought.entry) (node (node_view child.old) none) (state_view state.old)) }
 {
     match child {
         HtmlNode::Tag(tag) => return anchor_tag(state, alloc, sought, tag),
@@ -63,15 +63,18 @@ fn anchor_node(
 #[cycle(nodes)]
 fn anchor_in_place(
     nodes: &mut [HtmlNode],
-    state: &mut Walk,
+    state: &mut AnchorState,
     alloc: Global,
     sought: Sought<'_>,
 ) -> Result<(), AllocError>
     requires { list_any (λ n. is_end (node_view n)) nodes.old ≡ false }
-    ensures { OnOk result ((nodes_view nodes.new, walk_view state.new)
-        ≡ walk (targets_view sought.entry) (nodes_view nodes.old) (walk_view state.old)) }
+    ensures { OnOk result ((nodes_view nodes.new, state_view state.new)
+        ≡ walk (targets_view sought.entry) (nodes_view nodes.old) (state_view state.old)) }
 {
     for child in nodes.iter_mut() {
+        if state.passes(child) {
+            continue;
+        }
         // The nodes hold no end tag, so no `span` follows any of them.
         let _ = anchor_node(child, state, alloc, sought)?;
     }
@@ -82,12 +85,12 @@ fn anchor_in_place(
 #[cycle(nodes)]
 fn with_spans(
     mut nodes: Vec<HtmlNode>,
-    state: &mut Walk,
+    state: &mut AnchorState,
     alloc: Global,
     sought: Sought<'_>,
 ) -> Result<Vec<HtmlNode>, AllocError>
-    ensures { IfOk result (λ made. (nodes_view made.items, walk_view state.new)
-        ≡ walk (targets_view sought.entry) (nodes_view nodes.items) (walk_view state.old)) }
+    ensures { IfOk result (λ made. (nodes_view made.items, state_view state.new)
+        ≡ walk (targets_view sought.entry) (nodes_view nodes.items) (state_view state.old)) }
 {
     let mut made = Vec::with_capacity(alloc, nodes.len())?;
     nodes.reverse();
@@ -103,12 +106,12 @@ fn with_spans(
 #[cycle(nodes)]
 pub(crate) fn anchor_nodes(
     nodes: &mut Vec<HtmlNode>,
-    state: &mut Walk,
+    state: &mut AnchorState,
     alloc: Global,
     sought: Sought<'_>,
 ) -> Result<(), AllocError>
-    ensures { OnOk result ((nodes_view nodes.new.items, walk_view state.new)
-        ≡ walk (targets_view sought.entry) (nodes_view nodes.old.items) (walk_view state.old)) }
+    ensures { OnOk result ((nodes_view nodes.new.items, state_view state.new)
+        ≡ walk (targets_view sought.entry) (nodes_view nodes.old.items) (state_view state.old)) }
 {
     if !has_end(nodes) {
         return anchor_in_place(nodes, state, alloc, sought);

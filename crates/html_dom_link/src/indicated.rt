@@ -2,11 +2,11 @@
 
 ghost use Rattle.std.specs.Prelude.{◌≡◌, chars, option_map, option_to_list, IfOk};
 ghost use Rattle.html_names.specs.Texts.{text_view};
-ghost use Rattle.html_dom_link.specs.Indicated.{behind_hash, decoding, fragments_in, is_blank, is_dropped, is_top, leads, text_leads, unless_empty, url_end, url_fragment};
+ghost use Rattle.html_dom_link.specs.Indicated.{behind_hash, decoding, fragments_in, is_control_or_space, is_dropped, is_top, leads, text_leads, unless_empty, url_end, url_fragment};
 ghost use Rattle.html_dom_link.specs.UsedNames.{used_in};
 
 use crate::spellings::{FRAGMENT, encoding};
-use html_names::output::Output;
+use html_names::text_writer::TextWriter;
 use percent_encoding::percent_decode;
 use std::alloc::{AllocError, Global};
 use std::collections::BTreeSet;
@@ -65,8 +65,8 @@ pub fn fragment_leads(
 }
 
 /// Returns whether a character is a control or a space.
-pub(crate) fn is_blank(c: char) -> bool
-    ensures { result ≡ is_blank c }
+pub(crate) fn is_control_or_space(c: char) -> bool
+    ensures { result ≡ is_control_or_space c }
 {
     c <= ' '
 }
@@ -87,34 +87,34 @@ fn behind_hash(href: &str) -> Option<&str>
         if c == '#' {
             return Some(left.as_str());
         }
-        if !is_blank(c) {
+        if !is_control_or_space(c) {
             return None;
         }
     }
     None
 }
 
-fn url_end(alloc: Global, text: &str) -> Result<Output, AllocError>
+fn url_end(alloc: Global, text: &str) -> Result<TextWriter, AllocError>
     ensures { IfOk result (λ end. end ≡ url_end (chars text.now)) }
 {
-    let mut end = Output::new(alloc);
-    let mut blanks = Output::new(alloc);
+    let mut end = TextWriter::new(alloc);
+    let mut blanks = TextWriter::new(alloc);
     for c in text.chars() {
         if is_dropped(c) {
             continue;
         }
-        if is_blank(c) {
+        if is_control_or_space(c) {
             blanks.push(c)?;
         } else {
             end.push_str(blanks.as_str())?;
             end.push(c)?;
-            blanks = Output::new(alloc);
+            blanks = TextWriter::new(alloc);
         }
     }
     Ok(end)
 }
 
-fn unless_empty(text: Output) -> Option<String>
+fn unless_empty(text: TextWriter) -> Option<String>
     ensures { option_to_list (option_map text_view result) ≡ unless_empty text }
 {
     let text = text.into_string();

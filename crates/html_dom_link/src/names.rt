@@ -21,7 +21,7 @@ pub(crate) struct AnchorNames {
 }
 
 /// Joins a stem, `-` and a number.
-fn numbered(alloc: Global, stem: &str, number: u64) -> Result<String, AllocError>
+fn name_with_number(alloc: Global, stem: &str, number: u64) -> Result<String, AllocError>
     ensures { IfOk result (λ name. text_view name ≡ name_with_number (chars stem.now) number) }
 {
     format!(in alloc; "{stem}-{number}")
@@ -40,7 +40,7 @@ fn first_free(
         number ≡ first_free (chars stem.now) (used_in used.now) (limit - from) from) }
 {
     for number in from..limit {
-        if !is_used(used, &numbered(alloc, stem, number)?) {
+        if !is_used(used, &name_with_number(alloc, stem, number)?) {
             return Ok(number);
         }
     }
@@ -146,7 +146,7 @@ impl AnchorNames {
         let limit = first_number(&label) + TRIES;
         let from = self.next_number(&label);
         let number = first_free(alloc, &self.used, stem_of(&label), from, limit)?;
-        let name = numbered(alloc, stem_of(&label), number)?;
+        let name = name_with_number(alloc, stem_of(&label), number)?;
         put_number(&mut self.next, label, number)?;
         Ok(name)
     }

@@ -11,12 +11,12 @@ ghost use Rattle.html_dom_link.specs.Events.{Targets};
 ghost use Rattle.html_dom_document.specs.DomIndices.{◌then◌};
 ghost use Rattle.html_dom_link.specs.Joined.{is_end};
 ghost use Rattle.html_dom_link.specs.AnchorWalk.{walk};
-ghost use Rattle.html_dom_link.specs.WalkViews.{walk_view, targets_view};
+ghost use Rattle.html_dom_link.specs.WalkViews.{state_view, targets_view};
 
 use crate::changes::{named_span, put_in_span};
 use crate::frames::name_frame;
 use crate::sought::Sought;
-use crate::state::Walk;
+use crate::state::AnchorState;
 use html_dom_tree::{HtmlFrame, HtmlNode, Span, Tag};
 use std::alloc::{AllocError, Global};
 
@@ -38,14 +38,14 @@ pub(crate) fn has_end(nodes: &[HtmlNode]) -> bool
 
 /// Wraps the text in a new `span` that serves the waiting locations, if there are any.
 pub(crate) fn anchor_text(
-    state: &mut Walk,
+    state: &mut AnchorState,
     child: &mut HtmlNode,
     alloc: Global,
 ) -> Result<(), AllocError>
     ensures { (x : Targets) → (text : List ℕ) → (span : ℕ) →
         node_view child.old ≡ text_node text span →
-        OnOk result ((node (node_view child.new) none, walk_view state.new)
-        ≡ walk x (node (text_node text span) none) (walk_view state.old)) }
+        OnOk result ((node (node_view child.new) none, state_view state.new)
+        ≡ walk x (node (text_node text span) none) (state_view state.old)) }
 {
     if let Some(name) = state.serve(alloc, None)? {
         put_in_span(alloc, child, name)?;
@@ -56,16 +56,16 @@ pub(crate) fn anchor_text(
 /// Lets the start tag of a target wait. At an end tag, returns the name of the `span` that serves
 /// there.
 pub(crate) fn anchor_tag(
-    state: &mut Walk,
+    state: &mut AnchorState,
     alloc: Global,
     sought: Sought<'_>,
     tag: &Tag,
 ) -> Result<Option<String>, AllocError>
     ensures { IfOk result (λ name. (
       node (tag_node (tag_view tag.now)) (span_before (optional_text_view name) none),
-      walk_view state.new,
+      state_view state.new,
     ) ≡ walk (targets_view sought.entry)
-        (node (tag_node (tag_view tag.now)) none) (walk_view state.old)) }
+        (node (tag_node (tag_view tag.now)) none) (state_view state.old)) }
 {
     match tag {
         Tag::Start {
@@ -91,14 +91,14 @@ fn name_frame_id(id: &mut Option<String>, made: Option<String>)
 
 /// Lets a frame serve all waiting locations, and adds anchors for the start tags in it.
 pub(crate) fn anchor_frame(
-    state: &mut Walk,
+    state: &mut AnchorState,
     frame: &mut HtmlFrame,
     alloc: Global,
     sought: Sought<'_>,
 ) -> Result<(), AllocError>
-    ensures { OnOk result ((node (frame_node (html_frame_view frame.new)) none, walk_view state.new)
+    ensures { OnOk result ((node (frame_node (html_frame_view frame.new)) none, state_view state.new)
         ≡ walk (targets_view sought.entry)
-        (node (frame_node (html_frame_view frame.old)) none) (walk_view state.old)) }
+        (node (frame_node (html_frame_view frame.old)) none) (state_view state.old)) }
 {
     let name = state.serve(alloc, frame.id.as_ref())?;
     name_frame(state, &mut frame.anchors, alloc, sought, &frame.inner)?;

@@ -5,7 +5,7 @@ ghost use Rattle.std.specs.List.{filter};
 ghost use Rattle.html_dom_link.specs.Indicated.{is_kept};
 ghost use Rattle.html_dom_link.specs.Scripts.{begins, href_is_script, past_blanks};
 
-use crate::indicated::{is_blank, is_dropped};
+use crate::indicated::{is_control_or_space, is_dropped};
 use html_dom_tree::text::split_first;
 
 /// Returns whether an `href` is a script to a browser: whether its scheme, in any ASCII case, is
@@ -32,7 +32,7 @@ fn past_blanks(text: &str) -> &str
 {
     let mut left = text;
     while let Some((c, rest)) = split_first(left) {
-        if !is_blank(c) {
+        if !is_control_or_space(c) {
             return left;
         }
         left = rest;

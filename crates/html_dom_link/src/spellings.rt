@@ -7,7 +7,7 @@ ghost use Rattle.html_dom_link.specs.Spellings.{encoding, href_to, href_with, is
 ghost use Rattle.html_dom_link.specs.UsedNames.{used_in};
 
 use crate::names::is_used;
-use html_names::output::Output;
+use html_names::text_writer::TextWriter;
 use percent_encoding::{AsciiSet, CONTROLS, ascii_set, utf8_percent_encode};
 use std::alloc::{AllocError, Global};
 use std::collections::BTreeSet;
@@ -63,7 +63,7 @@ pub(crate) fn leading_href(
 fn href_with(alloc: Global, fragment: &str) -> Result<String, AllocError>
     ensures { IfOk result (λ href. text_view href ≡ href_with (chars fragment.now)) }
 {
-    let mut href = Output::new(alloc);
+    let mut href = TextWriter::new(alloc);
     href.push('#')?;
     href.push_str(fragment)?;
     Ok(href.into_string())

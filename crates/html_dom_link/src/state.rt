@@ -2,13 +2,13 @@
 
 use crate::location_maps::{label_of, put_each, put_first_label, put_name};
 use crate::names::AnchorNames;
-use html_dom_tree::Location;
+use html_dom_tree::{HtmlNode, Location};
 use std::alloc::{AllocError, Global};
 use std::collections::{BTreeMap, BTreeSet};
 
 /// The locations that wait to be served, the names in use, and the names of locations.
 #[derive(Drop)]
-pub(crate) struct Walk {
+pub(crate) struct AnchorState {
     /// The locations of the start tags that wait, in order.
     pub(crate) waiting: Vec<Location>,
     /// The label of the first start tag of each location that waits.
@@ -18,24 +18,26 @@ pub(crate) struct Walk {
     pub(crate) answers: BTreeMap<Location, String>,
 }
 
-impl Walk {
-    ghost use Rattle.std.specs.Prelude.{◌≡◌, Some, None, IfOk, OnOk, option_map};
-    ghost use Rattle.html_dom_tree.specs.Views.{text_view, optional_text_view};
+impl AnchorState {
+    ghost use Rattle.std.specs.Prelude.{◌≡◌, Some, None, IfOk, IsTrue, OnOk, option_map};
+    ghost use Rattle.html_dom_tree.specs.Tree.{node, none};
+    ghost use Rattle.html_dom_tree.specs.Views.{node_view, text_view, optional_text_view};
     ghost use Rattle.std.specs.BTreeSet.{contains};
     ghost use Rattle.html_dom_document.specs.Introspectors.{location_cmp};
-    ghost use Rattle.html_dom_link.specs.AnchorWalk.{with_waiting, after_tag_start, with_answers, first_waiting, at_first, Serves};
+    ghost use Rattle.html_dom_link.specs.AnchorWalk.{with_waiting, after_tag_start, with_answers, first_waiting, at_first, walk, Serves};
+    ghost use Rattle.html_dom_link.specs.Events.{Targets};
     ghost use Rattle.html_dom_link.specs.Joined.{named_at};
     ghost use Rattle.html_dom_link.specs.NewNames.{new_name};
     ghost use Rattle.html_dom_link.specs.UsedNames.{used_in};
-    ghost use Rattle.html_dom_link.specs.WalkViews.{walk_view};
+    ghost use Rattle.html_dom_link.specs.WalkViews.{state_view};
 
     pub(crate) fn queue(
         &mut self,
         location: Location,
         label: &Option<String>,
     ) -> Result<(), AllocError>
-        ensures { OnOk result (walk_view self.new
-            ≡ with_waiting location.0 (optional_text_view label.now) (walk_view self.old)) }
+        ensures { OnOk result (state_view self.new
+            ≡ with_waiting location.0 (optional_text_view label.now) (state_view self.old)) }
     {
         self.waiting.push(location)?;
         put_first_label(&mut self.labels, location, label)
@@ -47,9 +49,9 @@ impl Walk {
         location: Location,
         label: &Option<String>,
     ) -> Result<(), AllocError>
-        ensures { OnOk result (walk_view self.new
+        ensures { OnOk result (state_view self.new
             ≡ after_tag_start (contains location_cmp targets.now location) location.0
-            (optional_text_view label.now) (walk_view self.old)) }
+            (optional_text_view label.now) (state_view self.old)) }
     {
         if targets.contains(&location) {
             self.queue(location, label)?;
@@ -57,10 +59,22 @@ impl Walk {
         Ok(())
     }
 
+    /// Returns whether the node is a text and no location waits: then neither of them changes.
+    pub(crate) fn passes(&self, child: &HtmlNode) -> bool
+        ensures { IsTrue result → (x : Targets) →
+            walk x (node (node_view child.now) none) (state_view self.now)
+            ≡ (node (node_view child.now) none, state_view self.now) }
+    {
+        match child {
+            HtmlNode::Text(_, _) => self.waiting.is_empty(),
+            HtmlNode::Tag(_) | HtmlNode::Element(_) | HtmlNode::Frame(_) => false,
+        }
+    }
+
     /// Returns the label of the first start tag that waits, if one does.
     fn first_waiting(&self) -> Result<Option<Option<String>>, AllocError>
         ensures { IfOk result (λ label.
-            option_map optional_text_view label ≡ first_waiting (walk_view self.now)) }
+            option_map optional_text_view label ≡ first_waiting (state_view self.now)) }
     {
         match self.waiting.first() {
             Some(location) => label_of(&self.labels, *location),
@@ -68,10 +82,10 @@ impl Walk {
         }
     }
 
-    pub(crate) fn new(alloc: Global, names: AnchorNames) -> Walk
-        ensures { walk_view result ≡ at_first (used_in names.used) }
+    pub(crate) fn new(alloc: Global, names: AnchorNames) -> AnchorState
+        ensures { state_view result ≡ at_first (used_in names.used) }
     {
-        Walk {
+        AnchorState {
             waiting: Vec::new(alloc),
             labels: BTreeMap::new(alloc),
             names,
@@ -86,9 +100,9 @@ impl Walk {
         label: &Option<String>,
     ) -> Result<String, AllocError>
         ensures name { IfOk result (λ name. text_view name
-            ≡ new_name (optional_text_view label.now) (walk_view self.old).used) }
+            ≡ new_name (optional_text_view label.now) (state_view self.old).used) }
         ensures state { IfOk result (λ name.
-            walk_view self.new ≡ named_at location.0 (text_view name) (walk_view self.old)) }
+            state_view self.new ≡ named_at location.0 (text_view name) (state_view self.old)) }
     {
         let name = self.names.make(alloc, label)?;
         put_name(&mut self.answers, location, &name)?;
@@ -96,8 +110,8 @@ impl Walk {
     }
 
     fn answer_all(&mut self, alloc: Global, name: &String) -> Result<(), AllocError>
-        ensures { OnOk result (walk_view self.new
-            ≡ with_answers (text_view name.now) (walk_view self.old)) }
+        ensures { OnOk result (state_view self.new
+            ≡ with_answers (text_view name.now) (state_view self.old)) }
     {
         put_each(&mut self.answers, &self.waiting, name)?;
         self.waiting = Vec::new(alloc);
@@ -106,7 +120,7 @@ impl Walk {
     }
 
     fn serve_with(&mut self, alloc: Global, own: &String) -> Result<Option<String>, AllocError>
-        ensures { IfOk result (λ made. Serves (walk_view self.old) (walk_view self.new)
+        ensures { IfOk result (λ made. Serves (state_view self.old) (state_view self.new)
             (Some None) (Some (text_view own.now)) (optional_text_view made)) }
     {
         self.answer_all(alloc, own)?;
@@ -118,7 +132,7 @@ impl Walk {
         alloc: Global,
         label: &Option<String>,
     ) -> Result<Option<String>, AllocError>
-        ensures { IfOk result (λ made. Serves (walk_view self.old) (walk_view self.new)
+        ensures { IfOk result (λ made. Serves (state_view self.old) (state_view self.new)
             (Some (optional_text_view label.now)) None (optional_text_view made)) }
     {
         let name = self.names.make(alloc, label)?;
@@ -132,8 +146,8 @@ impl Walk {
         alloc: Global,
         own: Option<&String>,
     ) -> Result<Option<String>, AllocError>
-        ensures { IfOk result (λ made. Serves (walk_view self.old) (walk_view self.new)
-            (first_waiting (walk_view self.old)) (option_map (λ n. text_view n.now) own.entry)
+        ensures { IfOk result (λ made. Serves (state_view self.old) (state_view self.new)
+            (first_waiting (state_view self.old)) (option_map (λ n. text_view n.now) own.entry)
             (optional_text_view made)) }
     {
         let Some(label) = self.first_waiting()? else {
@@ -151,8 +165,8 @@ impl Walk {
         alloc: Global,
         location: Location,
     ) -> Result<Option<String>, AllocError>
-        ensures { IfOk result (λ made. Serves (walk_view self.old) (walk_view self.new)
-            ((walk_view self.old).labels location.0) None (optional_text_view made)) }
+        ensures { IfOk result (λ made. Serves (state_view self.old) (state_view self.new)
+            ((state_view self.old).labels location.0) None (optional_text_view made)) }
     {
         match label_of(&self.labels, location)? {
             Some(label) => self.serve_new(alloc, &label),

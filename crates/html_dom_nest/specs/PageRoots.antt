@@ -15,11 +15,11 @@ is_unwritten (text_node s span) = is_empty s
 is_unwritten (element_node h kids) = false
 is_unwritten (frame_node f) = false
 
-abbrev pub is_blank_node : NodeView → Bool
-is_blank_node (tag_node t) = true
-is_blank_node (text_node s span) = is_white s
-is_blank_node (element_node h kids) = false
-is_blank_node (frame_node f) = false
+abbrev pub is_white_node : NodeView → Bool
+is_white_node (tag_node t) = true
+is_white_node (text_node s span) = is_white s
+is_white_node (element_node h kids) = false
+is_white_node (frame_node f) = false
 
 abbrev pub is_element_of : (test : List ℕ → Bool) → NodeView → Bool
 is_element_of test (tag_node t) = false
@@ -32,7 +32,7 @@ abbrev pub stage_behind : Stage → NodeView → Stage
 stage_behind stage.First n = if is_element_of (of kind.Head) n then stage.BehindHead
     else (if is_unwritten n then stage.First else stage.Other)
 stage_behind stage.BehindHead n = if is_element_of (of kind.Body) n then stage.BehindBody
-    else (if is_blank_node n then stage.BehindHead else stage.Other)
+    else (if is_white_node n then stage.BehindHead else stage.Other)
 stage_behind stage.BehindBody n = if is_unwritten n then stage.BehindBody else stage.Other
 stage_behind stage.Other n = stage.Other
 

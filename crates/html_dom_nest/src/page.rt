@@ -30,8 +30,8 @@ fn is_unwritten(node: &HtmlNode) -> bool
     }
 }
 
-fn is_blank_node(node: &HtmlNode) -> bool
-    ensures { result ≡ roots.is_blank_node (node_view node.now) }
+fn is_white_node(node: &HtmlNode) -> bool
+    ensures { result ≡ roots.is_white_node (node_view node.now) }
 {
     match node {
         HtmlNode::Tag(_) => true,
@@ -72,7 +72,7 @@ impl Stage {
             Stage::BehindHead => {
                 if is_element_of(node, Kind::Body) {
                     Stage::BehindBody
-                } else if is_blank_node(node) {
+                } else if is_white_node(node) {
                     Stage::BehindHead
                 } else {
                     Stage::Other

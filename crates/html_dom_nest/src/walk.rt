@@ -20,8 +20,9 @@ use std::alloc::{AllocError, Global};
 /// The most ancestors that an element may have for browsers to leave it where it is.
 const MOST_ANCESTORS: usize = 512;
 
+/// A walk over a tree that finds its misnested nodes.
 #[derive(Drop)]
-struct Walk {
+struct NestingWalk {
     alloc: Global,
     path: Vec<usize>,
     found: Vec<Misnested>,
@@ -31,14 +32,14 @@ struct Walk {
 pub(crate) fn walk_tree(alloc: Global, root: &HtmlElement) -> Result<Vec<Misnested>, AllocError>
     ensures { IfOk result (λ found. findings_view found.items ≡ misnested_nodes (element_view root.now)) }
 {
-    let mut walk = Walk {
+    let mut walk = NestingWalk {
         alloc,
         path: Vec::new(alloc),
         found: Vec::new(alloc),
     };
     let inside = pass_root(root, &mut walk)?;
     pass_nodes(&root.children, &inside, &mut walk)?;
-    let Walk { found, .. } = walk;
+    let NestingWalk { found, .. } = walk;
     Ok(found)
 }
 
@@ -50,7 +51,7 @@ fn leave(path: &mut Vec<usize>)
 }
 
 #[inline(never)]
-fn tell(span: Span, why: Misnesting, walk: &mut Walk) -> Result<(), AllocError>
+fn tell(span: Span, why: Misnesting, walk: &mut NestingWalk) -> Result<(), AllocError>
     ensures path { OnOk result (walk.new.path.items ≡ walk.old.path.items) }
     ensures found { OnOk result (findings_view walk.new.found.items
         ≡ findings_view walk.old.found.items
@@ -61,7 +62,7 @@ fn tell(span: Span, why: Misnesting, walk: &mut Walk) -> Result<(), AllocError>
     Ok(())
 }
 
-fn tell_any(span: Span, why: Option<Misnesting>, walk: &mut Walk) -> Result<(), AllocError>
+fn tell_any(span: Span, why: Option<Misnesting>, walk: &mut NestingWalk) -> Result<(), AllocError>
     ensures path { OnOk result (walk.new.path.items ≡ walk.old.path.items) }
     ensures found { OnOk result (findings_view walk.new.found.items
         ≡ findings_view walk.old.found.items ++ found walk.old.path.items span.0 why) }
@@ -78,7 +79,7 @@ fn tell_any(span: Span, why: Option<Misnesting>, walk: &mut Walk) -> Result<(), 
 fn pass_own(
     element: &HtmlElement,
     around: &Surroundings,
-    walk: &mut Walk,
+    walk: &mut NestingWalk,
 ) -> Result<Surroundings, AllocError>
     requires { around.now.depth ≤ 512 }
     ensures path { OnOk result (walk.new.path.items ≡ walk.old.path.items) }
@@ -94,7 +95,7 @@ fn pass_own(
 }
 
 /// Does the same for a root.
-fn pass_root(root: &HtmlElement, walk: &mut Walk) -> Result<Surroundings, AllocError>
+fn pass_root(root: &HtmlElement, walk: &mut NestingWalk) -> Result<Surroundings, AllocError>
     ensures path { OnOk result (walk.new.path.items ≡ walk.old.path.items) }
     ensures found { let e = element_view root.now in
         OnOk result (findings_view walk.new.found.items ≡ findings_view walk.old.found.items
@@ -114,7 +115,7 @@ fn pass_root(root: &HtmlElement, walk: &mut Walk) -> Result<Surroundings, AllocE
 fn pass_element(
     element: &HtmlElement,
     around: &Surroundings,
-    walk: &mut Walk,
+    walk: &mut NestingWalk,
 ) -> Result<(), AllocError>
     ensures path { OnOk result (walk.new.path.items ≡ walk.old.path.items) }
     ensures found { let e = element_view element.now in
@@ -130,7 +131,11 @@ fn pass_element(
 
 #[cycle(walk)]
 #[tactic(auto, unfolding(crate::specs::Walks::node_walk))]
-fn pass_node(child: &HtmlNode, around: &Surroundings, walk: &mut Walk) -> Result<(), AllocError>
+fn pass_node(
+    child: &HtmlNode,
+    around: &Surroundings,
+    walk: &mut NestingWalk,
+) -> Result<(), AllocError>
     ensures path { OnOk result (walk.new.path.items ≡ walk.old.path.items) }
     ensures found { OnOk result (findings_view walk.new.found.items
         ≡ findings_view walk.old.found.items
@@ -147,7 +152,11 @@ fn pass_node(child: &HtmlNode, around: &Surroundings, walk: &mut Walk) -> Result
 }
 
 #[cycle(walk)]
-fn pass_nodes(nodes: &[HtmlNode], around: &Surroundings, walk: &mut Walk) -> Result<(), AllocError>
+fn pass_nodes(
+    nodes: &[HtmlNode],
+    around: &Surroundings,
+    walk: &mut NestingWalk,
+) -> Result<(), AllocError>
     ensures path { OnOk result (walk.new.path.items ≡ walk.old.path.items) }
     ensures found { OnOk result (findings_view walk.new.found.items
         ≡ findings_view walk.old.found.items

@@ -13,7 +13,7 @@ one_by : (is_name : Bool) (value : List ℕ) (rest other : Option (List ℕ)) �
 one_by true value rest other = refl
 one_by false value rest other = refl
 
-first-append : (xs ys : List TextPair) (name : List ℕ) →
+pub first-append : (xs ys : List TextPair) (name : List ℕ) →
     first (xs ++ ys) name ≡ or_else (first xs name) (first ys name)
 first-append [] ys name = refl
 first-append (x ∷ xs) ys name =

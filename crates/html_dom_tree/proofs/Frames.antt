@@ -1,13 +1,13 @@
 -- Lists of items with one view are equally long.
 use Rattle.std.proofs.Common.{◌≡◌, ℕ, suc, List, [], ◌∷◌, length, ap, refl}
-use Rattle.html_dom_tree.specs.Frames.{FrameItemsView, no_items, item}
+use Rattle.html_dom_tree.specs.Frames.{FrameItemsView, no_frame_items, placed_item}
 use Rattle.html_dom_tree.specs.FrameViews.{frame_items_view}
 use Rattle.html_dom_tree.specs.declared.frame.Point.{Point}
 use Rattle.html_dom_tree.specs.declared.frame.FrameItem.{FrameItem}
 
 abbrev count : FrameItemsView → ℕ
-count no_items = 0
-count (item position content rest) = suc (count rest)
+count no_frame_items = 0
+count (placed_item position content rest) = suc (count rest)
 
 counted : (xs : List (Point × FrameItem)) → count (frame_items_view xs) ≡ length xs
 counted [] = refl

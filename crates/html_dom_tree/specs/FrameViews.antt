@@ -1,7 +1,7 @@
 -- The pure values of tags, points and frames.
 use Rattle.std.specs.Prelude.{ℕ, List, [], ◌∷◌, map, Option, option_map, String}
 use Rattle.std.specs.declared.alloc.Global.{Global}
-use Rattle.html_dom_tree.specs.Frames.{PointView, FrameView, frame, FrameItemsView, no_items, item, FrameItemView, tag_item, group_item, link_item, other_item, HtmlFrameView}
+use Rattle.html_dom_tree.specs.Frames.{PointView, FrameView, frame, FrameItemsView, no_frame_items, placed_item, FrameItemView, tag_item, group_item, link_item, other_item, HtmlFrameView}
 use Rattle.html_names.specs.Texts.{text_view}
 use Rattle.html_dom_tree.specs.Tags.{TagView, starts, ends}
 use Rattle.html_dom_tree.specs.declared.introspection.Tag.{Tag}
@@ -27,8 +27,8 @@ anchor_view a = (point_view a.0, text_view a.1)
 
 -- the items of a frame, from their positions and views
 abbrev pub frame_items_of : List (Point × FrameItemView) → FrameItemsView
-frame_items_of [] = no_items
-frame_items_of (x ∷ xs) = item (point_view x.0) x.1 (frame_items_of xs)
+frame_items_of [] = no_frame_items
+frame_items_of (x ∷ xs) = placed_item (point_view x.0) x.1 (frame_items_of xs)
 
 abbrev pub frame_item_step : FrameItem-F FrameItemView FrameView → FrameItemView
 frame_item_step (FrameItem-F.Tag t) = tag_item (tag_view t)

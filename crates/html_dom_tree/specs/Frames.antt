@@ -13,8 +13,9 @@ mutual
     deriving Discrete as FrameView-discrete
 
   pub data FrameItemsView : Type 0 where
-    no_items : FrameItemsView
-    item : (position : PointView) (content : FrameItemView) (rest : FrameItemsView) → FrameItemsView
+    no_frame_items : FrameItemsView
+    placed_item : (position : PointView) (content : FrameItemView) (rest : FrameItemsView)
+        → FrameItemsView
     deriving Discrete as FrameItemsView-discrete
 
   pub data FrameItemView : Type 0 where

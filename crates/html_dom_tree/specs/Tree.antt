@@ -1,5 +1,5 @@
 -- The tree of a document as a pure value, in which texts are lists of characters.
-use Rattle.std.specs.Prelude.{ℕ, List, [], ◌∷◌, ◌++◌, Bool, false, Option, None}
+use Rattle.std.specs.Prelude.{ℕ, List, [], ◌∷◌, ◌++◌, Bool, true, false, Option, None}
 -- an attribute is a pair: its name and its value
 pub use Rattle.html_names.specs.Texts.{TextPair}
 pub use Rattle.html_dom_tree.specs.Tags.{TagView, TagView-discrete, starts, ends}
@@ -53,6 +53,12 @@ with_last (node m ms) n = node m (with_last ms n)
 -- an element with a node as its last child
 abbrev pub with_node : NodeView → ElementView → ElementView
 with_node n e = (e.0, with_last e.1 n)
+
+abbrev pub is_tag : NodeView → Bool
+is_tag (tag_node t) = true
+is_tag (text_node s span) = false
+is_tag (element_node h ns) = false
+is_tag (frame_node f) = false
 
 -- the span of a node, 0 for a tag
 abbrev pub node_span : NodeView → ℕ

@@ -1,5 +1,5 @@
 ghost use Rattle.std.specs.Prelude.{◌≡◌, ◌↔◌, ◌++◌, ◌∷◌, [], IsTrue, OnOk, OnErr, IfOk, IfErr, chars};
-ghost use Rattle.html_dom_tree.specs.Tree.{new_element, with_node, with_pair, with_set_pair, node_span, text_node, tag_node, element_node, frame_node};
+ghost use Rattle.html_dom_tree.specs.Tree.{new_element, with_node, with_pair, with_set_pair, is_tag, node_span, text_node, tag_node, element_node, frame_node};
 ghost use Rattle.html_dom_tree.specs.FrameViews.{html_frame_view};
 ghost use Rattle.html_dom_tree.specs.Views.{text_view, tag_view, node_view, element_view, nodes_view};
 
@@ -57,6 +57,13 @@ impl HtmlNode {
         ensures { node_view result ≡ text_node (text_view text) span.0 }
     {
         HtmlNode::Text(text, span)
+    }
+
+    /// Returns whether the node is a tag.
+    pub fn is_tag(&self) -> bool
+        ensures { result ≡ is_tag (node_view self.now) }
+    {
+        matches!(self, HtmlNode::Tag(_))
     }
 
     /// Returns the span of the node, which is 0 for a tag.

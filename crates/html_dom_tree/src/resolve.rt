@@ -100,7 +100,21 @@ fn style_attrs(alloc: Global, css: &Properties, attrs: &mut HtmlAttrs) -> Result
 fn inline_text(alloc: Global, css: &Properties) -> Result<String, AllocError>
     ensures { IfOk result (λ text. text_view text ≡ inline_text css.now) }
 {
-    css.to_inline().to_string(alloc)
+    let mut text = String::with_capacity(alloc, inline_room(css))?;
+    text.write(css.to_inline())?;
+    Ok(text)
+}
+
+/// Returns how long the text is, at most.
+fn inline_room(css: &Properties) -> usize {
+    let mut room: usize = 0;
+    for property in css.as_slice() {
+        room = room
+            .wrapping_add(property.name.len())
+            .wrapping_add(property.value.len())
+            .wrapping_add(4);
+    }
+    room
 }
 
 /// Puts a text before the value of the first `style`, or appends it as an attribute.

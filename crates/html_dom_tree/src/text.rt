@@ -59,7 +59,8 @@ pub fn split_first(text: &str) -> Option<(char, &str)>
     }
 }
 
-pub(crate) fn copy_optional_text(text: &Option<String>) -> Result<Option<String>, AllocError>
+/// Returns a copy of a text, if there is one. Fails only if an allocation fails.
+pub fn copy_optional_text(text: &Option<String>) -> Result<Option<String>, AllocError>
     ensures { IfOk result (λ copy. optional_text_view copy ≡ optional_text_view text.now) }
 {
     match text {

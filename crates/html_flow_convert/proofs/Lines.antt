@@ -9,7 +9,7 @@ use Rattle.html_dom_tree.specs.Tree.{NodeView, tag_node, text_node, element_node
 use Rattle.html_dom_flat.specs.Flat.{FlatNodeView, flat_tag, flat_text, flat_frame, flat_element, node_count, nodes_count, node_flat, nodes_flat}
 use Rattle.html_dom_flat.specs.FlatViews.{flat_node_view, flat_nodes_view}
 use Rattle.html_dom_flat.specs.declared.flat_node.FlatNode.{FlatNode}
-use Rattle.html_dom_flat.specs.declared.flat_node.FlatNode.TheVariants.{Tag, Text, Frame, Element}
+use Rattle.html_dom_flat.specs.declared.flat_node.FlatNode.TheVariants.{Element}
 use Rattle.html_dom_flat.proofs.Flats.{joined, length_all}
 use Rattle.html_flow_convert.specs.Nodes.{is_one}
 use Rattle.html_flow_convert.specs.BareSpaces.{Thing, border, visible, space, node_things, nodes_things, node_turns, nodes_turns, bare_after, bare_spaces}

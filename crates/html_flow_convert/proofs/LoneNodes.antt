@@ -7,11 +7,10 @@ use Rattle.html_names.specs.Names.{is_ascii}
 use Rattle.html_names.specs.Texts.{TextPair}
 use Rattle.html_names.proofs.Lists.{chars_ascii, bytes_eq-chars}
 use Rattle.html_names.proofs.Basics.{from_place}
-use Rattle.html_values_css.specs.Properties.{with_value, without}
-use Rattle.html_dom_tree.specs.Tree.{Head, NodeView, element_node, node}
+use Rattle.html_values_css.specs.Properties.{with_property, without}
+use Rattle.html_dom_tree.specs.Tree.{Head, NodeView, element_node, node, is_tag}
 use Rattle.html_dom_tree.specs.Views.{node_view, nodes_of, nodes_view}
 use Rattle.html_dom_tree.specs.declared.node.HtmlNode.{HtmlNode}
-use Rattle.html_flow_convert.specs.Nodes.{is_tag}
 use Rattle.html_flow_convert.specs.declared.lone.DisplayChange.{DisplayChange}
 use Rattle.html_flow_convert.specs.declared.lone.DisplayChange.TheVariants.{Removed, SetTo}
 use Rattle.html_flow_convert.specs.LoneNode.{DisplayChangeView, change_view, css_with_display, node_with_display, node_list, are_tags, lone_alone, lone_node, changed_or_in}
@@ -92,11 +91,11 @@ module _ (change : DisplayChange) (css : List TextPair) where
 
   pub display_set : (value : Bor (List ℕ)) (text : List ℕ) → change ≡ SetTo value
       → text ≡ value.now
-      → with_value css (chars (codes "display")) (chars text)
+      → with_property css (chars (codes "display")) (chars text)
       ≡ css_with_display (change_view change) css
   display_set value text is same =
-      rw is (ap (λ name. with_value css name (chars text)) display_name
-      ∙ ap (λ t. with_value css (codes "display") (chars t)) same)
+      rw is (ap (λ name. with_property css name (chars text)) display_name
+      ∙ ap (λ t. with_property css (codes "display") (chars t)) same)
 
 -- the nodes by the change of the lone one
 module _ (h : Head) (o : Option DisplayChangeView) (body : List NodeView) where

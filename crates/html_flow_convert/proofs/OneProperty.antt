@@ -1,13 +1,13 @@
 -- Css of one property, in bytes and in characters.
 use Rattle.std.proofs.Common.{◌≡◌, ℕ, List, [], ◌∷◌, chars, ap, ◌∙◌}
 use Rattle.html_names.specs.Texts.{TextPair}
-use Rattle.html_values_css.specs.Properties.{with_value}
+use Rattle.html_values_css.specs.Properties.{with_property}
 
 pub one_property : (none css : List TextPair) (name value text : List ℕ) → none ≡ [] →
     chars name ≡ name → value ≡ text → chars text ≡ text →
-    css ≡ with_value none (chars name) (chars value) → css ≡ (name, text) ∷ []
+    css ≡ with_property none (chars name) (chars value) → css ≡ (name, text) ∷ []
 one_property none css name value text empty named kept own made =
     made
-    ∙ (ap (λ ps. with_value ps (chars name) (chars value)) empty
+    ∙ (ap (λ ps. with_property ps (chars name) (chars value)) empty
     ∙ (ap (λ n. (n, chars value) ∷ []) named
     ∙ ap (λ t. (name, t) ∷ []) (ap chars kept ∙ own)))

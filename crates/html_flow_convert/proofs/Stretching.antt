@@ -1,15 +1,15 @@
 -- Stretches of a text where white space collapses, as they grow.
-use Rattle.std.proofs.Common.{◌≡◌, ℕ, ◌-◌, ◌<◌, Bool, true, false, ◌&&◌, ◌||◌, ◌==◌, List, [], ◌∷◌, ◌++◌, IsTrue, Option, None, Some, chars, length, map, take, refl, sym, ap, ◌∙◌, arith, append-nil, append_assoc}
+use Rattle.std.proofs.Common.{◌≡◌, ℕ, ◌-◌, ◌<◌, Bool, true, false, ◌&&◌, ◌||◌, ◌==◌, List, [], ◌∷◌, ◌++◌, IsTrue, Option, None, Some, chars, length, map, take, drop, get_or, ◌+◌, refl, sym, ap, ◌∙◌, arith, append-nil, append_assoc}
 use Rattle.std.proofs.lemmas.Bool.{agree_below_at, false≢true, true≢false, and_parts, and_from}
 use Rattle.std.proofs.lemmas.Bool.Decides.{nat_tests}
-use Rattle.std.proofs.lemmas.List.{map-append, nil_from_length}
-use Rattle.std.proofs.lemmas.Str.{IsUtf8-nil, IsUtf8-append, IsUtf8-encode, chars-append, chars-nil, chars_past_char, encodes-chars}
-use Rattle.std.specs.Str.{IsUtf8}
+use Rattle.std.proofs.lemmas.List.{drop_more, map-append, nil_from_length}
+use Rattle.std.proofs.lemmas.Str.{IsCharBoundary-after_ascii, IsUtf8-nil, IsUtf8-append, IsUtf8-drop, IsUtf8-encode, encode_ascii, chars-append, chars-nil, chars_past_char, encodes-chars}
+use Rattle.std.specs.Str.{IsUtf8, IsCharBoundary}
 use Rattle.html_names.specs.Characters.{is_ignorable}
 use Rattle.html_names.proofs.Basics.{chars-encode, first_scalar, front_taken}
 use Rattle.html_dom_tree.specs.Tree.{NodeView}
 use Rattle.html_flow_convert.specs.Pieces.{PieceView, stretch, alone, line_break, first_char, is_normal, is_normal_there, is_in_stretch, in_stretch, is_carriage_return, outside_stretch, pieces_after, pieces, piece_node, text_nodes}
-use Rattle.html_flow_convert.specs.TextStretches.{with_stretch}
+use Rattle.html_flow_convert.specs.TextStretches.{is_shown, is_stretch, with_stretch}
 use lib.Utf8.{encode, encodes}
 
 pub ascii_shown : (c : ℕ) → c < 128 → is_ignorable c ≡ false
@@ -50,13 +50,6 @@ within_stretch before [] e = refl
 within_stretch before (c ∷ cs) e =
     let parts = and_parts (is_in_stretch before c cs) (are_in_stretch (Some c) cs) e in
     rw parts.0 (ap (in_stretch c) (within_stretch (Some c) cs parts.1))
-
--- a text that ends in a normal character, and what stands between those is single spaces, where a
--- normal character stands before it or not
-abbrev pub is_stretch : (after_normal : Bool) → (text : List ℕ) → Bool
-is_stretch after_normal [] = after_normal
-is_stretch after_normal (c ∷ cs) =
-    (is_normal c || ((c == 32) && after_normal)) && is_stretch (is_normal c) cs
 
 begins_normal : (cs : List ℕ) → is_stretch false cs ≡ true → is_normal_there (first_char cs) ≡ true
 begins_normal [] e = absurd (false≢true e)
@@ -104,6 +97,41 @@ pub stretch_ends : (ends : Bool) (rest text : List ℕ) → length rest ≡ 0 �
 stretch_ends ends rest text none held h =
     let empty = nil_from_length rest none in
     one_stretch (chars text) (sym (rw (empty, chars-nil) at held) ∙ h)
+
+-- a byte more, if it is a character of ASCII above the space, or a space behind a normal character
+shown_small : (b : ℕ) → is_shown b ≡ true → b < 128
+unfolding is_shown
+shown_small b h = grind (arith, nat_tests)
+
+shown_normal : (b : ℕ) → is_shown b ≡ true → is_normal b ≡ true
+unfolding is_shown is_ignorable
+shown_normal b h =
+    let both = agree_below_at (λ d. is_shown d && is_normal d) is_shown 128 b refl (shown_small b h) in
+    (and_parts (is_shown b) (is_normal b) (both ∙ h)).1
+
+byte_kind : (b : ℕ) (shown ends : Bool) → shown ≡ is_shown b →
+    (shown || ((b == 32) && ends)) ≡ true → (b < 128) × (shown ≡ is_normal b)
+byte_kind b true ends is on = (shown_small b (sym is), sym (shown_normal b (sym is)))
+byte_kind b false ends is on =
+    let space = (and_parts (b == 32) ends on).0 in
+    let same : b ≡ 32 = grind (arith, nat_tests) in
+    rw same (omega arith, refl)
+
+pub byte_goes_on : (ends shown : Bool) (text : List ℕ) (at : ℕ) (all : Bool) → IsUtf8 text →
+    IsCharBoundary text at → at < length text → shown ≡ is_shown (get_or text at 0) →
+    (shown || ((get_or text at 0 == 32) && ends)) ≡ true →
+    is_stretch ends (chars (drop at text)) ≡ all →
+    IsCharBoundary text (at + 1) × (is_stretch shown (chars (drop (at + 1) text)) ≡ all)
+byte_goes_on ends shown text at all u cut within is on held =
+    let b = get_or text at 0 in
+    let kind = byte_kind b shown ends is on in
+    let parts : drop at text ≡ encode b ++ drop (at + 1) text =
+    drop_more text at 0 within
+    ∙ ap (λ l. l ++ drop (at + 1) text) (sym (encode_ascii b kind.0)) in (
+      IsCharBoundary-after_ascii text at u within kind.0,
+      stretch_goes_on ends shown (drop at text) (drop (at + 1) text) b all (IsUtf8-drop text at u cut)
+          parts kind.1 on held,
+    )
 
 before_alone : (cs : List ℕ) (d : ℕ) (ps : List PieceView) →
     with_stretch cs (alone d ∷ ps) ≡ with_stretch cs [] ++ alone d ∷ ps

@@ -1,6 +1,6 @@
 -- The nodes that are looked at are some of all nodes.
 use Rattle.std.proofs.Common.{ℕ, ◌+◌, ◌≤◌, Bool, true, false, if◌then◌else◌, arith}
-use Rattle.html_dom_tree.specs.Tree.{NodeView, tag_node, text_node, element_node, frame_node, NodesView, none, node}
+use Rattle.html_dom_tree.specs.Tree.{NodeView, element_node, NodesView, none, node}
 use Rattle.html_dom_flat.specs.Flat.{node_count, nodes_count}
 use Rattle.html_flow_convert.specs.BareSpaces.{is_entered, node_turns, nodes_turns}
 

@@ -4,4 +4,4 @@ use Rattle.html_flow_convert.specs.declared.protect.Answers.{Answers}
 
 -- the answers that are left
 abbrev pub answers_view : Answers → List Bool
-answers_view a = drop a.next a.bare.items
+answers_view a = drop a.next a.reused.now.bare.items

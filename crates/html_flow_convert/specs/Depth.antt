@@ -32,6 +32,6 @@ fragment_too_deep depth limit span items =
     if nat_lt limit depth then span ∷ [] else items_too_deep depth limit items
 
 -- the first of these spans
-abbrev pub first_span : List ℕ → Option ℕ
-first_span [] = None
-first_span (span ∷ spans) = Some span
+abbrev pub first_too_deep : List ℕ → Option ℕ
+first_too_deep [] = None
+first_too_deep (span ∷ spans) = Some span

@@ -5,10 +5,10 @@ use Rattle.html_names.specs.Displays.{default_display}
 use Rattle.html_names.specs.Texts.{TextPair}
 use Rattle.html_names.specs.declared.property.Display.{Display}
 use Rattle.html_names.specs.declared.property.Display.TheVariants as display
-use Rattle.html_values_css.specs.Properties.{with_value, without}
+use Rattle.html_values_css.specs.Properties.{with_property, without}
 use Rattle.html_dom_tree.specs.Attributes.{first}
-use Rattle.html_dom_tree.specs.Tree.{Head, NodeView, tag_node, text_node, element_node, frame_node, NodesView, none, node}
-use Rattle.html_flow_convert.specs.Nodes.{made_head, is_tag}
+use Rattle.html_dom_tree.specs.Tree.{Head, NodeView, tag_node, text_node, element_node, frame_node, NodesView, none, node, is_tag}
+use Rattle.html_flow_convert.specs.Nodes.{made_head}
 use Rattle.html_flow_convert.specs.declared.lone.DisplayChange.{DisplayChange}
 use Rattle.html_flow_convert.specs.declared.lone.DisplayChange.TheVariants.{Removed, SetTo}
 
@@ -45,7 +45,7 @@ change_view (SetTo value) = set_to (chars value.now)
 
 abbrev pub css_with_display : DisplayChangeView → List TextPair → List TextPair
 css_with_display removed css = without css (codes "display")
-css_with_display (set_to value) css = with_value css (codes "display") value
+css_with_display (set_to value) css = with_property css (codes "display") value
 
 abbrev pub node_with_display : DisplayChangeView → NodeView → NodeView
 node_with_display change (tag_node t) = tag_node t

@@ -1,6 +1,6 @@
 -- Nodes that white space processing adds.
 use Rattle.std.specs.Prelude.{ℕ, Bool, true, false, ◌==◌, List, [], ◌∷◌, codes, None}
-use Rattle.html_dom_tree.specs.Tree.{Head, NodeView, tag_node, text_node, element_node, frame_node, none}
+use Rattle.html_dom_tree.specs.Tree.{Head, NodeView, element_node, none}
 
 -- an element of that name, css and span, with nothing else and without children
 abbrev pub made_head : (name : List ℕ) (css : List (List ℕ × List ℕ)) (span : ℕ) → Head
@@ -22,9 +22,3 @@ abbrev pub is_one : ℕ → List ℕ → Bool
 is_one d [] = false
 is_one d (c ∷ []) = c == d
 is_one d (c ∷ e ∷ cs) = false
-
-abbrev pub is_tag : NodeView → Bool
-is_tag (tag_node t) = true
-is_tag (text_node s span) = false
-is_tag (element_node h ns) = false
-is_tag (frame_node f) = false

@@ -1,7 +1,6 @@
 -- Runs of blanks, as they grow.
 use Rattle.std.specs.Prelude.{Bool, false, ◌&&◌, ◌||◌, List, [], ◌∷◌}
-use Rattle.html_dom_tree.specs.Tree.{NodeView}
-use Rattle.html_flow_convert.specs.Nodes.{is_tag}
+use Rattle.html_dom_tree.specs.Tree.{NodeView, is_tag}
 use Rattle.html_flow_convert.specs.Runs.{is_space, is_tab, is_blank_node}
 
 -- whether a node belongs to the run before it, which may be empty

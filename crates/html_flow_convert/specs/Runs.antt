@@ -1,9 +1,9 @@
 -- Runs of blanks (this project's rule for CSS Text 4.1.1, phase I, which would collapse them).
 use Rattle.std.specs.Prelude.{ℕ, zero, suc, Bool, true, false, ◌||◌, List, [], ◌∷◌, ◌++◌, if◌then◌else◌}
 use Rattle.std.specs.List.{filter}
-use Rattle.html_dom_tree.specs.Tree.{NodeView, tag_node, text_node, element_node, frame_node, node_span}
+use Rattle.html_dom_tree.specs.Tree.{NodeView, tag_node, text_node, element_node, frame_node, node_span, is_tag}
 use Rattle.html_dom_tree.specs.Views.{nodes_of}
-use Rattle.html_flow_convert.specs.Nodes.{pre_wrap_head, is_one, is_tag}
+use Rattle.html_flow_convert.specs.Nodes.{pre_wrap_head, is_one}
 
 -- a text of exactly one space; of exactly one tab
 abbrev pub is_space : NodeView → Bool
@@ -22,9 +22,9 @@ abbrev pub is_blank_node : NodeView → Bool
 is_blank_node n = is_space n || is_tab n
 
 -- the first span that is not 0, else 0
-abbrev pub first_span : List NodeView → ℕ
-first_span [] = 0
-first_span (n ∷ ns) = span_or (node_span n) (first_span ns)
+abbrev pub first_node_span : List NodeView → ℕ
+first_node_span [] = 0
+first_node_span (n ∷ ns) = span_or (node_span n) (first_node_span ns)
   where
     span_or : ℕ → ℕ → ℕ
     span_or zero later = later
@@ -40,7 +40,7 @@ are_kept (n ∷ m ∷ ns) = true
 abbrev pub run_nodes : List NodeView → List NodeView
 run_nodes ns =
     if are_kept (filter is_blank_node ns)
-    then element_node (pre_wrap_head (first_span ns)) (nodes_of ns) ∷ []
+    then element_node (pre_wrap_head (first_node_span ns)) (nodes_of ns) ∷ []
     else ns
 
 -- blanks and tags up to another node or the end of a list: a run begins with the first blank

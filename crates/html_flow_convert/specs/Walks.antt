@@ -2,7 +2,7 @@
 use Rattle.std.specs.Prelude.{Bool, List, [], ◌∷◌, ◌++◌}
 use Rattle.html_flow_convert.specs.BareSpaces.{Thing, border, visible, space}
 use Rattle.html_flow_convert.specs.Lines.{last_after, answer_before}
-use Rattle.html_flow_convert.specs.declared.answers.Walk.{Walk}
+use Rattle.html_flow_convert.specs.declared.answers.SpaceWalk.{SpaceWalk}
 use Rattle.html_flow_convert.specs.declared.line.Last.{Last}
 use Rattle.html_flow_convert.specs.declared.look.Look.{Look}
 use Rattle.html_flow_convert.specs.declared.look.Look.TheVariants as look
@@ -11,7 +11,7 @@ use Rattle.html_flow_convert.specs.declared.look.Look.TheVariants as look
 abbrev pub WalkView : Type 0
 WalkView = List Bool × Last
 
-abbrev pub walk_view : Walk → WalkView
+abbrev pub walk_view : SpaceWalk → WalkView
 walk_view w = (w.bare.items, w.last)
 
 -- with one more

@@ -11,15 +11,17 @@ use crate::line::{Last, push_answer};
 use crate::look::{Look, element_look, text_look};
 use html_dom_tree::{HtmlElement, HtmlNode};
 use std::alloc::{AllocError, Global};
+use std::mem;
 
+/// A walk over nodes that finds which lone spaces are bare.
 #[derive(Drop)]
-struct Walk {
+struct SpaceWalk {
     /// Whether each lone space is bare, except one that stands last.
     bare: Vec<bool>,
     last: Last,
 }
 
-impl Walk {
+impl SpaceWalk {
     fn see(&mut self, look: Look) -> Result<(), AllocError>
         ensures { OnOk result (walk_view self.new ≡ walk_on (walk_view self.old) (look_things look [])) }
     {
@@ -73,17 +75,25 @@ fn look_of(element: &HtmlElement) -> Look
     element_look(&element.tag, &element.css, element.pre_span)
 }
 
-/// Returns whether each lone space of the nodes is bare, in order.
-pub(crate) fn answers_for(alloc: Global, nodes: &[HtmlNode]) -> Result<Vec<bool>, AllocError>
-    ensures { IfOk result (λ bare. bare.items ≡ bare_spaces (nodes_view nodes.now)) }
+/// Puts into the list, instead of what it has, whether each lone space of the nodes is bare, in
+/// order.
+pub(crate) fn answer_for(
+    alloc: Global,
+    nodes: &[HtmlNode],
+    list: &mut Vec<bool>,
+) -> Result<(), AllocError>
+    ensures { OnOk result (list.new.items ≡ bare_spaces (nodes_view nodes.now)) }
 {
-    let mut walk = Walk {
-        bare: Vec::new(alloc),
+    let mut bare = mem::replace(list, Vec::new(alloc));
+    bare.clear();
+    let mut walk = SpaceWalk {
+        bare,
         last: Last::Border,
     };
     walk.see_nodes(nodes)?;
     walk.see(Look::Border)?;
-    Ok(walk.bare)
+    *list = walk.bare;
+    Ok(())
 }
 
 pub(crate) fn are_bare(answers: &[bool]) -> bool

@@ -16,8 +16,11 @@ ghost use Rattle.html_flow_convert.specs.Views.{body_view, elem_view, frame_elem
 use crate::depth::items_too_deep;
 use crate::item::{FrameElem, HtmlElem, Item, Pair, copied_pairs};
 use crate::lone::{push_block, push_box};
+use crate::protect::with_spaces;
+use crate::reused::Reused;
+use crate::runs::with_runs;
 use crate::setting::{Setting, body_level, passes_role};
-use crate::{break_element, keep_runs, protect_spaces, push_text_nodes};
+use crate::{break_element, push_text_nodes};
 use html_dom_tree::{HtmlAttrs, HtmlElement, HtmlFrame, HtmlNode, Span, Tag};
 use html_flow_faults::FlowFault;
 use html_names::{HtmlTag, attr};
@@ -145,7 +148,8 @@ pub fn convert_items(
         depth,
         limit,
     };
-    convert_list(alloc, items, level, setting)
+    let mut reused = Reused::new(alloc)?;
+    convert_list(alloc, items, level, setting, &mut reused)
 }
 
 #[cycle(convert)]
@@ -154,6 +158,7 @@ fn convert_list(
     items: Vec<Pair>,
     level: ConversionLevel,
     setting: Setting<'_>,
+    reused: &mut Reused,
 ) -> Result<Vec<HtmlNode>, FlowFault>
     requires within { setting.depth ≤ setting.limit }
     requires low_limit { setting.limit ≤ 10000 }
@@ -165,9 +170,9 @@ fn convert_list(
     let mut nodes = Vec::with_capacity(alloc, items.len())?;
     for pair in items {
         let Pair { item, role } = pair;
-        push_item(alloc, item, setting.with_role(&role), &mut nodes)?;
+        push_item(alloc, item, setting.with_role(&role), reused, &mut nodes)?;
     }
-    Ok(finish(alloc, nodes, level, setting.whitespace)?)
+    Ok(finish(alloc, nodes, level, setting.whitespace, reused)?)
 }
 
 /// Converts a body, if there is one, as a list in the same setting, but deeper.
@@ -178,6 +183,7 @@ fn convert_body(
     span: Span,
     level: ConversionLevel,
     setting: Setting<'_>,
+    reused: &mut Reused,
 ) -> Result<Vec<HtmlNode>, FlowFault>
     requires within { setting.depth ≤ setting.limit }
     requires low_limit { setting.limit ≤ 10000 }
@@ -192,7 +198,7 @@ fn convert_body(
     if setting.is_deepest() {
         return Err(FlowFault::TooDeep { span });
     }
-    convert_list(alloc, items, level, setting.deeper())
+    convert_list(alloc, items, level, setting.deeper(), reused)
 }
 
 /// Appends the nodes of an item. The setting is that of its list, apart from the item's own role.
@@ -201,6 +207,7 @@ fn push_item(
     alloc: Global,
     item: Item,
     setting: Setting<'_>,
+    reused: &mut Reused,
     nodes: &mut Vec<HtmlNode>,
 ) -> Result<(), FlowFault>
     requires within { setting.depth ≤ setting.limit }
@@ -211,17 +218,17 @@ fn push_item(
 {
     match item {
         Item::Tag(tag) => Ok(push_tag(nodes, tag)?),
-        Item::Element(element) => push_element(alloc, element, setting, nodes),
+        Item::Element(element) => push_element(alloc, element, setting, reused, nodes),
         Item::Space(span) => Ok(push_literal(alloc, nodes, " ", span)?),
         Item::Text(text, span) => Ok(push_text(alloc, nodes, text, span, setting.whitespace)?),
         Item::Hole => Ok(()),
         Item::LineBreak(span) => Ok(push_break(alloc, nodes, span, setting.whitespace)?),
         Item::Box(body, span) => {
-            let inside = convert_body(alloc, body, span, ConversionLevel::Inline, setting)?;
+            let inside = convert_body(alloc, body, span, ConversionLevel::Inline, setting, reused)?;
             Ok(push_box(alloc, nodes, inside, span)?)
         }
         Item::Block(body, span) => {
-            let inside = convert_body(alloc, body, span, ConversionLevel::Block, setting)?;
+            let inside = convert_body(alloc, body, span, ConversionLevel::Block, setting, reused)?;
             Ok(push_block(alloc, nodes, inside, span)?)
         }
         Item::Frame(frame) => Ok(push_frame(alloc, nodes, frame)?),
@@ -233,6 +240,7 @@ fn push_element(
     alloc: Global,
     element: HtmlElem,
     setting: Setting<'_>,
+    reused: &mut Reused,
     nodes: &mut Vec<HtmlNode>,
 ) -> Result<(), FlowFault>
     requires within { setting.depth ≤ setting.limit }
@@ -252,7 +260,7 @@ fn push_element(
         parent,
         span,
     } = element;
-    let children = convert_body(alloc, body, span, level, inside)?;
+    let children = convert_body(alloc, body, span, level, inside, reused)?;
     let attrs = attrs_with_role(alloc, &tag, attrs, setting.role)?;
     let made = HtmlElement {
         tag,
@@ -386,13 +394,14 @@ fn finish(
     nodes: Vec<HtmlNode>,
     level: ConversionLevel,
     whitespace: Whitespace,
+    reused: &mut Reused,
 ) -> Result<Vec<HtmlNode>, AllocError>
     ensures { IfOk result (λ made. nodes_view made.items
         ≡ list_nodes level whitespace (map node_view nodes.items)) }
 {
     match whitespace {
         Whitespace::Pre => Ok(nodes),
-        Whitespace::Normal => finish_list(alloc, nodes, level),
+        Whitespace::Normal => finish_list(alloc, nodes, level, reused),
     }
 }
 
@@ -400,13 +409,14 @@ fn finish_list(
     alloc: Global,
     nodes: Vec<HtmlNode>,
     level: ConversionLevel,
+    reused: &mut Reused,
 ) -> Result<Vec<HtmlNode>, AllocError>
     ensures { IfOk result (λ made. nodes_view made.items
         ≡ list_nodes level Normal (map node_view nodes.items)) }
 {
-    let nodes = keep_runs(alloc, nodes)?;
+    let nodes = with_runs(alloc, reused, nodes)?;
     match level {
         ConversionLevel::Inline => Ok(nodes),
-        ConversionLevel::Block => protect_spaces(alloc, nodes),
+        ConversionLevel::Block => with_spaces(alloc, reused, nodes),
     }
 }

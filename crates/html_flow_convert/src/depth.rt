@@ -2,7 +2,7 @@
 #![tactic(auto, unfolding(crate::specs::Depth::item_too_deep))]
 
 ghost use Rattle.std.specs.Prelude.{◌≡◌, ◌≤◌, option_map};
-ghost use Rattle.html_flow_convert.specs.Depth.{body_too_deep, first_span, item_too_deep, items_too_deep};
+ghost use Rattle.html_flow_convert.specs.Depth.{body_too_deep, first_too_deep, item_too_deep, items_too_deep};
 ghost use Rattle.html_flow_convert.specs.Views.{body_view, item_view, items_view};
 
 use crate::item::{Item, Pair};
@@ -15,7 +15,7 @@ pub(crate) fn items_too_deep(items: &[Pair], depth: usize, limit: usize) -> Opti
     requires within { depth ≤ limit }
     requires low_limit { limit ≤ 10000 }
     ensures { option_map (λ span. span.0) result
-        ≡ first_span (items_too_deep depth limit (items_view items.now)) }
+        ≡ first_too_deep (items_too_deep depth limit (items_view items.now)) }
 {
     for pair in items {
         if let Some(span) = item_too_deep(&pair.item, depth, limit) {
@@ -30,7 +30,7 @@ fn item_too_deep(item: &Item, depth: usize, limit: usize) -> Option<Span>
     requires within { depth ≤ limit }
     requires low_limit { limit ≤ 10000 }
     ensures { option_map (λ span. span.0) result
-        ≡ first_span (item_too_deep depth limit (item_view item.now)) }
+        ≡ first_too_deep (item_too_deep depth limit (item_view item.now)) }
 {
     match item {
         Item::Element(element) => body_too_deep(&element.body, element.span, depth, limit),
@@ -49,7 +49,7 @@ fn body_too_deep(body: &Option<Vec<Pair>>, span: Span, depth: usize, limit: usiz
     requires within { depth ≤ limit }
     requires low_limit { limit ≤ 10000 }
     ensures { option_map (λ span. span.0) result
-        ≡ first_span (body_too_deep depth limit span.0 (body_view body.now)) }
+        ≡ first_too_deep (body_too_deep depth limit span.0 (body_view body.now)) }
 {
     let Some(items) = body else {
         return None;

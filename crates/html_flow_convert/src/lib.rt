@@ -27,6 +27,7 @@ mod made;
 mod one;
 mod pieces;
 mod protect;
+mod reused;
 mod runs;
 mod setting;
 

@@ -2,9 +2,8 @@
 
 ghost use Rattle.std.specs.Prelude.{◌≡◌, ◌++◌, ◌∷◌, [], IfOk, OnOk, bytes_eq, codes, map, option_map};
 ghost use Rattle.std.specs.List.{list_all};
-ghost use Rattle.html_dom_tree.specs.Tree.{element_node, none};
+ghost use Rattle.html_dom_tree.specs.Tree.{element_node, is_tag, none};
 ghost use Rattle.html_dom_tree.specs.Views.{element_view, head_of, node_view, nodes_view, text_view};
-ghost use Rattle.html_flow_convert.specs.Nodes.{is_tag};
 ghost use Rattle.html_flow_convert.specs.LoneNode.{change_view, css_with_display, node_with_display};
 ghost use Rattle.html_flow_convert.specs.LoneNode.{lone_alone, lone_node, is_math, is_shown_as_block};
 ghost use Rattle.html_flow_convert.specs.LoneNode.{box_change, change_by_display, block_change};
@@ -36,16 +35,10 @@ impl DisplayChange {
     }
 }
 
-fn is_tag(node: &HtmlNode) -> bool
-    ensures { result ≡ is_tag (node_view node.now) }
-{
-    matches!(node, HtmlNode::Tag(_))
-}
-
 fn are_tags(nodes: &[HtmlNode]) -> bool
     ensures { result ≡ list_all (λ node. is_tag (node_view node)) nodes.now }
 {
-    nodes.iter().all(|node| is_tag(node))
+    nodes.iter().all(|node| node.is_tag())
 }
 
 fn element_or_frame(node: &HtmlNode) -> Option<&HtmlNode>
@@ -62,7 +55,7 @@ fn lone_node(nodes: &[HtmlNode]) -> Option<&HtmlNode>
     ensures { option_map (λ lone. node_view lone.now) result ≡ lone_node (nodes_view nodes.now) }
 {
     for (place, node) in nodes.iter().enumerate() {
-        if is_tag(node) {
+        if node.is_tag() {
             continue;
         }
         if are_tags(&nodes[place + 1..]) {

@@ -5,6 +5,7 @@ ghost use Rattle.html_dom_tree.specs.Tree.{element_node, none};
 ghost use Rattle.html_dom_tree.specs.Views.{element_view, head_of, node_view, nodes_view};
 ghost use Rattle.html_flow_convert.specs.Nodes.{made_head, pre_wrap_head};
 
+use crate::reused::Reused;
 use html_dom_tree::{HtmlAttrs, HtmlElement, HtmlNode, Span};
 use html_names::tag;
 use html_values_css::Properties;
@@ -18,7 +19,7 @@ pub fn break_element(alloc: Global, span: Span) -> HtmlElement
     HtmlElement::new(alloc, tag::br).spanned(span)
 }
 
-fn pre_wrap_css(alloc: Global) -> Result<Properties, AllocError>
+pub(crate) fn pre_wrap_css(alloc: Global) -> Result<Properties, AllocError>
     ensures { IfOk result (λ css. css ≡ (codes "white-space", codes "pre-wrap") ∷ []) }
 {
     let kept = String::from_str(alloc, "pre-wrap")?;
@@ -28,11 +29,15 @@ fn pre_wrap_css(alloc: Global) -> Result<Properties, AllocError>
 
 /// Creates a `span` in which each character of the texts is written as a character reference.
 #[tactic(auto, unfolding(html_names::specs::Tables::known_tags))]
-pub(crate) fn pre_wrap_span(alloc: Global, span: Span) -> Result<HtmlElement, AllocError>
+pub(crate) fn pre_wrap_span(
+    alloc: Global,
+    reused: &Reused,
+    span: Span,
+) -> Result<HtmlElement, AllocError>
     ensures { IfOk result (λ element. head_of element ≡ pre_wrap_head span.0) }
 {
     let mut element = HtmlElement::new(alloc, tag::span)
-        .with_css(pre_wrap_css(alloc)?)
+        .with_css(reused.css.try_clone()?)
         .spanned(span);
     element.attrs = HtmlAttrs(Vec::with_capacity(alloc, 1)?); // the css becomes a `style`
     element.pre_span = true;

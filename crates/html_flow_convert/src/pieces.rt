@@ -1,11 +1,11 @@
 //! Texts where white space collapses.
 
-ghost use Rattle.std.specs.Prelude.{◌≡◌, ◌==◌, ◌&&◌, ◌||◌, ◌++◌, [], ◌∷◌, IsTrue, OnOk, OnErr, IfOk, chars, map};
+ghost use Rattle.std.specs.Prelude.{◌≡◌, ◌≤◌, ◌==◌, ◌&&◌, ◌||◌, ◌++◌, [], ◌∷◌, IsTrue, OnOk, OnErr, IfOk, chars, length, map};
 ghost use Rattle.html_dom_tree.specs.Tree.{text_node};
 ghost use Rattle.html_dom_tree.specs.Views.{node_view, text_view};
 ghost use Rattle.html_flow_convert.specs.Beginnings.{AddsBeginning};
 ghost use Rattle.html_flow_convert.specs.Pieces.{first_char, is_in_stretch, is_normal, is_normal_there, outside_stretch, piece_node, pieces, stretch, text_nodes};
-ghost use Rattle.html_flow_convert.specs.TextStretches.{with_stretch};
+ghost use Rattle.html_flow_convert.specs.TextStretches.{is_shown, is_stretch, with_stretch};
 
 use crate::made::break_element;
 use html_dom_tree::{HtmlNode, Span};
@@ -51,17 +51,51 @@ fn goes_on(is_normal: bool, c: char, ends_normal: bool) -> bool
     is_normal || (c == ' ' && ends_normal)
 }
 
+/// Returns whether the byte is a normal character of ASCII above the space.
+fn is_shown(byte: u8) -> bool
+    ensures { result ≡ is_shown byte }
+{
+    byte > 32 && byte < 128
+}
+
+/// Returns the text behind the normal characters of ASCII above the space, and the single spaces
+/// behind normal characters, that it begins with.
+fn past_words<'a>(text: &'a str, ends_normal: &mut bool) -> &'a str
+    ensures rest { is_stretch ends_normal.new (chars result.now)
+        ≡ is_stretch ends_normal.old (chars text.now) }
+    ensures shorter { length result.now ≤ length text.now }
+{
+    let bytes = text.as_bytes();
+    let mut ends = *ends_normal;
+    let mut at = 0;
+    while at < bytes.len() {
+        let byte = bytes[at];
+        if is_shown(byte) {
+            ends = true;
+        } else if byte == b' ' && ends {
+            ends = false;
+        } else {
+            break;
+        }
+        at += 1;
+    }
+    *ends_normal = ends;
+    &text[at..]
+}
+
 /// Returns whether the text is one stretch: normal characters, and single spaces between them.
 fn is_stretch(text: &str) -> bool
     ensures { IsTrue result → pieces (chars text.now) ≡ stretch (chars text.now) ∷ [] }
 {
     let mut ends_normal = false;
-    for c in text.chars() {
+    let mut left = past_words(text, &mut ends_normal).chars();
+    while let Some(c) = left.next() {
         let is_normal = is_normal(c);
         if !goes_on(is_normal, c, ends_normal) {
             return false;
         }
         ends_normal = is_normal;
+        left = past_words(left.as_str(), &mut ends_normal).chars();
     }
     ends_normal
 }

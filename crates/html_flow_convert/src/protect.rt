@@ -7,29 +7,30 @@ ghost use Rattle.html_flow_convert.specs.AnswerLists.{answers_view};
 ghost use Rattle.html_flow_convert.specs.BareSpaces.{element_things, node_things, nodes_things};
 ghost use Rattle.html_flow_convert.specs.Protected.{space_count, is_bare, node_by_answers, nodes_by_answers, protected_nodes, text_by_answer};
 
-use crate::answers::{answers_for, are_bare};
+use crate::answers::{answer_for, are_bare};
 use crate::look::is_entered;
 use crate::made::{element_of, pre_wrap_span};
 use crate::one::is_one;
+use crate::reused::Reused;
 use html_dom_tree::{HtmlElement, HtmlNode};
 use std::alloc::{AllocError, Global};
 use std::mem;
 
 #[derive(Drop)]
-struct Answers {
-    /// Whether each space is bare.
-    bare: Vec<bool>,
-    /// The number of those used.
+struct Answers<'a> {
+    /// With whether each space is bare.
+    reused: &'a Reused,
+    /// The number of answers used.
     next: usize,
 }
 
-impl Answers {
+impl Answers<'_> {
     fn next_is_bare(&mut self) -> bool
         ensures answer { result ≡ is_bare (answers_view self.old) }
         ensures rest { answers_view self.new ≡ drop 1 (answers_view self.old) }
     {
-        if self.next < self.bare.len() {
-            let bare = self.bare[self.next];
+        if self.next < self.reused.bare.len() {
+            let bare = self.reused.bare[self.next];
             self.next += 1;
             return bare;
         }
@@ -37,7 +38,7 @@ impl Answers {
     }
 }
 
-fn keep_text(alloc: Global, node: &mut HtmlNode) -> Result<(), AllocError>
+fn keep_text(alloc: Global, reused: &Reused, node: &mut HtmlNode) -> Result<(), AllocError>
     ensures { (text : List ℕ) → (span : ℕ) → node_view node.old ≡ text_node text span →
         OnOk result (node_view node.new ≡ text_by_answer false text span) }
 {
@@ -45,7 +46,7 @@ fn keep_text(alloc: Global, node: &mut HtmlNode) -> Result<(), AllocError>
         let text = mem::replace(text, String::new(alloc));
         let mut children = Vec::with_capacity(alloc, 1)?;
         children.push(HtmlNode::text(text, *span))?;
-        *node = element_of(pre_wrap_span(alloc, *span)?, children);
+        *node = element_of(pre_wrap_span(alloc, reused, *span)?, children);
     }
     Ok(())
 }
@@ -53,7 +54,7 @@ fn keep_text(alloc: Global, node: &mut HtmlNode) -> Result<(), AllocError>
 fn protect_space(
     alloc: Global,
     node: &mut HtmlNode,
-    answers: &mut Answers,
+    answers: &mut Answers<'_>,
 ) -> Result<(), AllocError>
     ensures made { (text : List ℕ) → (span : ℕ) → node_view node.old ≡ text_node text span →
         OnOk result (node_view node.new
@@ -63,14 +64,18 @@ fn protect_space(
     if answers.next_is_bare() {
         return Ok(());
     }
-    keep_text(alloc, node)
+    keep_text(alloc, answers.reused, node)
 }
 
 // The node comes first among the parameters: its depth proves that the recursion ends.
 
 #[cycle(protect)]
 #[tactic(auto, unfolding(crate::specs::BareSpaces::node_things, crate::specs::Protected::node_by_answers))]
-fn protect_node(node: &mut HtmlNode, alloc: Global, answers: &mut Answers) -> Result<(), AllocError>
+fn protect_node(
+    node: &mut HtmlNode,
+    alloc: Global,
+    answers: &mut Answers<'_>,
+) -> Result<(), AllocError>
     ensures made { OnOk result
         (node_view node.new ≡ node_by_answers (answers_view answers.old) (node_view node.old)) }
     ensures rest { OnOk result (answers_view answers.new
@@ -92,7 +97,7 @@ fn protect_node(node: &mut HtmlNode, alloc: Global, answers: &mut Answers) -> Re
 fn protect_element(
     element: &mut HtmlElement,
     alloc: Global,
-    answers: &mut Answers,
+    answers: &mut Answers<'_>,
 ) -> Result<(), AllocError>
     ensures made { let old = element_view element.old in let new = element_view element.new in
         OnOk result (element_node new.0 new.1
@@ -111,7 +116,7 @@ fn protect_element(
 fn protect_nodes(
     nodes: &mut [HtmlNode],
     alloc: Global,
-    answers: &mut Answers,
+    answers: &mut Answers<'_>,
 ) -> Result<(), AllocError>
     ensures made { OnOk result
         (nodes_view nodes.new ≡ nodes_by_answers (answers_view answers.old) (nodes_view nodes.old)) }
@@ -128,15 +133,31 @@ fn protect_nodes(
 /// that are looked into (see [`crate::bare_spaces`]). Fails only if an allocation fails.
 ///
 /// Takes time linear in the number of nodes that are looked at, and changes each in place.
-pub fn protect_spaces(alloc: Global, mut nodes: Vec<HtmlNode>) -> Result<Vec<HtmlNode>, AllocError>
+pub fn protect_spaces(alloc: Global, nodes: Vec<HtmlNode>) -> Result<Vec<HtmlNode>, AllocError>
     ensures { IfOk result (λ made.
         nodes_view made.items ≡ protected_nodes (nodes_view nodes.items)) }
 {
-    let bare = answers_for(alloc, &nodes)?;
-    if are_bare(&bare) {
+    let mut reused = Reused::new(alloc)?;
+    with_spaces(alloc, &mut reused, nodes)
+}
+
+/// Returns what [`protect_spaces`] returns.
+pub(crate) fn with_spaces(
+    alloc: Global,
+    reused: &mut Reused,
+    mut nodes: Vec<HtmlNode>,
+) -> Result<Vec<HtmlNode>, AllocError>
+    ensures { IfOk result (λ made.
+        nodes_view made.items ≡ protected_nodes (nodes_view nodes.items)) }
+{
+    answer_for(alloc, &nodes, &mut reused.bare)?;
+    if are_bare(&reused.bare) {
         return Ok(nodes);
     }
-    let mut answers = Answers { bare, next: 0 };
+    let mut answers = Answers {
+        reused: &*reused,
+        next: 0,
+    };
     protect_nodes(&mut nodes, alloc, &mut answers)?;
     Ok(nodes)
 }

@@ -3,12 +3,12 @@
 ghost use Rattle.std.specs.Prelude.{◌≡◌, ◌++◌, [], false, OnOk, IfOk, map};
 ghost use Rattle.std.specs.List.{filter};
 ghost use Rattle.html_dom_tree.specs.Views.{node_view};
-ghost use Rattle.html_flow_convert.specs.Nodes.{is_tag};
 ghost use Rattle.html_flow_convert.specs.OpenRuns.{goes_on, has_kept_run};
-ghost use Rattle.html_flow_convert.specs.Runs.{is_space, is_tab, is_blank_node, are_kept, first_span, run_nodes, nodes_with_runs};
+ghost use Rattle.html_flow_convert.specs.Runs.{is_space, is_tab, is_blank_node, are_kept, first_node_span, run_nodes, nodes_with_runs};
 
 use crate::made::{element_of, pre_wrap_span};
 use crate::one::is_one;
+use crate::reused::Reused;
 use html_dom_flat::give_back;
 use html_dom_tree::{HtmlNode, Span};
 use std::alloc::{AllocError, Global};
@@ -38,16 +38,10 @@ fn is_blank(node: &HtmlNode) -> bool
     is_space(node) || is_tab(node)
 }
 
-fn is_tag(node: &HtmlNode) -> bool
-    ensures { result ≡ is_tag (node_view node.now) }
-{
-    matches!(node, HtmlNode::Tag(_))
-}
-
 fn goes_on(run: &[HtmlNode], node: &HtmlNode) -> bool
     ensures { result ≡ goes_on (map node_view run.now) (node_view node.now) }
 {
-    is_blank(node) || (is_tag(node) && !run.is_empty())
+    is_blank(node) || (node.is_tag() && !run.is_empty())
 }
 
 /// Returns whether the blanks of a run are preserved: two or more, or a single tab.
@@ -65,8 +59,8 @@ fn are_kept(run: &[HtmlNode]) -> bool
 }
 
 /// Returns the first span of these nodes that is not 0, or 0.
-fn first_span(nodes: &[HtmlNode]) -> Span
-    ensures { result.0 ≡ first_span (map node_view nodes.now) }
+fn first_node_span(nodes: &[HtmlNode]) -> Span
+    ensures { result.0 ≡ first_node_span (map node_view nodes.now) }
 {
     for node in nodes {
         if node.span() != Span(0) {
@@ -79,6 +73,7 @@ fn first_span(nodes: &[HtmlNode]) -> Span
 /// Ends a run: takes its nodes, and wraps them in a `span` that preserves them if they need it.
 fn end_run(
     alloc: Global,
+    reused: &Reused,
     made: &mut Vec<HtmlNode>,
     run: &mut Vec<HtmlNode>,
 ) -> Result<(), AllocError>
@@ -92,8 +87,8 @@ fn end_run(
     }
     let mut kept = mem::replace(run, Vec::new(alloc));
     kept.shrink_to_fit();
-    let span = first_span(&kept);
-    made.push(element_of(pre_wrap_span(alloc, span)?, kept))?;
+    let span = first_node_span(&kept);
+    made.push(element_of(pre_wrap_span(alloc, reused, span)?, kept))?;
     Ok(())
 }
 
@@ -105,7 +100,7 @@ fn has_kept_run(nodes: &[HtmlNode]) -> bool
         if is_tab(node) || (has_space && is_space(node)) {
             return true;
         }
-        has_space = is_space(node) || (has_space && is_tag(node));
+        has_space = is_space(node) || (has_space && node.is_tag());
     }
     false
 }
@@ -117,7 +112,20 @@ fn has_kept_run(nodes: &[HtmlNode]) -> bool
 ///
 /// Takes time linear in the number of nodes; moves none if no run is preserved. Returns the memory
 /// of moved nodes on the way.
-pub fn keep_runs(alloc: Global, mut nodes: Vec<HtmlNode>) -> Result<Vec<HtmlNode>, AllocError>
+pub fn keep_runs(alloc: Global, nodes: Vec<HtmlNode>) -> Result<Vec<HtmlNode>, AllocError>
+    ensures { IfOk result (λ made.
+        map node_view made.items ≡ nodes_with_runs (map node_view nodes.items)) }
+{
+    let reused = Reused::new(alloc)?;
+    with_runs(alloc, &reused, nodes)
+}
+
+/// Returns what [`keep_runs`] returns.
+pub(crate) fn with_runs(
+    alloc: Global,
+    reused: &Reused,
+    mut nodes: Vec<HtmlNode>,
+) -> Result<Vec<HtmlNode>, AllocError>
     ensures { IfOk result (λ made.
         map node_view made.items ≡ nodes_with_runs (map node_view nodes.items)) }
 {
@@ -131,10 +139,10 @@ pub fn keep_runs(alloc: Global, mut nodes: Vec<HtmlNode>) -> Result<Vec<HtmlNode
         if goes_on(&run, &node) {
             run.push(node)?;
         } else {
-            end_run(alloc, &mut made, &mut run)?;
+            end_run(alloc, reused, &mut made, &mut run)?;
             made.push(node)?;
         }
     }
-    end_run(alloc, &mut made, &mut run)?;
+    end_run(alloc, reused, &mut made, &mut run)?;
     Ok(made)
 }

@@ -19,13 +19,13 @@ number_of OutOfMemory = 0
 number_of (Casts fs) = first_fault_number fs.items
 number_of (BodyKind span) = 24
 
-abbrev pub first_span : List (CastFault × Span) → ℕ
-first_span [] = 0
-first_span (f ∷ fs) = f.1.0
+abbrev pub first_fault_span : List (CastFault × Span) → ℕ
+first_fault_span [] = 0
+first_fault_span (f ∷ fs) = f.1.0
 
 abbrev pub span_of : ConstructFault → ℕ
 span_of OutOfMemory = 0
-span_of (Casts fs) = first_span fs.items
+span_of (Casts fs) = first_fault_span fs.items
 span_of (BodyKind span) = span.0
 
 abbrev pub faults_view : List (CastFault × Span) → List (CastFault × ℕ)

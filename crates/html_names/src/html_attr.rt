@@ -159,6 +159,7 @@ impl PartialEq for HtmlAttr {
 
     ghost laws = { on_per (λ x. x) (cmp.partial_equiv_from_equiv nat_list_eq_equiv) };
 
+    #[inline(always)]
     fn eq(&self, other: &Self) -> bool {
         self.name.is_same(&other.name)
     }

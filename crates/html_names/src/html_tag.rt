@@ -220,6 +220,7 @@ impl PartialEq for HtmlTag {
 
     ghost laws = { on_per (λ x. x) (cmp.partial_equiv_from_equiv nat_list_eq_equiv) };
 
+    #[inline(always)]
     fn eq(&self, other: &Self) -> bool {
         self.name.is_same(&other.name)
     }

@@ -25,10 +25,10 @@ pub mod laws;
 pub mod lookup;
 mod name;
 mod name_table;
-pub mod output;
 pub mod property;
 mod refused;
 mod table;
+pub mod text_writer;
 
 pub use constants::{attr, tag};
 pub use fault::NameFault;

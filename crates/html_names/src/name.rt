@@ -42,6 +42,7 @@ impl Name {
         }
     }
 
+    #[inline(always)]
     pub(crate) fn is_same(&self, other: &Name) -> bool
         ensures { result ≡ same_held self.now other.now }
     {

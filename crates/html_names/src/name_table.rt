@@ -29,6 +29,7 @@ use number_map::NumberMap;
 /// let own = HtmlTag::intern(rt.alloc(), "my-el")?;
 /// assert_eq!(rt; names.tag(&tag::br)?, 0);
 /// assert_eq!(rt; names.tag(&own)?, 1);
+/// assert_eq!(rt; names.insert_tag(own)?, 1);
 /// assert_eq!(rt; names.tag(&tag::br)?, 0);
 /// assert_eq!(rt; names.attr(&attr::class)?, 0);
 /// assert!(rt; names.tags() == 2);
@@ -84,20 +85,29 @@ impl NameTable {
         if let Some(number) = self.tag_numbers.number_of(&tag.name) {
             return Ok(number);
         }
+        self.add_tag(tag.try_clone()?)
+    }
+
+    /// The number of a tag, as `tag` gives it. A tag without a number is moved into the table.
+    pub fn insert_tag(&mut self, tag: HtmlTag) -> Result<usize, AllocError>
+        ensures { Numbers result self.old.tags self.new.tags tag self.old self.new
+            (with_tag self.old tag) }
+    {
+        if let Some(number) = self.tag_numbers.number_of(&tag.name) {
+            return Ok(number);
+        }
         self.add_tag(tag)
     }
 
-    fn add_tag(&mut self, tag: &HtmlTag) -> Result<usize, AllocError>
-        requires { stands_in self.old.tags tag.now ≡ false }
-        ensures { Numbers result self.old.tags self.new.tags tag.now self.old self.new
-            (with_tag self.old tag.now) }
+    fn add_tag(&mut self, tag: HtmlTag) -> Result<usize, AllocError>
+        requires { stands_in self.old.tags tag ≡ false }
+        ensures { Numbers result self.old.tags self.new.tags tag self.old self.new
+            (with_tag self.old tag) }
     {
         let number = self.kept_tags.len();
-        self.kept_tags.push(tag.try_clone()?)?;
-        if let Err(fault) = self.tag_numbers.put(&tag.name, number) {
-            self.kept_tags.pop();
-            return Err(fault);
-        }
+        self.kept_tags.reserve(1)?;
+        self.tag_numbers.put(&tag.name, number)?;
+        self.kept_tags.push_reserved(tag);
         Ok(number)
     }
 
@@ -114,20 +124,29 @@ impl NameTable {
         if let Some(number) = self.attr_numbers.number_of(&attr.name) {
             return Ok(number);
         }
+        self.add_attr(attr.try_clone()?)
+    }
+
+    /// The number of an attribute, as `attr` gives it. An attribute without a number is moved into the table.
+    pub fn insert_attr(&mut self, attr: HtmlAttr) -> Result<usize, AllocError>
+        ensures { Numbers result self.old.attrs self.new.attrs attr self.old self.new
+            (with_attr self.old attr) }
+    {
+        if let Some(number) = self.attr_numbers.number_of(&attr.name) {
+            return Ok(number);
+        }
         self.add_attr(attr)
     }
 
-    fn add_attr(&mut self, attr: &HtmlAttr) -> Result<usize, AllocError>
-        requires { stands_in self.old.attrs attr.now ≡ false }
-        ensures { Numbers result self.old.attrs self.new.attrs attr.now self.old self.new
-            (with_attr self.old attr.now) }
+    fn add_attr(&mut self, attr: HtmlAttr) -> Result<usize, AllocError>
+        requires { stands_in self.old.attrs attr ≡ false }
+        ensures { Numbers result self.old.attrs self.new.attrs attr self.old self.new
+            (with_attr self.old attr) }
     {
         let number = self.kept_attrs.len();
-        self.kept_attrs.push(attr.try_clone()?)?;
-        if let Err(fault) = self.attr_numbers.put(&attr.name, number) {
-            self.kept_attrs.pop();
-            return Err(fault);
-        }
+        self.kept_attrs.reserve(1)?;
+        self.attr_numbers.put(&attr.name, number)?;
+        self.kept_attrs.push_reserved(attr);
         Ok(number)
     }
 

@@ -44,7 +44,7 @@ numbered_first n span rs h =
     [ true ↦ tt | false ↦ h ]
 
 casts_are : (fs : List (CastFault × Span))
-    → (construct.first_fault_number fs, construct.first_span fs)
+    → (construct.first_fault_number fs, construct.first_fault_span fs)
     ≡ construct_refusal (cast_faults (faults_view fs))
 casts_are [] = refl
 casts_are (f ∷ fs) = refl

@@ -11,7 +11,7 @@ use Rattle.html_tool_spell.specs.Marks.{at_start}
 use Rattle.html_tool_spell.specs.Reading.{IsRead, IsMissing, first_of, mark}
 use Rattle.html_tool_spell.specs.Refusals.{IsFirst}
 use Rattle.html_tool_spell.specs.Spelled as tree
-use Rattle.html_tool_spell.specs.SpelledDocuments.{Spelling, ToldView, spelling_from, names_refusals}
+use Rattle.html_tool_spell.specs.SpelledDocuments.{Spelling, DocumentPartsView, spelling_from, names_refusals}
 use Rattle.html_tool_spell.specs.SpelledItems.{list_at}
 use Rattle.html_tool_spell.specs.Spelling.{IsTold}
 use Rattle.html_tool_spell.specs.declared.fault.Fault.{Fault}
@@ -20,16 +20,16 @@ use Rattle.html_tool_spell.specs.declared.input_forms.Forms.TheVariants.{Documen
 use Rattle.html_tool_spell.specs.declared.reader.Reader.{Reader}
 
 -- the items, the footnotes and the head were read, and a name in them was refused
-pub told_bodies : (told : ToldView) (made others : ItemsView) (nodes : NodesView)
+pub told_bodies : (parts : DocumentPartsView) (made others : ItemsView) (nodes : NodesView)
     (s t u v : Reader) (code : ℕ) (span : Span)
     → mark s ≡ at_start → s.refused ≡ None → v.refused ≡ Some (code, span)
-    → IsRead items_refusals made (list_at Document told.items (mark s)) s t
-    → IsRead items_refusals others (list_at Document told.footnotes (mark t)) t u
-    → IsRead all_name_refusals nodes (tree.list_at told.head (mark u)) u v
-    → IsOkAnd (spelling_from told) (λ b. IsFirst (Refused code span) (names_refusals b))
-told_bodies told made others nodes s t u v code span first clear is a b c =
+    → IsRead items_refusals made (list_at Document parts.items (mark s)) s t
+    → IsRead items_refusals others (list_at Document parts.footnotes (mark t)) t u
+    → IsRead all_name_refusals nodes (tree.list_at parts.head (mark u)) u v
+    → IsOkAnd (spelling_from parts) (λ b. IsFirst (Refused code span) (names_refusals b))
+told_bodies parts made others nodes s t u v code span first clear is a b c =
     let whole : Spelling = record {
-      info = told.info;
+      info = parts.info;
       items = a.whole;
       footnotes = b.whole;
       head = c.whole;
@@ -46,7 +46,7 @@ told_bodies told made others nodes s t u v code span first clear is a b c =
           ∙ first_of_more s.refused bodies (all_name_refusals c.whole);
       same = λ h. refl;
     } in
-    let spelled : list_at Document told.items at_start ≡ Ok (a.whole, mark t) = rw (← first) a.spelled in
+    let spelled : list_at Document parts.items at_start ≡ Ok (a.whole, mark t) = rw (← first) a.spelled in
     rw (spelled, b.spelled, c.spelled)
     (refused_whole names_refusals whole (Ok (whole, mark v)) s v code span clear is r)
 

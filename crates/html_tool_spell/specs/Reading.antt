@@ -56,8 +56,8 @@ IsMissing wanted (BadInput place) = (wanted ≡ None) × (place ≡ Form 0)
 IsMissing wanted (Refused number span) = ⊥
 
 -- a part without names, which stands before the first list
-abbrev pub ReadsField : {A B : Type 0} → (view : A → B) → Result A Fault → Option B → Type 0
-ReadsField view r wanted = MatchResult r (λ a. wanted ≡ Some (view a)) (IsMissing wanted)
+abbrev pub ReadsMember : {A B : Type 0} → (view : A → B) → Result A Fault → Option B → Type 0
+ReadsMember view r wanted = MatchResult r (λ a. wanted ≡ Some (view a)) (IsMissing wanted)
 
 -- the JSON value of a text was read, or there is none, and a place in the text is told; memory aside
 abbrev pub IsNoJson : Option Data → Fault → Type 0

@@ -19,13 +19,13 @@ use Rattle.html_tool_spell.specs.Marks.{Mark, at_start}
 use Rattle.html_tool_spell.specs.NameRefusals.{Refusal, items_refusals, all_name_refusals}
 use Rattle.html_tool_spell.specs.Spelled as tree
 use Rattle.html_tool_spell.specs.SpelledItems.{list_at}
-use Rattle.html_tool_spell.specs.declared.field.Field.{Field}
-use Rattle.html_tool_spell.specs.declared.field.Field.TheVariants.{Title, Description, Authors, Keywords, Lang, Region}
+use Rattle.html_tool_spell.specs.declared.info_members.InfoMember.{InfoMember}
+use Rattle.html_tool_spell.specs.declared.info_members.InfoMember.TheVariants.{Title, Description, Authors, Keywords, Lang, Region}
 use Rattle.html_tool_spell.specs.declared.input_forms.Forms.TheVariants.{Document}
 
--- the field of that name
-abbrev pub named_field : (name : List ℕ) → Option Field
-named_field k = if bytes_eq k (codes "title") then Some Title
+-- the member of that name
+abbrev pub named_member : (name : List ℕ) → Option InfoMember
+named_member k = if bytes_eq k (codes "title") then Some Title
     else (if bytes_eq k (codes "description") then Some Description
     else (if bytes_eq k (codes "authors") then Some Authors
     else (if bytes_eq k (codes "keywords") then Some Keywords
@@ -45,54 +45,56 @@ abbrev pub with_region : Option LocaleView → (region : List ℕ) → Option Lo
 with_region None region = None
 with_region (Some l) region = Some (record l { region = Some region })
 
--- what is known, and one field more
-abbrev pub with_field : InfoView → Field → Data → Option InfoView
-with_field info Title d = option_map (λ t. record info { title = Some t }) (text_at d)
-with_field info Description d = option_map (λ t. record info { description = Some t }) (text_at d)
-with_field info Authors d = option_map (λ ts. record info { author = ts }) (texts_at d)
-with_field info Keywords d = option_map (λ ts. record info { keywords = ts }) (texts_at d)
-with_field info Lang d = option_map (λ t. record info { locale = Some (locale_of t) }) (text_at d)
-with_field info Region d = option_and_then (λ t. option_map (λ l. record info { locale = Some l })
-    (with_region info.locale t)) (text_at d)
+-- what is known, and one member more of it
+abbrev pub with_info_member : InfoView → InfoMember → Data → Option InfoView
+with_info_member info Title d = option_map (λ t. record info { title = Some t }) (text_at d)
+with_info_member info Description d =
+    option_map (λ t. record info { description = Some t }) (text_at d)
+with_info_member info Authors d = option_map (λ ts. record info { author = ts }) (texts_at d)
+with_info_member info Keywords d = option_map (λ ts. record info { keywords = ts }) (texts_at d)
+with_info_member info Lang d =
+    option_map (λ t. record info { locale = Some (locale_of t) }) (text_at d)
+with_info_member info Region d = option_and_then (λ t.
+    option_map (λ l. record info { locale = Some l }) (with_region info.locale t)) (text_at d)
 
--- what an object tells of a document: what is known, and the values of its items, its footnotes and its
--- head
-pub record ToldView : Type 0 where
+-- the parts of a document in an object: what is known, and the values of its items, its footnotes
+-- and its head
+pub record DocumentPartsView : Type 0 where
   pub info : InfoView
   pub items : Data
   pub footnotes : Data
   pub head : Data
 
 -- nothing is known, and all lists are empty
-abbrev pub nothing_told : ToldView
-nothing_told = record {
+abbrev pub no_parts : DocumentPartsView
+no_parts = record {
   info = no_info;
   items = array no_items;
   footnotes = array no_items;
   head = array no_items;
 }
 
--- what is told, and one field more
-abbrev pub with_known : ToldView → (name : List ℕ) → Data → Option ToldView
-with_known told name d = option_map (λ info. record told { info = info })
-    (option_and_then (λ field. with_field told.info field d) (named_field name))
+-- the parts, with one member more of what is known
+abbrev pub with_known : DocumentPartsView → (name : List ℕ) → Data → Option DocumentPartsView
+with_known parts name d = option_map (λ info. record parts { info = info })
+    (option_and_then (λ member. with_info_member parts.info member d) (named_member name))
 
--- what is told, and one member more
-abbrev pub with_member : ToldView → (name : List ℕ) → Data → Option ToldView
-with_member told name d = if bytes_eq name (codes "items") then Some (record told { items = d })
-    else (if bytes_eq name (codes "footnotes") then Some (record told { footnotes = d })
-    else (if bytes_eq name (codes "head") then Some (record told { head = d })
-    else with_known told name d))
+-- the parts, and one member more
+abbrev pub with_member : DocumentPartsView → (name : List ℕ) → Data → Option DocumentPartsView
+with_member parts name d = if bytes_eq name (codes "items") then Some (record parts { items = d })
+    else (if bytes_eq name (codes "footnotes") then Some (record parts { footnotes = d })
+    else (if bytes_eq name (codes "head") then Some (record parts { head = d })
+    else with_known parts name d))
 
--- what is told, and the members of an object more, which stand in the order of their names: "lang"
+-- the parts, and the members of an object more, which stand in the order of their names: "lang"
 -- before "region"
-abbrev pub with_members : ToldView → Members → Option ToldView
-with_members told no_members = Some told
-with_members told (member name d ms) =
-    option_and_then (λ more. with_members more ms) (with_member told name d)
+abbrev pub with_members : DocumentPartsView → Members → Option DocumentPartsView
+with_members parts no_members = Some parts
+with_members parts (member name d ms) =
+    option_and_then (λ more. with_members more ms) (with_member parts name d)
 
-abbrev pub told_at : Data → Option ToldView
-told_at d = option_and_then (with_members nothing_told) (as_object d)
+abbrev pub parts_at : Data → Option DocumentPartsView
+parts_at d = option_and_then (with_members no_parts) (as_object d)
 
 -- what is known, the items, the footnotes, and the nodes for the head
 pub record Spelling : Type 0 where
@@ -113,11 +115,11 @@ with_head info items notes head m = mapped
     (tree.list_at head m)
 
 -- the items, the footnotes and the head in a row
-abbrev pub spelling_from : ToldView → Left Spelling
-spelling_from told = and_then (λ items. and_then (λ notes.
-    with_head told.info items.0 notes.0 told.head notes.1)
-    (list_at Document told.footnotes items.1)) (list_at Document told.items at_start)
+abbrev pub spelling_from : DocumentPartsView → Left Spelling
+spelling_from parts = and_then (λ items. and_then (λ notes.
+    with_head parts.info items.0 notes.0 parts.head notes.1)
+    (list_at Document parts.footnotes items.1)) (list_at Document parts.items at_start)
 
 -- the document that a value spells
 abbrev pub spelled_document : Data → Left Spelling
-spelled_document d = from_part 0 spelling_from (told_at d)
+spelled_document d = from_part 0 spelling_from (parts_at d)

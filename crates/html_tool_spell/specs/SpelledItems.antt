@@ -13,7 +13,7 @@ use Rattle.std.specs.Prelude.{ℕ, Bool, true, false, List, [], None, Some, Opti
 use Rattle.serde_json.specs.Data.{Data, null, array, Items, no_items, item}
 use Rattle.serde_json.specs.Find.{as_array}
 use Rattle.html_dom_tree.specs.Tree.{TextPair, starts}
-use Rattle.html_values_css.specs.Properties.{with_value}
+use Rattle.html_values_css.specs.Properties.{with_property}
 use Rattle.html_flow_convert.specs.Items as flow
 use Rattle.html_flow_convert.specs.Items.{ElemHead, ItemView, tag_item, element_item, space_item, text_item, hole_item, break_item, box_item, block_item, ItemsView, RoleView, inheriting, present}
 use Rattle.html_tool_spell.specs.Fields.{text_at, pair_at, pairs_at, text_form, start_form, end_form, no_fields, leaf, numbered_leaf, named_leaf, element_from, row_from}
@@ -47,7 +47,7 @@ with_part p items = flow.item p.0 p.1 items
 abbrev pub with_css : List TextPair → Items → Option (List TextPair)
 with_css css no_items = Some css
 with_css css (item d ds) =
-    option_and_then (λ p. with_css (with_value css p.0 p.1) ds) (pair_at d)
+    option_and_then (λ p. with_css (with_property css p.0 p.1) ds) (pair_at d)
 
 abbrev pub css_at : Data → Option (List TextPair)
 css_at d = option_and_then (with_css []) (as_array d)

@@ -12,9 +12,9 @@ use Rattle.html_flow_convert.specs.declared.item.Pair.{Pair}
 use Rattle.html_tool_spell.specs.LeftForms.{Left, IsLeft}
 use Rattle.html_tool_spell.specs.NameRefusals.{Refusal, element_refusals, items_refusals}
 use Rattle.html_tool_spell.specs.Refusals.{IsFirst}
-use Rattle.html_tool_spell.specs.SpelledDocuments.{Spelling, ToldView, names_refusals}
+use Rattle.html_tool_spell.specs.SpelledDocuments.{Spelling, DocumentPartsView, names_refusals}
 use Rattle.html_tool_spell.specs.declared.documents.SpelledDocument.{SpelledDocument}
-use Rattle.html_tool_spell.specs.declared.documents.Told.{Told}
+use Rattle.html_tool_spell.specs.declared.documents.DocumentParts.{DocumentParts}
 use Rattle.html_tool_spell.specs.declared.fault.Fault.{Fault}
 use Rattle.html_tool_spell.specs.declared.fault.Fault.TheVariants.{OutOfMemory, BadInput, Refused}
 
@@ -38,12 +38,12 @@ GivesElement = GivesSpelled element_view element_refusals
 abbrev pub GivesItems : Result (Vec Pair Global) Fault → Left ItemsView → Type 0
 GivesItems = GivesSpelled (λ pairs. items_view pairs.items) items_refusals
 
-abbrev pub told_view : Told → ToldView
-told_view told = record {
-  info = info_view told.info;
-  items = view told.items;
-  footnotes = view told.footnotes;
-  head = view told.head;
+abbrev pub document_parts_view : DocumentParts → DocumentPartsView
+document_parts_view parts = record {
+  info = info_view parts.info;
+  items = view parts.items;
+  footnotes = view parts.footnotes;
+  head = view parts.head;
 }
 
 abbrev pub spelling_view : SpelledDocument → Spelling

@@ -3,13 +3,13 @@
 
 ghost use Rattle.std.specs.Prelude.{◌≡◌};
 ghost use Rattle.serde_json.specs.View.{view};
-ghost use Rattle.html_tool_spell.specs.Reading.{ReadsField};
-ghost use Rattle.html_tool_spell.specs.SpelledDocuments.{nothing_told, spelled_document, spelling_from};
-ghost use Rattle.html_tool_spell.specs.SpelledDocuments.{told_at, with_known, with_member};
-ghost use Rattle.html_tool_spell.specs.Spelling.{GivesSpelledDocument, told_view};
+ghost use Rattle.html_tool_spell.specs.Reading.{ReadsMember};
+ghost use Rattle.html_tool_spell.specs.SpelledDocuments.{no_parts, spelled_document, spelling_from};
+ghost use Rattle.html_tool_spell.specs.SpelledDocuments.{parts_at, with_known, with_member};
+ghost use Rattle.html_tool_spell.specs.Spelling.{GivesSpelledDocument, document_parts_view};
 
 use crate::fault::{Fault, InputPlace};
-use crate::field::{named_field, with_field};
+use crate::info_members::{named_member, with_info_member};
 use crate::input_forms::Forms;
 use crate::items::list_of;
 use crate::nodes;
@@ -20,20 +20,20 @@ use html_flow_convert::Pair;
 use serde_json::Value;
 use std::alloc::Global;
 
-/// What an object tells of a document.
+/// The parts of a document: what is known of it, and the values of its items, footnotes and head.
 #[derive(Drop)]
-pub(crate) struct Told {
+pub(crate) struct DocumentParts {
     info: DocumentInfo,
     items: Value,
     footnotes: Value,
     head: Value,
 }
 
-impl Told {
-    fn new(alloc: Global) -> Told
-        ensures { told_view result ≡ nothing_told }
+impl DocumentParts {
+    fn new(alloc: Global) -> DocumentParts
+        ensures { document_parts_view result ≡ no_parts }
     {
-        Told {
+        DocumentParts {
             info: DocumentInfo::new(alloc),
             items: Value::Array(Vec::new(alloc)),
             footnotes: Value::Array(Vec::new(alloc)),
@@ -42,45 +42,57 @@ impl Told {
     }
 }
 
-fn told_at(alloc: Global, value: Value) -> Result<Told, Fault>
-    ensures { ReadsField told_view result (told_at (view value)) }
+fn parts_at(alloc: Global, value: Value) -> Result<DocumentParts, Fault>
+    ensures { ReadsMember document_parts_view result (parts_at (view value)) }
 {
     let Value::Object(members) = value else {
         return Err(Fault::BadInput(InputPlace::Form(0)));
     };
-    let mut told = Told::new(alloc);
+    let mut parts = DocumentParts::new(alloc);
     for (name, value) in members {
-        told = with_member(alloc, told, &name, value)?;
+        parts = with_member(alloc, parts, &name, value)?;
     }
-    Ok(told)
+    Ok(parts)
 }
 
-fn with_member(alloc: Global, told: Told, name: &str, value: Value) -> Result<Told, Fault>
-    ensures { ReadsField told_view result (with_member (told_view told) name.now (view value)) }
+fn with_member(
+    alloc: Global,
+    parts: DocumentParts,
+    name: &str,
+    value: Value,
+) -> Result<DocumentParts, Fault>
+    ensures { ReadsMember document_parts_view result
+        (with_member (document_parts_view parts) name.now (view value)) }
 {
     match name {
-        "items" => Ok(Told {
+        "items" => Ok(DocumentParts {
             items: value,
-            ..told
+            ..parts
         }),
-        "footnotes" => Ok(Told {
+        "footnotes" => Ok(DocumentParts {
             footnotes: value,
-            ..told
+            ..parts
         }),
-        "head" => Ok(Told {
+        "head" => Ok(DocumentParts {
             head: value,
-            ..told
+            ..parts
         }),
-        _ => with_known(alloc, told, name, value),
+        _ => with_known(alloc, parts, name, value),
     }
 }
 
-fn with_known(alloc: Global, told: Told, name: &str, value: Value) -> Result<Told, Fault>
-    ensures { ReadsField told_view result (with_known (told_view told) name.now (view value)) }
+fn with_known(
+    alloc: Global,
+    parts: DocumentParts,
+    name: &str,
+    value: Value,
+) -> Result<DocumentParts, Fault>
+    ensures { ReadsMember document_parts_view result
+        (with_known (document_parts_view parts) name.now (view value)) }
 {
-    let field = named_field(name).ok_or(Fault::BadInput(InputPlace::Form(0)))?;
-    let info = with_field(alloc, told.info, field, value)?;
-    Ok(Told { info, ..told })
+    let member = named_member(name).ok_or(Fault::BadInput(InputPlace::Form(0)))?;
+    let info = with_info_member(alloc, parts.info, member, value)?;
+    Ok(DocumentParts { info, ..parts })
 }
 
 /// What a value spells as a document.
@@ -102,19 +114,19 @@ pub struct SpelledDocument {
 pub fn document_in(alloc: Global, value: Value) -> Result<SpelledDocument, Fault>
     ensures { GivesSpelledDocument result (spelled_document (view value)) }
 {
-    let told = told_at(alloc, value)?;
-    document_by(alloc, told)
+    let parts = parts_at(alloc, value)?;
+    document_by(alloc, parts)
 }
 
-fn document_by(alloc: Global, told: Told) -> Result<SpelledDocument, Fault>
-    ensures { GivesSpelledDocument result (spelling_from (told_view told)) }
+fn document_by(alloc: Global, parts: DocumentParts) -> Result<SpelledDocument, Fault>
+    ensures { GivesSpelledDocument result (spelling_from (document_parts_view parts)) }
 {
-    let Told {
+    let DocumentParts {
         info,
         items,
         footnotes,
         head,
-    } = told;
+    } = parts;
     let mut reader = Reader::new(alloc);
     let items = list_of(&mut reader, Forms::Document, items)?;
     let footnotes = list_of(&mut reader, Forms::Document, footnotes)?;

@@ -51,10 +51,10 @@ fn pair_of(parts: Vec<Value>) -> Option<(String, String)>
         ≡ pair_form (items_view parts.items) }
 {
     let [name, value] = parts_of::<2>(parts)?;
-    texts_at(name, value)
+    text_pair(name, value)
 }
 
-fn texts_at(name: Value, value: Value) -> Option<(String, String)>
+fn text_pair(name: Value, value: Value) -> Option<(String, String)>
     ensures { option_map {U = TextPair} (λ p. (text_view p.0, text_view p.1)) result
         ≡ option_and_then (λ n. option_map (λ v. (n, v)) (text_at (view value)))
         (text_at (view name)) }

@@ -11,8 +11,8 @@
 
 mod documents;
 mod fault;
-mod field;
 mod fields;
+mod info_members;
 mod input_forms;
 mod items;
 mod json;

@@ -11,7 +11,7 @@ ghost use Rattle.html_values.specs.Values.{value_view};
 
 use crate::text::empty;
 use crate::value::Value;
-use html_names::output::Output;
+use html_names::text_writer::TextWriter;
 use html_values_css::CastFault;
 use std::alloc::{AllocError, Global};
 
@@ -75,7 +75,7 @@ pub(crate) fn without_separator(text: String, separator: char) -> Result<String,
 }
 
 /// Appends the separator, and a space after a comma.
-fn push_separator(text: &mut Output, separator: char) -> Result<(), AllocError>
+fn push_separator(text: &mut TextWriter, separator: char) -> Result<(), AllocError>
     ensures { OnOk result (text.new ≡ text.old ++ list_separator_text separator) }
 {
     text.push(separator)?;
@@ -88,7 +88,7 @@ fn push_separator(text: &mut Output, separator: char) -> Result<(), AllocError>
 pub(crate) fn join(alloc: Global, texts: &[String], separator: char) -> Result<String, AllocError>
     ensures { IsText result (join_by (λ t. t) (list_separator_text separator) (texts_view texts.now)) }
 {
-    let mut text = Output::new(alloc);
+    let mut text = TextWriter::new(alloc);
     if let [first, others @ ..] = texts {
         text.push_str(first.as_str())?;
         push_others(&mut text, others, separator)?;
@@ -96,7 +96,7 @@ pub(crate) fn join(alloc: Global, texts: &[String], separator: char) -> Result<S
     Ok(text.into_string())
 }
 
-fn push_others(text: &mut Output, others: &[String], separator: char) -> Result<(), AllocError>
+fn push_others(text: &mut TextWriter, others: &[String], separator: char) -> Result<(), AllocError>
     ensures { OnOk result (text.new ≡ text.old
         ++ flat_map (λ t. list_separator_text separator ++ t) (texts_view others.now)) }
 {

@@ -6,7 +6,7 @@ ghost use Rattle.html_values.specs.Attributes.{IsText};
 
 use crate::into_attr::IntoAttr;
 use crate::text::ascii;
-use html_names::output::Output;
+use html_names::text_writer::TextWriter;
 use std::alloc::{AllocError, Global};
 
 const MINUTE: u64 = 60;
@@ -25,7 +25,7 @@ const WEEK: u64 = 7 * DAY;
 pub struct Duration(pub u64);
 
 /// Appends a space, unless the text is empty.
-fn push_gap(text: &mut Output) -> Result<(), AllocError>
+fn push_gap(text: &mut TextWriter) -> Result<(), AllocError>
     ensures { OnOk result (text.new ≡ gap_after text.old) }
 {
     match text.as_str().chars().next() {
@@ -35,7 +35,7 @@ fn push_gap(text: &mut Output) -> Result<(), AllocError>
 }
 
 /// Appends a count with its unit, after a space unless it is the first, if it is not zero.
-fn push_count(text: &mut Output, count: u64, unit: &str) -> Result<(), AllocError>
+fn push_count(text: &mut TextWriter, count: u64, unit: &str) -> Result<(), AllocError>
     requires { IsTrue (is_ascii unit.now) }
     ensures { OnOk result
         (text.new ≡ texts_with_gap text.old (count_text count unit.now)) }
@@ -52,7 +52,7 @@ fn push_count(text: &mut Output, count: u64, unit: &str) -> Result<(), AllocErro
 fn counts(alloc: Global, seconds: u64) -> Result<String, AllocError>
     ensures { IsText result (counts_text seconds) }
 {
-    let mut text = Output::new(alloc);
+    let mut text = TextWriter::new(alloc);
     push_count(&mut text, seconds / WEEK, "w")?;
     push_count(&mut text, seconds / DAY % 7, "d")?;
     push_count(&mut text, seconds / HOUR % 24, "h")?;

@@ -4,7 +4,7 @@ ghost use Rattle.html_names.specs.Texts.{text_view};
 ghost use Rattle.html_values.specs.AttrTexts.{size_text, candidate_text};
 
 use crate::into_attr::IntoAttr;
-use html_names::output::Output;
+use html_names::text_writer::TextWriter;
 use std::alloc::{AllocError, Global};
 use std::num::NonZeroU64;
 
@@ -31,7 +31,7 @@ impl IntoAttr for IconSize {
     ghost attr_text = { λ size. size_text size.width size.height };
 
     fn into_attr(&self, alloc: Global) -> Result<String, AllocError> {
-        let mut text = Output::new(alloc);
+        let mut text = TextWriter::new(alloc);
         text.push_decimal(self.width)?;
         text.push_ascii("x")?;
         text.push_decimal(self.height)?;
@@ -44,7 +44,7 @@ impl IntoAttr for ImageCandidate {
         (option_map non_zero_u64_get image.width) };
 
     fn into_attr(&self, alloc: Global) -> Result<String, AllocError> {
-        let mut text = Output::new(alloc);
+        let mut text = TextWriter::new(alloc);
         text.push_str(self.src.as_str())?;
         if let Some(width) = self.width {
             text.push_ascii(" ")?;

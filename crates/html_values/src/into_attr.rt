@@ -7,7 +7,7 @@ ghost use Rattle.html_values.specs.AttrTexts.{dir_text};
 ghost use Rattle.html_values.specs.Attributes.{IsText};
 
 use crate::text::ascii;
-use html_names::output::Output;
+use html_names::text_writer::TextWriter;
 use html_values_css::{Dir, Rgba, ToCss};
 use std::alloc::{AllocError, Global};
 use std::num::{NonZeroI64, NonZeroU64};
@@ -70,7 +70,7 @@ impl IntoAttr for char {
     ghost attr_text = { λ c. c ∷ [] };
 
     fn into_attr(&self, alloc: Global) -> Result<String, AllocError> {
-        let mut text = Output::new(alloc);
+        let mut text = TextWriter::new(alloc);
         text.push(*self)?;
         Ok(text.into_string())
     }
@@ -80,7 +80,7 @@ impl IntoAttr for u64 {
     ghost attr_text = { decimal };
 
     fn into_attr(&self, alloc: Global) -> Result<String, AllocError> {
-        let mut text = Output::new(alloc);
+        let mut text = TextWriter::new(alloc);
         text.push_decimal(*self)?;
         Ok(text.into_string())
     }
@@ -98,7 +98,7 @@ impl IntoAttr for i64 {
     ghost attr_text = { signed_decimal };
 
     fn into_attr(&self, alloc: Global) -> Result<String, AllocError> {
-        let mut text = Output::new(alloc);
+        let mut text = TextWriter::new(alloc);
         if *self < 0 {
             text.push('-')?;
         }

@@ -4,7 +4,7 @@ ghost use Rattle.html_values.specs.AttrTexts.{date_text, time_text, seconds_text
 ghost use Rattle.html_values_css.specs.declared.cast_fault.CastFault.TheVariants.{YearRange};
 
 use crate::into_attr::IntoAttr;
-use html_names::output::Output;
+use html_names::text_writer::TextWriter;
 use html_values_css::CastFault;
 use jiff::civil::{Date, DateTime, Time};
 use std::alloc::{AllocError, Global};
@@ -64,7 +64,7 @@ fn is_year(year: i16) -> bool
     (1..=9999).contains(&year)
 }
 
-fn push_date(text: &mut Output, date: &Date) -> Result<(), AllocError>
+fn push_date(text: &mut TextWriter, date: &Date) -> Result<(), AllocError>
     requires { IsTrue (year_fits date.now.year) }
     ensures { OnOk result (text.new ≡ text.old ++ date_text date.now) }
 {
@@ -77,7 +77,7 @@ fn push_date(text: &mut Output, date: &Date) -> Result<(), AllocError>
     text.push_two_digits(date.day().unsigned_abs())
 }
 
-fn push_time(text: &mut Output, time: &Time) -> Result<(), AllocError>
+fn push_time(text: &mut TextWriter, time: &Time) -> Result<(), AllocError>
     ensures { OnOk result (text.new ≡ text.old ++ time_text time.now) }
 {
     text.push_two_digits(time.hour().unsigned_abs())?;
@@ -87,7 +87,7 @@ fn push_time(text: &mut Output, time: &Time) -> Result<(), AllocError>
 }
 
 /// Appends seconds, unless they are zero.
-fn push_seconds(text: &mut Output, seconds: u8) -> Result<(), AllocError>
+fn push_seconds(text: &mut TextWriter, seconds: u8) -> Result<(), AllocError>
     requires { seconds < 100 }
     ensures { OnOk result (text.new ≡ text.old ++ seconds_text seconds) }
 {
@@ -104,7 +104,7 @@ impl IntoAttr for Datetime {
     ghost attr_text = { λ d. moment_text d.moment };
 
     fn into_attr(&self, alloc: Global) -> Result<String, AllocError> {
-        let mut text = Output::new(alloc);
+        let mut text = TextWriter::new(alloc);
         match &self.moment {
             Moment::Date(date) => push_date(&mut text, date)?,
             Moment::Time(time) => push_time(&mut text, time)?,

@@ -1,17 +1,20 @@
 -- The byte order of names.
-use Rattle.std.proofs.Common.{◌≡◌, ℕ, List, [], ap, ◌∙◌, chars, IsUtf8, String, Global, Result, Ok, Err}
+use Rattle.std.proofs.Common.{◌≡◌, ℕ, zero, suc, ◌<◌, ◌≤◌, List, [], ◌∷◌, arith, ap, ◌∙◌, chars, IsUtf8, String, Global, Result, Ok, Err}
 use Rattle.std.specs.Result.{OnOk, OnErr}
+use Rattle.std.specs.List.{AllWithin, HoldsAt}
 use Rattle.std.specs.List.Sorted.{IsStrictlySortedBy}
+use Rattle.std.specs.declared.cmp.Ordering.TheVariants.{Less, Equal, Greater}
 use Rattle.html_names.specs.Texts.{TextPair}
 use Rattle.html_names.specs.declared.refused.Refused.{Refused}
-use Rattle.html_values_css.proofs.Listing.{listed_with, listed_without}
+use Rattle.html_values_css.proofs.Listing.{drop_found, drop_gap, listed_with, listed_without}
 use Rattle.std.specs.Cmp.{IsTotalOrder}
 use Rattle.std.specs.Cmp.Lexicographic.{slice_cmp, lists_total}
 use Rattle.std.specs.Ordering.{nat_cmp}
 use Rattle.std.proofs.lemmas.Cmp.{on_total, nat_cmp_total}
 use Rattle.std.proofs.lemmas.Str.{encodes-chars}
 use lib.Utf8.{encodes}
-use Rattle.html_values_css.specs.Properties.{by_name, IsListed, with_value, without}
+use Rattle.html_values_css.specs.Properties.{by_name, IsListed, list_view, property_name, property_view, with_property, without}
+use Rattle.html_values_css.specs.declared.property.Property.{Property}
 
 pub by_name_total : IsTotalOrder by_name
 by_name_total = on_total encodes (lists_total nat_cmp_total)
@@ -28,10 +31,26 @@ listed_none = tt
 -- an edit keeps the order
 pub put_listed : (r : Result (Unit {0}) (Refused (String Global))) (old new : List TextPair)
     (name value : List ℕ) → IsListed old
-    → OnOk r (new ≡ with_value old name value) → OnErr r (new ≡ old) → IsListed new
+    → OnOk r (new ≡ with_property old name value) → OnErr r (new ≡ old) → IsListed new
 put_listed (Ok u) old new name value s p q = rw p (listed_with by_name_total name value old s)
 put_listed (Err e) old new name value s p q = rw q s
 
 pub out_listed : (old new : List TextPair) (name : List ℕ) → IsListed old → new ≡ without old name
     → IsListed new
 out_listed old new name s p = rw p (listed_without by_name name old s)
+
+-- a name among one
+pub only_found : (p : Property) (name : List ℕ) (at : ℕ) → at < 1
+    → AllWithin (λ q. by_name name (property_name q) ≡ Greater) (p ∷ []) 0 at
+    → HoldsAt (λ q. by_name name (property_name q) ≡ Equal) (p ∷ []) at
+    → without (list_view (p ∷ [])) name ≡ []
+only_found p name zero within above equal =
+    drop_found by_name_total property_view (p ∷ []) name zero within above equal
+only_found p name (suc at) within above equal = absurd (omega (arith, within))
+
+pub only_missed : (p : Property) (name : List ℕ) (at : ℕ) → at ≤ 1
+    → AllWithin (λ q. by_name name (property_name q) ≡ Greater) (p ∷ []) 0 at
+    → AllWithin (λ q. by_name name (property_name q) ≡ Less) (p ∷ []) at 1
+    → without (list_view (p ∷ [])) name ≡ list_view (p ∷ [])
+only_missed p name at within above below =
+    drop_gap by_name_total property_view (p ∷ []) name at within above below

@@ -23,7 +23,7 @@ use Rattle.std.proofs.lemmas.Slice.Eq.{bytes_eq-Decides}
 use Rattle.std.proofs.lemmas.Str.{encodes_same}
 use lib.Utf8.{encodes}
 use Rattle.html_names.specs.Texts.{TextPair}
-use Rattle.html_values_css.specs.Properties.{by_name, IsListed, value_of, with_value, inline_text}
+use Rattle.html_values_css.specs.Properties.{by_name, IsListed, value_of, with_property, inline_text}
 use Rattle.html_values_css.specs.PropertyLaws.{properties_after, AnyOrder, PushSets, RemoveClears, ValuesDecide}
 use Rattle.html_values_css.proofs.Names.{by_name_total}
 use Rattle.html_values_css.proofs.Listing.{listed_with}
@@ -53,15 +53,15 @@ chosen Less a b c = refl
 chosen Equal a b c = refl
 chosen Greater a b c = refl
 
-put_is : (ps : List TextPair) (k v : List ℕ) → put by_name k v ps ≡ with_value ps k v
+put_is : (ps : List TextPair) (k v : List ℕ) → put by_name k v ps ≡ with_property ps k v
 put_is [] k v = refl
 put_is (p ∷ ps) k v = ap (λ t. by_order (by_name k p.0) ((k, v) ∷ p ∷ ps) ((p.0, v) ∷ ps) (p ∷ t))
     (put_is ps k v) ∙ chosen (by_name k p.0) ((k, v) ∷ p ∷ ps) ((p.0, v) ∷ ps)
-    (p ∷ with_value ps k v)
+    (p ∷ with_property ps k v)
 
 pub push_sets : PushSets
 push_sets ps k v q =
-    sym (find_is (with_value ps k v) q) ∙ ap (find by_name q) (sym (put_is ps k v))
+    sym (find_is (with_property ps k v) q) ∙ ap (find by_name q) (sym (put_is ps k v))
     ∙ find-put by_name by_name_total q k v ps
     ∙ ap (λ b. cond b (Some v) (find by_name q ps)) (same_test q k)
     ∙ ap (cond (bytes_eq q k) (Some v)) (find_is ps q)
@@ -93,7 +93,7 @@ remove_clears ps k q s =
     (IsDistinct-from_sorted by_name (keys_of ps) s)
     ∙ ap (λ b. cond b None (value_of ps q)) (ties_equiv.symm k q ∙ same_test q k)
 
-set_to : (ps : List TextPair) (p : TextPair) (q : List ℕ) → value_of (with_value ps p.0 p.1) q
+set_to : (ps : List TextPair) (p : TextPair) (q : List ℕ) → value_of (with_property ps p.0 p.1) q
     ≡ cond (eq_by_cmp by_name q p.0) (Some p.1) (value_of ps q)
 set_to ps p q = push_sets ps p.0 p.1 q ∙ ap (λ b. cond b (Some p.1) (value_of ps q))
     (sym (same_test q p.0))
@@ -105,12 +105,12 @@ last_value [] old q d = refl
 last_value (p ∷ ps) old q d =
     let absent : eq_by_cmp by_name q p.0 ≡ true → value_of ps q ≡ None
     = λ h. lookup-none (is_at (by_name q)) ps (none_past_head ties_equiv q p ps d h) in
-    last_value ps (with_value old p.0 p.1) q (IsDistinct-tail (eq_by_cmp by_name) p.0 (keys_of ps)
+    last_value ps (with_property old p.0 p.1) q (IsDistinct-tail (eq_by_cmp by_name) p.0 (keys_of ps)
     d) ∙ ap (option_or (value_of ps q)) (set_to old p q) ∙ grind (arith, absent)
 
 still_listed : (ps old : List TextPair) → IsListed old → IsListed (properties_after old ps)
 still_listed [] old s = s
-still_listed (p ∷ ps) old s = still_listed ps (with_value old p.0 p.1)
+still_listed (p ∷ ps) old s = still_listed ps (with_property old p.0 p.1)
     (listed_with by_name_total p.0 p.1 old s)
 
 -- a value in one order is the value in another

@@ -11,7 +11,10 @@ use Rattle.std.specs.Ordering.{nat_cmp}
 use Rattle.std.specs.Cmp.Lexicographic.{slice_cmp}
 use lib.Utf8.{encodes}
 use Rattle.html_names.specs.Texts.{text_view, TextPair}
+use Rattle.std.specs.Arc.{arc_value}
 use Rattle.html_values_css.specs.declared.property.Property.{Property}
+use Rattle.html_values_css.specs.declared.property_list.PropertyList.{PropertyList}
+use Rattle.html_values_css.specs.declared.property_list.PropertyList.TheVariants as several
 
 abbrev pub property_view : Property → TextPair
 property_view p = (text_view p.name, text_view p.value)
@@ -21,6 +24,11 @@ property_name p = text_view p.name
 
 abbrev pub list_view : List Property → List TextPair
 list_view = map property_view
+
+abbrev pub items_of : PropertyList → List Property
+items_of several.None = []
+items_of (several.One property) = arc_value property ∷ []
+items_of (several.Some list) = list.value.items
 
 -- the byte order of names
 abbrev pub by_name : List ℕ → List ℕ → Ordering
@@ -35,8 +43,8 @@ abbrev pub value_of : List TextPair → List ℕ → Option (List ℕ)
 value_of pairs name = lookup (is_at (by_name name)) pairs
 
 -- with the value of a name, at the index for its order, or instead of the value that the name had
-abbrev pub with_value : List TextPair → List ℕ → List ℕ → List TextPair
-with_value pairs name value = insert_entry by_name pairs name value
+abbrev pub with_property : List TextPair → List ℕ → List ℕ → List TextPair
+with_property pairs name value = insert_entry by_name pairs name value
 
 -- without a name
 abbrev pub without : List TextPair → List ℕ → List TextPair

@@ -4,12 +4,12 @@ use Rattle.std.specs.List.{IsDistinct}
 use Rattle.std.specs.List.Sorted.{IsPermutation}
 use Rattle.std.specs.Map.{keys_of}
 use Rattle.html_names.specs.Texts.{TextPair}
-use Rattle.html_values_css.specs.Properties.{IsListed, value_of, with_value, without, inline_text}
+use Rattle.html_values_css.specs.Properties.{IsListed, value_of, with_property, without, inline_text}
 
 -- the properties after pushing these, one after another
 abbrev pub properties_after : List TextPair → List TextPair → List TextPair
 properties_after old [] = old
-properties_after old (p ∷ ps) = properties_after (with_value old p.0 p.1) ps
+properties_after old (p ∷ ps) = properties_after (with_property old p.0 p.1) ps
 
 -- pushed in any order, distinct names give the same properties, and so the same text
 abbrev pub AnyOrder : Type 0
@@ -21,7 +21,7 @@ AnyOrder = (old first second : List TextPair) → IsListed old → IsDistinct by
 -- a push sets the value of that name, and no other value
 abbrev pub PushSets : Type 0
 PushSets = (pairs : List TextPair) (name value other : List ℕ)
-    → value_of (with_value pairs name value) other
+    → value_of (with_property pairs name value) other
     ≡ (if bytes_eq other name then Some value else value_of pairs other)
 
 -- after a remove that name has no value, and the others keep theirs

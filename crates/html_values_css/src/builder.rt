@@ -1,5 +1,5 @@
 ghost use Rattle.std.specs.Prelude.{◌≡◌, [], chars, if◌then◌else◌, OnOk, OnErr, IfOk, IfErr};
-ghost use Rattle.html_values_css.specs.Properties.{with_value};
+ghost use Rattle.html_values_css.specs.Properties.{with_property};
 ghost use Rattle.html_values_css.specs.Sink.{TakesWarning, Hands, Given, Interrupted};
 ghost use Rattle.html_values_css.specs.Writer.{fails};
 
@@ -60,7 +60,7 @@ impl<S: WarningSink> PropertiesBuilder<S> {
     /// properties are unchanged, and the sink has got the first of the warnings.
     pub fn push<T: ToCss>(&mut self, name: &str, value: &T) -> Result<(), AllocError>
         ensures ok { OnOk result (self.new.properties ≡ (if fails (T.warnings value.now)
-            then self.old.properties else with_value self.old.properties (chars name.now)
+            then self.old.properties else with_property self.old.properties (chars name.now)
             (T.text value.now))) }
         ensures kept { OnErr result (self.new.properties ≡ self.old.properties) }
         ensures given { Hands (TakesWarning S.warnings S.borrow S.emit_gives) result self.old.sink
@@ -87,7 +87,7 @@ impl<S: WarningSink> PropertiesBuilder<S> {
         value: &T,
     ) -> Result<PropertiesBuilder<S>, Refused<PropertiesBuilder<S>>>
         ensures ok { IfOk result (λ made. made.properties ≡ (if fails (T.warnings value.now)
-            then self.properties else with_value self.properties (chars name.now)
+            then self.properties else with_property self.properties (chars name.now)
             (T.text value.now))) }
         ensures back { IfErr result (λ refused. refused.back.properties ≡ self.properties) }
         ensures given { IfOk result (λ made. Given (TakesWarning S.warnings S.borrow S.emit_gives)

@@ -28,6 +28,7 @@ mod length;
 mod paint;
 mod properties;
 mod property;
+mod property_list;
 mod quantity;
 mod sink;
 mod to_css;

@@ -141,7 +141,7 @@ fn addition_of(alloc: Global) -> Result<(Properties, String), AllocError> {
 }
 
 fn empty_with_room(alloc: Global) -> Result<bool, AllocError> {
-    Ok(Properties::with_capacity(alloc, 1)?.as_slice().is_empty())
+    Ok(Properties::with_capacity(alloc, 2)?.as_slice().is_empty())
 }
 
 #[test]

@@ -1,12 +1,12 @@
 //! Names, numbers for them, and a text under construction, when growths of memory are refused.
 
-use html_names::output::Output;
+use html_names::text_writer::TextWriter;
 use html_names::{HtmlAttr, HtmlTag, NameTable, attr, laws, tag};
 use std::alloc::{AllocError, Global};
 use tests_asserts::TestResult;
 use tests_growth::{refuses, refuses_copy, refuses_kept};
 
-/// The number of letters that fill the text of an `Output` that got them one by one.
+/// The number of letters that fill the text of an `TextWriter` that got them one by one.
 const FULL: usize = 32;
 
 const OWN_NAME: &str = "an-own-name";
@@ -116,7 +116,7 @@ enum Added {
     Hex,
 }
 
-fn add(out: &mut Output, added: Added) -> Result<(), AllocError> {
+fn add(out: &mut TextWriter, added: Added) -> Result<(), AllocError> {
     match added {
         Added::Char => out.push('x'),
         Added::Text => out.push_str("one \u{e9}"),
@@ -130,7 +130,7 @@ fn add(out: &mut Output, added: Added) -> Result<(), AllocError> {
 /// Asserts that an addition to a text with room for that many letters is refused at first, and leaves
 /// the text as it is.
 fn assert_written(alloc: Global, room: usize, added: Added) -> TestResult {
-    let mut out = Output::new(alloc);
+    let mut out = TextWriter::new(alloc);
     for _ in room..FULL {
         out.push('x')?;
     }

@@ -12,4 +12,4 @@ mod interning;
 #[cfg(test)]
 mod name_table;
 #[cfg(test)]
-mod output;
+mod text_writer;

@@ -98,7 +98,12 @@ impl Caller for Library {
             "dead-fragments" => checks::dead_fragment_list(alloc, row),
             "repeated-ids" => checks::repeated_id_list(alloc, row),
             "misnested" => checks::misnested_list(alloc, row),
-            "c-check" | "c-dead-links" | "c-document" | "c-fragment" | "c-links" | "c-unused"
+            "c-check"
+            | "c-dead-links"
+            | "c-document"
+            | "c-fragment"
+            | "c-links"
+            | "c-unused"
             | "c-write" => replies::reply(alloc, row, call),
             "c-version" => replies::version(alloc),
             _ => runs::output(alloc, row),

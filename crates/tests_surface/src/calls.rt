@@ -2,8 +2,8 @@
 
 use std::test::Fail;
 use tests_asserts::assert_text;
-use typst_html::output::Output;
 use typst_html::property::Display;
+use typst_html::text_writer::TextWriter;
 use typst_html::{
     ConstructFault, Dir, HorizontalDir, HtmlAttrs, HtmlElem, HtmlElement, Misnested, Misnesting,
     PageError, PageNote, PageNotes, Place, Places, Span, ToCss, attr, misnested, read_page,
@@ -56,10 +56,10 @@ fn first_attributes_of_items_are_set(rt: HostRuntime) -> Result<(), Fail> {
 }
 
 #[test]
-fn outputs_are_written(rt: HostRuntime) -> Result<(), Fail> {
-    let mut output = Output::new(rt.alloc());
-    output.push_decimal(12)?;
-    assert_text(&output.into_string(), "12")
+fn texts_are_written(rt: HostRuntime) -> Result<(), Fail> {
+    let mut writer = TextWriter::new(rt.alloc());
+    writer.push_decimal(12)?;
+    assert_text(&writer.into_string(), "12")
 }
 
 /// A page with an end tag that closes nothing.

@@ -21,8 +21,8 @@ mod trees {
 /// Names and values, in html_names and html_values.
 mod values {
     use html_names::attr::mathml;
-    use html_names::output::Output;
     use html_names::property::Display;
+    use html_names::text_writer::TextWriter;
     use html_names::{
         HtmlAttr, HtmlTag, NameFault, NameTable, Refused, attr, charsets, laws as laws_of_names,
         tag,
@@ -78,8 +78,8 @@ mod all_calls {
         fragment_in, fragment_leads, has_own_root, href_is_script, href_to, html,
         html_block_fragment, html_document, html_document_for_bundle, html_document_with_head,
         html_in_bundle, html_inline_fragment, html_math_fragment, ids_are_distinct, is_depth_limit,
-        laws, misnested, output, page_text, place_names, property, push_located, read_html,
-        read_page, read_page_bytes, repeated_ids, resolve_inline_styles, resolve_links, tag,
+        laws, misnested, page_text, place_names, property, push_located, read_html, read_page,
+        read_page_bytes, repeated_ids, resolve_inline_styles, resolve_links, tag, text_writer,
         with_resolved_links,
     };
 }

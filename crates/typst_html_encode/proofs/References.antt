@@ -32,7 +32,7 @@ digits_pass [] h = refl
 digits_pass (c ∷ cs) h = and_from (is_no_semicolon c) (all is_no_semicolon cs) (digit_passes c h.0)
     (digits_pass cs h.1)
 
-numeric_is : (c : ℕ) → numeric c ≡ codes "&#x" ++ (digits 16 false c ++ codes ";")
+pub numeric_is : (c : ℕ) → numeric c ≡ codes "&#x" ++ (digits 16 false c ++ codes ";")
 unfolding numeric
 numeric_is c = refl
 

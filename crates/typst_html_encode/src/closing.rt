@@ -4,8 +4,9 @@ ghost use Rattle.std.specs.Prelude.{◌≡◌, ◌∷◌, chars, map};
 ghost use Rattle.std.specs.Char.{to_ascii_lowercase};
 ghost use Rattle.typst_html_encode.specs.ClosingTags as ending;
 
+/// Returns whether a closing tag's name ends before the character.
 #[tactic(auto, unfolding(crate::specs::ClosingTags::is_tag_end))]
-fn is_tag_end(c: char) -> bool
+pub fn is_tag_end(c: char) -> bool
     ensures { result ≡ ending.is_tag_end c }
 {
     matches!(c, '\t' | '\n' | '\u{c}' | '\r' | ' ' | '>' | '/')

@@ -14,7 +14,7 @@ use html_dom_tree::Span;
 use html_names::charsets::{
     is_valid_in_attribute_value, is_valid_in_normal_element_text, is_w3c_text_char,
 };
-use html_names::output::Output;
+use html_names::text_writer::TextWriter;
 use std::alloc::AllocError;
 
 /// How the characters of a text are written.
@@ -64,7 +64,7 @@ fn is_bad(escaping: Escaping, c: char) -> bool
 }
 
 #[tactic(auto, unfolding(crate::specs::References::numeric), using(crate::proofs::BlankReferences::reference_steps))]
-fn write_reference(out: &mut Output, c: char) -> Result<(), AllocError>
+fn write_reference(out: &mut TextWriter, c: char) -> Result<(), AllocError>
     ensures { OnOk result (out.new ≡ out.old ++ reference_to c) }
 {
     match c {
@@ -120,7 +120,12 @@ fn is_plain(escaping: Escaping, c: char) -> bool
 }
 
 #[tactic(auto, using(crate::proofs::Stretches::plain_chars))]
-fn write_char(out: &mut Output, escaping: Escaping, c: char, span: Span) -> Result<(), ExportFault>
+fn write_char(
+    out: &mut TextWriter,
+    escaping: Escaping,
+    c: char,
+    span: Span,
+) -> Result<(), ExportFault>
     ensures { Adds result out.old out.new (char_text escaping c) (char_faults escaping span.0 c) }
 {
     if is_bad(escaping, c) {
@@ -153,7 +158,7 @@ fn past_plain(escaping: Escaping, text: &str) -> &str
 }
 
 fn write_plain<'a>(
-    out: &mut Output,
+    out: &mut TextWriter,
     escaping: Escaping,
     text: &'a str,
 ) -> Result<&'a str, AllocError>
@@ -174,7 +179,7 @@ fn write_plain<'a>(
 }
 
 pub(crate) fn write_text(
-    out: &mut Output,
+    out: &mut TextWriter,
     escaping: Escaping,
     text: &str,
     span: Span,

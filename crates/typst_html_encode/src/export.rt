@@ -19,7 +19,7 @@ use crate::options::HtmlOptions;
 use crate::write::write_tree;
 use html_dom_flat::{FlatTree, flat_tree_of};
 use html_dom_tree::HtmlElement;
-use html_names::output::Output;
+use html_names::text_writer::TextWriter;
 use std::alloc::Global;
 
 /// The HTML text of a tree: the document type and the element, plain or pretty.
@@ -119,7 +119,7 @@ fn tree_html<F: FrameWriter>(
         tree_nodes tree.now ≡ node (element_node root.0 root.1) none →
         IsHtmlOf (F.drawing frames.now) options.now root result }
 {
-    let mut out = Output::new(alloc);
+    let mut out = TextWriter::new(alloc);
     let margin = Margin {
         pretty: options.pretty,
         level: 0,

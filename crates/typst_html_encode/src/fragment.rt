@@ -10,7 +10,7 @@ use crate::layout::Margin;
 use crate::write::write_tree;
 use html_dom_flat::FlatTree;
 use html_dom_tree::HtmlNode;
-use html_names::output::Output;
+use html_names::text_writer::TextWriter;
 use std::alloc::Global;
 
 /// Returns the HTML text of nodes by themselves, without a document type: a piece of a page that
@@ -51,7 +51,7 @@ pub fn html_fragment<F: FrameWriter>(
         IfOk result (λ text. ReadsInDiv (text_view text) (nodes_view nodes.now)) }
 {
     let tree = FlatTree::from_nodes(alloc, nodes)?;
-    let mut out = Output::new(alloc);
+    let mut out = TextWriter::new(alloc);
     // (as deep as in an element, which no text that is plain shows)
     let inside = Margin {
         pretty: false,

@@ -4,7 +4,7 @@ ghost use Rattle.std.specs.Prelude.{◌≡◌, ◌++◌, ◌<◌, ◌≤◌, OnO
 ghost use Rattle.std.specs.Str.Lines.{lines};
 ghost use Rattle.typst_html_encode.specs.Layout.{spaces, indent, indent_where, feed_where, by_lines};
 
-use html_names::output::Output;
+use html_names::text_writer::TextWriter;
 use std::alloc::AllocError;
 
 /// A line feed, and the spaces of `MOST_LEVELS` levels.
@@ -41,7 +41,7 @@ fn short_indent(levels: usize) -> &'static str
 }
 
 #[tactic(auto, using(crate::proofs::Indents::spaces_ascii))]
-fn push_spaces(out: &mut Output, level: usize) -> Result<(), AllocError>
+fn push_spaces(out: &mut TextWriter, level: usize) -> Result<(), AllocError>
     ensures { OnOk result (out.new ≡ out.old ++ spaces level) }
 {
     let mut left = level;
@@ -55,7 +55,7 @@ fn push_spaces(out: &mut Output, level: usize) -> Result<(), AllocError>
 
 /// Adds a line feed and two spaces a level, in one piece where the level is not deep.
 #[tactic(auto, using(crate::proofs::Indents::indent_ascii))]
-pub(crate) fn push_indent(out: &mut Output, level: usize) -> Result<(), AllocError>
+pub(crate) fn push_indent(out: &mut TextWriter, level: usize) -> Result<(), AllocError>
     ensures { OnOk result (out.new ≡ out.old ++ indent level) }
 {
     let levels = first_levels(level);
@@ -63,7 +63,11 @@ pub(crate) fn push_indent(out: &mut Output, level: usize) -> Result<(), AllocErr
     push_spaces(out, level - levels)
 }
 
-pub(crate) fn push_indent_if(out: &mut Output, asked: bool, level: usize) -> Result<(), AllocError>
+pub(crate) fn push_indent_if(
+    out: &mut TextWriter,
+    asked: bool,
+    level: usize,
+) -> Result<(), AllocError>
     ensures { OnOk result (out.new ≡ out.old ++ indent_where asked level) }
 {
     if asked {
@@ -72,7 +76,7 @@ pub(crate) fn push_indent_if(out: &mut Output, asked: bool, level: usize) -> Res
     Ok(())
 }
 
-pub(crate) fn push_feed_if(out: &mut Output, asked: bool) -> Result<(), AllocError>
+pub(crate) fn push_feed_if(out: &mut TextWriter, asked: bool) -> Result<(), AllocError>
     ensures { OnOk result (out.new ≡ out.old ++ feed_where asked) }
 {
     if asked {
@@ -82,7 +86,7 @@ pub(crate) fn push_feed_if(out: &mut Output, asked: bool) -> Result<(), AllocErr
 }
 
 pub(crate) fn push_lines(
-    out: &mut Output,
+    out: &mut TextWriter,
     text: &str,
     level: usize,
     before_first: bool,

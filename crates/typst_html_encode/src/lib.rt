@@ -40,6 +40,7 @@ mod raw;
 mod tags;
 mod write;
 
+pub use closing::is_tag_end;
 pub use common::past_common;
 pub use export::{html_in_bundle, html_of};
 pub use fault::ExportFault;

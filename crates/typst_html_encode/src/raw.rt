@@ -14,11 +14,11 @@ use crate::indent::{push_indent, push_lines};
 use crate::layout::{Margin, is_by_lines, keeps_lines};
 use html_dom_flat::{Element, Node, Siblings};
 use html_names::HtmlTag;
-use html_names::output::Output;
+use html_names::text_writer::TextWriter;
 use std::alloc::{AllocError, Global};
 
 pub(crate) fn write_raw(
-    out: &mut Output,
+    out: &mut TextWriter,
     element: &Element,
     margin: Margin,
 ) -> Result<(), ExportFault>
@@ -53,13 +53,13 @@ fn joined(alloc: Global, children: &Siblings) -> Result<String, ExportFault>
         (nodes_raw_text (siblings_view children.now))
         (nodes_raw_faults Escaping.Raw (siblings_view children.now)) }
 {
-    let mut out = Output::new(alloc);
+    let mut out = TextWriter::new(alloc);
     write_children(&mut out, Escaping::Raw, children)?;
     Ok(out.into_string())
 }
 
 pub(crate) fn write_children(
-    out: &mut Output,
+    out: &mut TextWriter,
     escaping: Escaping,
     children: &Siblings,
 ) -> Result<(), ExportFault>
@@ -75,7 +75,7 @@ pub(crate) fn write_children(
     Ok(())
 }
 
-fn write_child(out: &mut Output, escaping: Escaping, child: &Node) -> Result<(), ExportFault>
+fn write_child(out: &mut TextWriter, escaping: Escaping, child: &Node) -> Result<(), ExportFault>
     ensures { Adds result out.old out.new
         (escaped_text escaping (node_raw_text (node_view child.now)))
         (node_raw_faults escaping (node_view child.now)) }
@@ -91,7 +91,7 @@ fn write_child(out: &mut Output, escaping: Escaping, child: &Node) -> Result<(),
 }
 
 fn write_joined(
-    out: &mut Output,
+    out: &mut TextWriter,
     element: &Element,
     text: &str,
     margin: Margin,
@@ -108,7 +108,7 @@ fn write_joined(
 
 #[tactic(auto, unfolding(crate::specs::Layout::lines_text))]
 fn write_lines(
-    out: &mut Output,
+    out: &mut TextWriter,
     tag: &HtmlTag,
     text: &str,
     margin: Margin,

@@ -15,13 +15,13 @@ use crate::fault::ExportFault;
 use crate::head::is_foreign_self_closing;
 use html_dom_flat::{Element, Node, Siblings};
 use html_dom_tree::Span;
-use html_names::output::Output;
+use html_names::text_writer::TextWriter;
 use html_names::{HtmlTag, tag};
 use std::alloc::AllocError;
 
 /// Writes the value of an attribute, and nothing where it is empty.
 #[tactic(auto, using(crate::proofs::Escapes::values))]
-fn write_value(out: &mut Output, value: &String, span: Span) -> Result<(), ExportFault>
+fn write_value(out: &mut TextWriter, value: &String, span: Span) -> Result<(), ExportFault>
     ensures { Adds result out.old out.new
         (value_text (text_view value.now))
         (text_faults Escaping.Value span.0 (text_view value.now)) }
@@ -36,7 +36,7 @@ fn write_value(out: &mut Output, value: &String, span: Span) -> Result<(), Expor
 }
 
 #[tactic(auto, using(crate::proofs::Given::pair_given))]
-fn write_attrs(out: &mut Output, element: &Element) -> Result<(), ExportFault>
+fn write_attrs(out: &mut TextWriter, element: &Element) -> Result<(), ExportFault>
     ensures writes { let head = head_view element.now in
         Adds result out.old out.new (attrs_text head.attrs) (attrs_faults head.span head.attrs) }
     ensures named { OnOk result (PairsAreNamed (head_view element.now).attrs) }
@@ -50,7 +50,7 @@ fn write_attrs(out: &mut Output, element: &Element) -> Result<(), ExportFault>
     Ok(())
 }
 
-fn write_tag_close(out: &mut Output, element: &Element) -> Result<(), AllocError>
+fn write_tag_close(out: &mut TextWriter, element: &Element) -> Result<(), AllocError>
     ensures { OnOk result (out.new ≡ out.old ++ tag_close (head_view element.now).name) }
 {
     if is_foreign_self_closing(element) {
@@ -60,7 +60,7 @@ fn write_tag_close(out: &mut Output, element: &Element) -> Result<(), AllocError
     }
 }
 
-pub(crate) fn write_start(out: &mut Output, element: &Element) -> Result<(), ExportFault>
+pub(crate) fn write_start(out: &mut TextWriter, element: &Element) -> Result<(), ExportFault>
     ensures writes { let head = head_view element.now in
         Adds result out.old out.new (start_tag_text head) (attrs_faults head.span head.attrs) }
     ensures named { OnOk result (HeadIsNamed (head_view element.now)) }
@@ -73,7 +73,7 @@ pub(crate) fn write_start(out: &mut Output, element: &Element) -> Result<(), Exp
 }
 
 #[inline(always)]
-pub(crate) fn write_end(out: &mut Output, tag: &HtmlTag) -> Result<(), AllocError>
+pub(crate) fn write_end(out: &mut TextWriter, tag: &HtmlTag) -> Result<(), AllocError>
     ensures { OnOk result (out.new ≡ out.old ++ end_tag_text tag.now) }
 {
     out.push_ascii("</")?;
@@ -111,7 +111,7 @@ fn drops_feed(tag: &HtmlTag) -> bool
 
 /// Writes a line feed where a reader would drop the text's own.
 #[tactic(auto, using(crate::proofs::Layouts::either_order))]
-pub(crate) fn write_feed(out: &mut Output, element: &Element) -> Result<(), AllocError>
+pub(crate) fn write_feed(out: &mut TextWriter, element: &Element) -> Result<(), AllocError>
     ensures { OnOk result (out.new ≡
         out.old ++ feed_text (head_view element.now) (siblings_view element.now.children)) }
 {

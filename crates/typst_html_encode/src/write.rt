@@ -25,13 +25,13 @@ use crate::raw;
 use crate::tags::{write_end, write_feed, write_start};
 use html_dom_flat::{Element, FlatTree, Node, Siblings};
 use html_dom_tree::HtmlFrame;
-use html_names::output::Output;
+use html_names::text_writer::TextWriter;
 use std::alloc::{AllocError, Global};
 
 /// Nodes that are inside no element have the margin `outer`.
 pub(crate) fn write_tree<F: FrameWriter>(
     alloc: Global,
-    out: &mut Output,
+    out: &mut TextWriter,
     tree: &FlatTree,
     outer: Margin,
     frames: &F,
@@ -68,7 +68,7 @@ pub(crate) fn write_tree<F: FrameWriter>(
     }
 }
 
-fn write_close(out: &mut Output, element: &OpenElement) -> Result<(), AllocError>
+fn write_close(out: &mut TextWriter, element: &OpenElement) -> Result<(), AllocError>
     ensures { let o = open_element_view element.now in OnOk result (out.new ≡
         out.old ++ (indent_where o.margin.pretty o.margin.level ++ end_tag_text o.name)) }
 {
@@ -92,7 +92,7 @@ fn entered<'a>(node: &Node<'a>) -> Option<Element<'a>>
 /// Writes a node, or the start of an element that the walk enters.
 fn write_first<F: FrameWriter>(
     alloc: Global,
-    out: &mut Output,
+    out: &mut TextWriter,
     node: &Node,
     pre_span: bool,
     margin: Margin,
@@ -115,7 +115,7 @@ fn write_first<F: FrameWriter>(
 }
 
 /// Writes an element whose children are not written one by one, and else its start.
-fn write_element(out: &mut Output, element: &Element, margin: Margin) -> Result<(), ExportFault>
+fn write_element(out: &mut TextWriter, element: &Element, margin: Margin) -> Result<(), ExportFault>
     ensures writes { Adds result out.old out.new
         (element_first_text margin (element_view element.now))
         (element_first_faults (element_view element.now)) }
@@ -149,7 +149,7 @@ fn refuse_children(element: &Element) -> Result<(), ExportFault>
 
 fn write_frame<F: FrameWriter>(
     alloc: Global,
-    out: &mut Output,
+    out: &mut TextWriter,
     frame: &HtmlFrame,
     margin: Margin,
     frames: &F,
@@ -168,7 +168,7 @@ fn write_frame<F: FrameWriter>(
     }
 }
 
-fn write_drawn(out: &mut Output, text: &str, margin: Margin) -> Result<(), AllocError>
+fn write_drawn(out: &mut TextWriter, text: &str, margin: Margin) -> Result<(), AllocError>
     ensures { OnOk result (out.new ≡ out.old ++ frame_text margin (Some (chars text.now))) }
 {
     if margin.pretty {

@@ -8,7 +8,7 @@ use Rattle.html_dom_tree.specs.Tree.{Head, NodeView, tag_node, text_node, elemen
 use Rattle.html_dom_tree.specs.Views.{node_view, nodes_view}
 use Rattle.html_dom_tree.specs.declared.node.HtmlNode.{HtmlNode}
 use Rattle.html_dom_document.specs.Documents.{is_element_at}
-use Rattle.html_dom_document.specs.Places.{is_html}
+use Rattle.html_dom_document.specs.Places.{is_named_html}
 use Rattle.typst_html_export.specs.Assembled.{Outline, own_html, own_body, own_among_others, own_head, is_own, own_after, first_own, shown_count, outline_by, document_outline}
 use Rattle.html_names.proofs.Basics.{from_place}
 
@@ -102,7 +102,7 @@ pub own_found : (shown : ℕ) (found : Option (ℕ × Head)) (place : ℕ)
     → (h : Head) × ((found ≡ Some (place, h)) × (shown ≡ 1))
 own_found shown None place e = cc
 own_found shown (Some own) place e = elim (cases_Bool (shown == 1)) [
-  | inl one ↦ elim (cases_Bool (is_html own.1)) [
+  | inl one ↦ elim (cases_Bool (is_named_html own.1)) [
     | inl html ↦ let same : own_html place ≡ own_html own.0 = rw (one, html) at e in (
       own.1,
       (

@@ -2,7 +2,7 @@
 use Rattle.std.proofs.Common.{◌≡◌, ℕ, zero, suc, ◌<◌, true, refl, ap, sym, true≢false, arith}
 use Rattle.html_dom_tree.specs.Styled.{head_with_style, styled_nodes, styled_element}
 use Rattle.html_dom_tree.specs.Tree.{tag_node, element_node, NodesView, none, node}
-use Rattle.html_dom_document.specs.Documents.{element_at, is_element_at, with_element, given_root}
+use Rattle.html_dom_document.specs.Documents.{element_at_index, is_element_at, with_element, given_root}
 use Rattle.typst_html_export.specs.Assembled.{shown_count}
 
 tags_styled : (ns : NodesView) → shown_count ns ≡ 0 → styled_nodes ns ≡ ns
@@ -19,7 +19,7 @@ element_counts (node (tag_node t) ns) (suc p) there = element_counts ns p there
 element_counts (node n ns) p there = omega arith
 
 abbrev root_styled_at : NodesView → ℕ → NodesView
-root_styled_at ns p = with_element ns p (styled_element (given_root (element_at ns p)))
+root_styled_at ns p = with_element ns p (styled_element (given_root (element_at_index ns p)))
 
 pub lone_styled : (ns : NodesView) (p : ℕ) → shown_count ns ≡ 1 → is_element_at ns p ≡ true
     → root_styled_at ns p ≡ styled_nodes ns

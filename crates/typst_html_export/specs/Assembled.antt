@@ -3,11 +3,10 @@
 use Rattle.std.specs.Prelude.{ℕ, ◌+◌, Bool, ◌||◌, ◌==◌, List, [], ◌∷◌, ◌++◌, codes, bytes_eq, if◌then◌else◌, Option, Some, None, option_map, map}
 use Rattle.html_dom_tree.specs.Attributes.{or_else}
 use Rattle.html_dom_tree.specs.Styled.{styled_nodes}
-use Rattle.html_dom_tree.specs.Tree.{Head, NodeView, tag_node, text_node, element_node, frame_node, NodesView, none, node}
+use Rattle.html_dom_tree.specs.Tree.{Head, NodeView, tag_node, text_node, element_node, frame_node, NodesView, none, node, is_tag}
 use Rattle.html_dom_tree.specs.Views.{nodes_of}
 use Rattle.html_dom_document.specs.Documents.{InfoView, OutputView, DocumentView, new_document}
-use Rattle.html_flow_convert.specs.Nodes.{is_tag}
-use Rattle.html_dom_document.specs.Places.{is_html}
+use Rattle.html_dom_document.specs.Places.{is_named_html}
 use Rattle.html_flow_convert.specs.Converted.{converted_nodes}
 use Rattle.html_flow_convert.specs.Depth.{items_too_deep}
 use Rattle.html_flow_convert.specs.Items.{ItemsView, no_items, item, item_span}
@@ -19,7 +18,7 @@ use Rattle.typst_html_export.specs.DocumentHead.{made_node, head_node, lang_text
 
 -- an element that a document has of its own if it is among its nodes
 abbrev pub is_own : Head → Bool
-is_own h = is_html h || bytes_eq h.name (codes "body")
+is_own h = is_named_html h || bytes_eq h.name (codes "body")
 
 abbrev pub own_head : NodeView → Option Head
 own_head (tag_node t) = None
@@ -53,7 +52,7 @@ pub data Outline : Type 0 where
 abbrev pub outline_by : (shown : ℕ) → Option (ℕ × Head) → Outline
 outline_by shown None = nothing_own
 outline_by shown (Some own) =
-    if shown == 1 then (if is_html own.1 then own_html own.0 else own_body)
+    if shown == 1 then (if is_named_html own.1 then own_html own.0 else own_body)
     else own_among_others own.1.name own.1.span
 
 abbrev pub document_outline : NodesView → Outline

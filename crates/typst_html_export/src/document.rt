@@ -10,11 +10,9 @@ ghost use Rattle.html_dom_document.specs.Documents.{document_root};
 ghost use Rattle.html_dom_document.specs.Positions.{PositionsLead};
 ghost use Rattle.html_dom_document.specs.Views.{document_view, info_view, output_view};
 ghost use Rattle.typst_html_encode.specs.FaultViews.{spans_view};
-ghost use Rattle.html_flow_convert.specs.Nodes.{is_tag};
 ghost use Rattle.html_flow_convert.specs.Depth.{items_too_deep};
 ghost use Rattle.html_flow_convert.specs.Items.{no_items};
 ghost use Rattle.html_flow_convert.specs.Views.{items_view};
-ghost use Rattle.html_dom_document.specs.Places.{is_html};
 ghost use Rattle.typst_html_spaces.specs.ReadableNodes.{AreReadable};
 ghost use Rattle.typst_html_export.specs.Assembled.{assembled_document, document_nodes};
 ghost use Rattle.typst_html_export.specs.Assembled.{first_own, is_own, own_head, document_outline, shown_count};
@@ -30,7 +28,7 @@ ghost use Rattle.typst_html_export.specs.Roots.{styled_root};
 ghost use Rattle.typst_html_export.specs.SpacesInDocuments.{ArePlainItems, SpacesAreLeft};
 
 use crate::head::{head_node, lang_text};
-use html_dom_document::{DocumentInfo, HtmlDocument, HtmlOutput};
+use html_dom_document::{DocumentInfo, HtmlDocument, HtmlOutput, is_named_html};
 use html_dom_link::with_link_anchors;
 use html_dom_tree::{HtmlElement, HtmlNode, Span, with_inline_styles};
 use html_flow_convert::{ConversionLevel, Pair, Whitespace, convert_items, convert_to_nodes};
@@ -409,7 +407,7 @@ fn document_outline(nodes: &[HtmlNode]) -> Result<Outline, ExportFault>
             span: element.span,
         });
     }
-    if is_html(element) {
+    if is_named_html(element) {
         Ok(Outline::OwnHtml(place))
     } else {
         Ok(Outline::OwnBody)
@@ -439,17 +437,10 @@ fn own_element(node: &HtmlNode) -> Option<&HtmlElement>
 }
 
 #[tactic(auto, unfolding(html_names::specs::Tables::known_tags))]
-fn is_html(element: &HtmlElement) -> bool
-    ensures { result ≡ is_html (element_view element.now).0 }
-{
-    element.tag == tag::html
-}
-
-#[tactic(auto, unfolding(html_names::specs::Tables::known_tags))]
 fn is_own(element: &HtmlElement) -> bool
     ensures { result ≡ is_own (element_view element.now).0 }
 {
-    is_html(element) || element.tag == tag::body
+    is_named_html(element) || element.tag == tag::body
 }
 
 /// Returns the number of nodes other than tags.
@@ -458,17 +449,11 @@ fn shown_count(nodes: &[HtmlNode]) -> usize
 {
     let mut count = 0;
     for node in nodes {
-        if !is_tag(node) {
+        if !node.is_tag() {
             count += 1;
         }
     }
     count
-}
-
-fn is_tag(node: &HtmlNode) -> bool
-    ensures { result ≡ is_tag (node_view node.now) }
-{
-    matches!(node, HtmlNode::Tag(_))
 }
 
 fn refuse_footnotes(alloc: Global, footnotes: &[Pair]) -> Result<(), ExportFault>

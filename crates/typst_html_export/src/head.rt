@@ -13,7 +13,7 @@ ghost use Rattle.typst_html_export.specs.OwnHead.{head_node_with};
 
 use html_dom_document::{DocumentInfo, Locale};
 use html_dom_tree::{HtmlElement, HtmlNode, Span};
-use html_names::output::Output;
+use html_names::text_writer::TextWriter;
 use html_names::{attr, tag};
 use std::alloc::{AllocError, Global};
 
@@ -110,7 +110,7 @@ fn push_list(
 fn joined_text(alloc: Global, texts: &[String]) -> Result<String, AllocError>
     ensures { IfOk result (λ text. text_view text ≡ joined_text (texts_view texts.now)) }
 {
-    let mut text = Output::new(alloc);
+    let mut text = TextWriter::new(alloc);
     if let [first, others @ ..] = texts {
         text.push_str(first.as_str())?;
         push_others(&mut text, others)?;
@@ -118,7 +118,7 @@ fn joined_text(alloc: Global, texts: &[String]) -> Result<String, AllocError>
     Ok(text.into_string())
 }
 
-fn push_others(text: &mut Output, others: &[String]) -> Result<(), AllocError>
+fn push_others(text: &mut TextWriter, others: &[String]) -> Result<(), AllocError>
     ensures { OnOk result (text.new ≡ text.old
         ++ flat_map (λ t. codes ", " ++ t) (texts_view others.now)) }
 {
@@ -185,7 +185,7 @@ fn locale_text(alloc: Global, locale: &Locale) -> Result<String, AllocError>
     ensures { IfOk result (λ text. text_view text
         ≡ text_view locale.now.lang ++ region_text (optional_text_view locale.now.region)) }
 {
-    let mut text = Output::new(alloc);
+    let mut text = TextWriter::new(alloc);
     text.push_str(locale.lang.as_str())?;
     if let Some(region) = &locale.region {
         text.push_ascii("-")?;

@@ -3,7 +3,7 @@
 use Rattle.std.proofs.Common.{ℕ, zero, suc, false, List, None, refl, sym, subst, Bool}
 use Rattle.html_dom_tree.specs.Styled.{styled_nodes}
 use Rattle.html_dom_tree.specs.Tree.{Head, NodeView, element_node, NodesView, none, node, ElementView}
-use Rattle.html_dom_document.specs.Documents.{InfoView, DocumentView, document_root, element_at, given_root}
+use Rattle.html_dom_document.specs.Documents.{InfoView, DocumentView, document_root, element_at_index, given_root}
 use Rattle.html_dom_link.specs.Anchors.{element_with_anchors}
 use Rattle.html_dom_link.specs.Events.{Targets}
 use Rattle.html_dom_link.specs.LinkAnchors.{document_targets}
@@ -104,7 +104,8 @@ around_free x info content notes free more = html_free info content free
 
 -- the root, which stands among the nodes, with styles and with anchors
 
-root_free : (ns : NodesView) (place : ℕ) → AreFree ns → RootIsFree (given_root (element_at ns place))
+root_free : (ns : NodesView) (place : ℕ) → AreFree ns →
+    RootIsFree (given_root (element_at_index ns place))
 root_free none place free = (refl, tt)
 root_free (node n ns) (suc place) free = root_free ns place free.1
 root_free (node (element_node h kids) ns) zero free = free.0

@@ -10,7 +10,7 @@ use Rattle.std.proofs.lemmas.Fmt.{digits_is_IsNumeral}
 use Rattle.std.proofs.lemmas.List.{append-nil}
 use Rattle.html_names.specs.Characters.{is_text_char, is_control, is_noncharacter}
 use Rattle.html_dom_nest.specs.WrittenTexts.{is_return}
-use Rattle.typst_html_encode.proofs.References.{text_scalar}
+use Rattle.typst_html_encode.proofs.References.{numeric_is, text_scalar}
 use Rattle.typst_html_encode.specs.References.{numeric, reference_to}
 use Rattle.typst_html_parse_names.specs.NamedReferences.{legacy_reference, named_reference, value_in_groups}
 use Rattle.typst_html_parse_names.specs.ReferenceRows.{legacy_groups, other_groups}
@@ -104,10 +104,6 @@ by_name : (c named s : ℕ) (ss : List ℕ) → eqb c named ≡ true →
 unfolding resolved
 by_name c named s ss e written inner no_number found = subst Spelled (sym (eqb-true c named e))
     (s ∷ ss, written, inner, λ v. rw (no_number, found) refl)
-
-numeric_is : (c : ℕ) → numeric c ≡ codes "&#x" ++ (digits 16 false c ++ codes ";")
-unfolding numeric
-numeric_is c = refl
 
 by_number : (c : ℕ) → is_text_char c ≡ true → is_return c ≡ false → reference_to c ≡ numeric c →
     Spelled c

@@ -39,7 +39,7 @@ abbrev pub no_notes : Notes
 no_notes = record { count = 0; first = [] }
 
 -- what is read is the element, tags dropped and texts joined
-pub record IsReadAs (e : ElementView) (r : Reads (ElementView × Notes)) : Type 0 where
+pub record IsReadBack (e : ElementView) (r : Reads (ElementView × Notes)) : Type 0 where
   pub root : ElementView
   pub read : r ≡ Ok (root, no_notes)
   pub same : element_normal root ≡ element_normal e
@@ -55,7 +55,7 @@ pub record IsKept (frames : Frames) (e : ElementView) : Type 0 where
 -- its plain text is read as the tree, where a page may be as deep as browsers let it be
 abbrev pub TreesStay : Type 0
 TreesStay = (frames : Frames) (limit : ℕ) (e : ElementView) → IsKept frames e → 512 < limit →
-    IsReadAs e (page_read limit (document_text frames plain_options e))
+    IsReadBack e (page_read limit (document_text frames plain_options e))
 
 -- so both readers, of what is written here and of pages, read the same of it
 pub record IsReadAlike (text : List ℕ) (r : Reads (ElementView × Notes)) : Type 0 where

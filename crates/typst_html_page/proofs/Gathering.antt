@@ -6,22 +6,22 @@ use Rattle.html_dom_tree.specs.PlainTree.{nodes_normal}
 use Rattle.html_dom_tree.specs.Tree.{NodeView, NodesView, none, node}
 use Rattle.typst_html_encode.specs.Collapsing.{Atom, visible, ignorable, collapsible, kept, object, break, border, Piece, char, thing, line, edge, is_supported_by, atom_pieces, atoms_pieces, merged_edges, collapsed_pieces, plains_atoms}
 use Rattle.typst_html_encode.proofs.NodeAtoms.{node_atoms, nodes_atoms, normal_atoms}
-use Rattle.typst_html_page.specs.Gathering.{Page, ended_parts, with_piece, with_pieces, Before, bare, support, blank, released, seen_at, past, Seen, nothing_seen, step, run, final}
+use Rattle.typst_html_page.specs.Gathering.{GatheredPage, ended_parts, with_piece, with_pieces, Before, bare, support, blank, released, seen_at, past, Seen, nothing_seen, step, run, final}
 use Rattle.typst_html_page.specs.Parts.{Part, object_part, line_part, edge_part, put_text, joined_parts, begins_with_text}
 use Rattle.typst_html_page.proofs.Parts.{some_chars, put_twice, put_before}
 
 -- pieces one after the other
 
-abbrev pub seen_of : Page → Before → Seen
+abbrev pub seen_of : GatheredPage → Before → Seen
 seen_of p b = record { page = p; before = b }
 
-pub with_pieces-append : (p : Page) (xs ys : List Piece) →
+pub with_pieces-append : (p : GatheredPage) (xs ys : List Piece) →
     with_pieces p (xs ++ ys) ≡ with_pieces (with_pieces p xs) ys
 unfolding with_pieces
 with_pieces-append p [] ys = refl
 with_pieces-append p (x ∷ xs) ys = with_pieces-append (with_piece p x) xs ys
 
-abbrev pub page_of : List Part → List ℕ → Bool → Page
+abbrev pub page_of : List Part → List ℕ → Bool → GatheredPage
 page_of ps t b = record { parts = ps; text = t; after_edge = b }
 
 pub page_is : (p q : List Part) (t u : List ℕ) (a b : Bool) → p ≡ q → t ≡ u → a ≡ b →
@@ -66,12 +66,12 @@ chars_added ps t b c (d ∷ ds) =
     chars_added ps (t ++ c ∷ []) false d ds
     ∙ ap (λ l. page_of ps l false) (append_assoc t (c ∷ []) (d ∷ ds))
 
-pub text_added : (p : Page) (bs cs : List ℕ) → chars bs ≡ cs → IsUtf8 bs →
+pub text_added : (p : GatheredPage) (bs cs : List ℕ) → chars bs ≡ cs → IsUtf8 bs →
     eqb (length bs) 0 ≡ false → with_pieces p (map char cs) ≡ page_of p.parts (p.text ++ cs) false
 text_added p bs [] e u h = absurd (some_chars bs e u h)
 text_added p bs (c ∷ cs) e u h = chars_added p.parts p.text p.after_edge c cs
 
-pub one_behind : (p q r : Page) (xs : List Piece) (x : Piece) → q ≡ with_pieces p xs →
+pub one_behind : (p q r : GatheredPage) (xs : List Piece) (x : Piece) → q ≡ with_pieces p xs →
     r ≡ with_piece q x → r ≡ with_pieces p (xs ++ x ∷ [])
 unfolding with_pieces
 one_behind p q r xs x e f =
@@ -153,7 +153,7 @@ gathered (blank later) (collapsible c ∷ as') =
     gathered (blank later) as' ∙ ap (λ l. released (is_supported_by as') (blank later) ++ l)
     (sym (not_seen (is_supported_by as') c (atoms_pieces false as')))
 
-pub seen_is : (p q : Page) (a b : Before) → p ≡ q → a ≡ b → seen_of p a ≡ seen_of q b
+pub seen_is : (p q : GatheredPage) (a b : Before) → p ≡ q → a ≡ b → seen_of p a ≡ seen_of q b
 seen_is p q a b e f = ap (λ l. seen_of l a) e ∙ ap (seen_of q) f
 
 pub gathered_is_seen : (as' : List Atom) →

@@ -9,31 +9,31 @@ use Rattle.typst_html_page.specs.Unseen.{is_unseen, seen_nodes}
 
 -- complete parts, in which neighbouring edges are one, the text behind them, and whether the last
 -- part is an edge
-pub record Page : Type 0 where
+pub record GatheredPage : Type 0 where
   pub parts : List Part
   pub text : List ℕ
   pub after_edge : Bool
 
-abbrev pub empty_page : Page
+abbrev pub empty_page : GatheredPage
 empty_page = record { parts = []; text = []; after_edge = false }
 
 -- all parts, if nothing more follows
-abbrev pub ended_parts : Page → List Part
+abbrev pub ended_parts : GatheredPage → List Part
 ended_parts p = p.parts ++ put_text p.text []
 
 -- with a part that is no text
-abbrev pub with_part : Page → Part → (after_edge : Bool) → Page
+abbrev pub with_part : GatheredPage → Part → (after_edge : Bool) → GatheredPage
 with_part p x after_edge =
     record { parts = ended_parts p ++ x ∷ []; text = []; after_edge = after_edge }
 
-abbrev pub with_piece : Page → Piece → Page
+abbrev pub with_piece : GatheredPage → Piece → GatheredPage
 with_piece p (char c) =
     record { parts = p.parts; text = p.text ++ c ∷ []; after_edge = false }
 with_piece p (thing name) = with_part p (object_part name) false
 with_piece p line = with_part p line_part false
 with_piece p edge = if p.after_edge then p else with_part p edge_part true
 
-unfoldable pub with_pieces : Page → List Piece → Page
+unfoldable pub with_pieces : GatheredPage → List Piece → GatheredPage
 with_pieces p [] = p
 with_pieces p (x ∷ xs) = with_pieces (with_piece p x) xs
 
@@ -92,7 +92,7 @@ past b border = bare
 
 -- what is gathered so far
 pub record Seen : Type 0 where
-  pub page : Page
+  pub page : GatheredPage
   pub before : Before
 
 abbrev pub nothing_seen : Seen

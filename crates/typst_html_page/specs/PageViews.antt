@@ -3,7 +3,7 @@ use Rattle.std.specs.Prelude.{List, map}
 use Rattle.html_dom_tree.specs.Views.{text_view}
 use Rattle.typst_html_page.specs.Gathering as gathering
 use Rattle.typst_html_page.specs.Parts.{Part, text_part, object_part, line_part, edge_part}
-use Rattle.typst_html_page.specs.declared.page.Page.{Page}
+use Rattle.typst_html_page.specs.declared.page.GatheredPage.{GatheredPage}
 use Rattle.typst_html_page.specs.declared.seen.Before.{Before}
 use Rattle.typst_html_page.specs.declared.seen.Before.TheVariants.{Bare, Support, Blank}
 use Rattle.typst_html_page.specs.declared.seen.Seen.{Seen}
@@ -24,7 +24,7 @@ parts_view ps = map part_view ps
 abbrev pub page_text_view : PageText → List Part
 page_text_view t = parts_view t.parts.items
 
-abbrev pub page_view : Page → gathering.Page
+abbrev pub page_view : GatheredPage → gathering.GatheredPage
 page_view p = record { parts = parts_view p.parts.items; text = p.text; after_edge = p.after_edge }
 
 abbrev pub before_view : Before → gathering.Before

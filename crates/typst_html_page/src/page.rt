@@ -7,27 +7,27 @@ ghost use Rattle.typst_html_page.specs.PageViews.{page_text_view, page_view, par
 
 use crate::shown::{PageText, Shown};
 use html_names::HtmlTag;
-use html_names::output::Output;
+use html_names::text_writer::TextWriter;
 use std::alloc::{AllocError, Global};
 use std::mem;
 
 /// The parts so far, and the characters with which the next text begins.
 #[derive(Drop)]
-pub(crate) struct Page {
+pub(crate) struct GatheredPage {
     alloc: Global,
     parts: Vec<Shown>,
-    text: Output,
+    text: TextWriter,
     after_edge: bool,
 }
 
-impl Page {
-    pub(crate) fn new(alloc: Global) -> Page
+impl GatheredPage {
+    pub(crate) fn new(alloc: Global) -> GatheredPage
         ensures { page_view result ≡ empty_page }
     {
-        Page {
+        GatheredPage {
             alloc,
             parts: Vec::new(alloc),
-            text: Output::new(alloc),
+            text: TextWriter::new(alloc),
             after_edge: false,
         }
     }
@@ -40,7 +40,7 @@ impl Page {
         Ok(())
     }
 
-    pub(crate) fn push_text(&mut self, text: &Output) -> Result<(), AllocError>
+    pub(crate) fn push_text(&mut self, text: &TextWriter) -> Result<(), AllocError>
         ensures { OnOk result (page_view self.new
             ≡ with_pieces (page_view self.old) (map char text.now)) }
     {
@@ -102,7 +102,7 @@ impl Page {
         if self.text.as_str().is_empty() {
             return Ok(());
         }
-        let text = mem::replace(&mut self.text, Output::new(self.alloc));
+        let text = mem::replace(&mut self.text, TextWriter::new(self.alloc));
         self.parts.push(Shown::Text(text.into_string()))?;
         Ok(())
     }

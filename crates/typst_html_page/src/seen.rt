@@ -6,11 +6,11 @@ ghost use Rattle.typst_html_page.specs.Gathering.{border_atoms, released, with_p
 ghost use Rattle.typst_html_page.specs.Gathering as gathering;
 ghost use Rattle.typst_html_page.specs.PageViews.{before_view, page_text_view, page_view, seen_view};
 
-use crate::page::Page;
+use crate::page::GatheredPage;
 use crate::shown::PageText;
 use html_names::HtmlTag;
 use html_names::charsets::is_default_ignorable;
-use html_names::output::Output;
+use html_names::text_writer::TextWriter;
 use std::alloc::{AllocError, Global};
 use std::mem;
 
@@ -23,13 +23,13 @@ enum Before {
     Support,
     /// A blank that has support before it, and the ignorable characters behind it. They are held
     /// back until it is known whether support follows.
-    Blank(Output),
+    Blank(TextWriter),
 }
 
 #[derive(Drop)]
 pub(crate) struct Seen {
     alloc: Global,
-    page: Page,
+    page: GatheredPage,
     before: Before,
 }
 
@@ -39,7 +39,7 @@ impl Seen {
     {
         Seen {
             alloc,
-            page: Page::new(alloc),
+            page: GatheredPage::new(alloc),
             before: Before::Bare,
         }
     }
@@ -93,7 +93,7 @@ impl Seen {
         ensures { seen_view self.new ≡ step (seen_view self.old) (collapsible c) }
     {
         if let Before::Support = &self.before {
-            self.before = Before::Blank(Output::new(self.alloc));
+            self.before = Before::Blank(TextWriter::new(self.alloc));
         }
     }
 

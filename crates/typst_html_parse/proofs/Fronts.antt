@@ -21,8 +21,7 @@ name_small c h = grind (arith, nat_tests)
 pub name_ascii : (cs : List ℕ) → all is_name_char cs ≡ true → IsAscii cs
 name_ascii [] h = IsAscii-nil
 name_ascii (c ∷ cs) h =
-    let both = and_parts (is_name_char c) (all is_name_char cs) h in
-    IsAscii-cons c cs (name_small c both.0) (name_ascii cs both.1)
+    IsAscii-cons c cs (name_small c (grind arith)) (name_ascii cs (grind arith))
 
 pub small_some : (cs : List ℕ) → begins_small cs ≡ true → eqb (length cs) 0 ≡ false
 small_some [] h = absurd (false≢true h)

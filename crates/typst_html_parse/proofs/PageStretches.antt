@@ -140,13 +140,10 @@ stretch_form c [] r =
     ap (λ s. grown r (r.page.text ++ c ∷ []) s (r.place + 1)) {x = r.place} {y = r.place + 0}
     (omega arith)
 stretch_form c (d ∷ ds) r =
+    let start : r.place + 1 + length ds ≡ r.place + length (d ∷ ds) = omega arith in
+    let place : r.place + 1 + length (d ∷ ds) ≡ r.place + length (c ∷ d ∷ ds) = omega arith in
     stretch_form d ds (behind_char c r)
-    ∙ (ap (λ l. grown r l (r.place + 1 + length ds) (r.place + 1 + length (d ∷ ds)))
-    (append_assoc r.page.text (c ∷ []) (d ∷ ds))
-    ∙ (ap (λ s. grown r (r.page.text ++ c ∷ d ∷ ds) s (r.place + 1 + length (d ∷ ds)))
-    {x = r.place + 1 + length ds} {y = r.place + length (d ∷ ds)} (omega arith)
-    ∙ ap (λ n. grown r (r.page.text ++ c ∷ d ∷ ds) (r.place + length (d ∷ ds)) n)
-    {x = r.place + 1 + length (d ∷ ds)} {y = r.place + length (c ∷ d ∷ ds)} (omega arith)))
+    ∙ (λ i. grown r (append_assoc r.page.text (c ∷ []) (d ∷ ds) i) (start i) (place i))
 
 pub stretch_some : (front : List ℕ) (r : Reading) → eqb (length front) 0 ≡ false →
     behind_stretch front r

@@ -1,31 +1,19 @@
 -- Places in a page, one character after the other.
-use Rattle.std.proofs.Common.{◌≡◌, ℕ, ◌+◌, ◌<◌, ◌≤◌, Bool, not, ◌&&◌, ◌||◌, inl, inr, eqb, List, [], ◌∷◌, ◌++◌, chars, length, refl, sym, ap, ◌∙◌, arith, length-append}
+use Rattle.std.proofs.Common.{◌≡◌, ℕ, ◌+◌, ◌<◌, ◌≤◌, Bool, not, ◌&&◌, ◌||◌, eqb, List, [], ◌∷◌, ◌++◌, chars, refl, sym, ap, ◌∙◌, arith}
 use Rattle.std.specs.Prelude.{if◌then◌else◌}
 use Rattle.std.specs.Char.{len_utf8}
-use Rattle.std.proofs.lemmas.Bool.{cases_Bool, le-leb, lt-leb}
-use Rattle.std.proofs.lemmas.Str.{length-encode, len_utf8_bounds}
+use Rattle.std.proofs.lemmas.Bool.{le-leb, lt-leb}
 use lib.Utf8.{encode}
 use Rattle.typst_html_parse.specs.PagePlaces.{next_place, place_from}
 use Rattle.typst_html_parse.specs.ReachedPlaces.{IsReached}
 use Rattle.typst_html_read.specs.declared.place.Place.{Place}
+use Rattle.typst_html_read.proofs.Places.{first_long}
 
 line_at_most : (t : Bool) (n : ℕ) → (if t then n + 1 else n) ≤ n + 1
-line_at_most t n = elim (cases_Bool t) [
-  | inl h ↦ rw h (omega arith)
-  | inr h ↦ rw h (omega arith)
-]
-
-kept_at_most : (t : Bool) (n : ℕ) → (if t then n else n + 1) ≤ n + 1
-kept_at_most t n = elim (cases_Bool t) [
-  | inl h ↦ rw h (omega arith)
-  | inr h ↦ rw h (omega arith)
-]
+line_at_most t n = grind arith
 
 column_at_most : (s t : Bool) (n : ℕ) → (if s then 1 else (if t then n else n + 1)) ≤ n + 1
-column_at_most s t n = elim (cases_Bool s) [
-  | inl h ↦ rw h (omega arith)
-  | inr h ↦ rw h (kept_at_most t n)
-]
+column_at_most s t n = grind arith
 
 -- what a character adds to the offset, and at most to the line and the column
 pub passed : (b : Bool) (p q : Place) (c : ℕ) → q ≡ next_place b p c →
@@ -53,21 +41,15 @@ pub next_reached : (text rest later : List ℕ) (b : Bool) (p q : Place) (c : �
     IsReached text rest p b → IsReached text later q (eqb c 13)
 next_reached text rest later b p q c e parts left at =
     let one = passed b p q c e in
+    let long = first_long rest later c parts in
     record {
       same = λ offset h.
-          let before : p.offset < offset = omega (arith, one.0, h, len_utf8_bounds c) in
+          let before : p.offset < offset = omega (arith, one.0, h, long.1) in
           ap (λ x. place_from (eqb c 13) x (chars later) offset) e
           ∙ (sym (one_more b p c (chars later) offset before)
           ∙ (ap (λ cs. place_from b p cs offset) (sym left)
           ∙ at.same offset (omega (arith, before))));
-      room = omega (
-        arith,
-        at.room,
-        one.0,
-        ap length parts,
-        length-append (encode c) later,
-        length-encode c,
-      );
-      line = omega (arith, at.line, one.0, one.1, len_utf8_bounds c);
-      column = omega (arith, at.column, one.0, one.2, len_utf8_bounds c);
+      room = omega (arith, at.room, one.0, long.0);
+      line = omega (arith, at.line, one.0, one.1, long.1);
+      column = omega (arith, at.column, one.0, one.2, long.1);
     }

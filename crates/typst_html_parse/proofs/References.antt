@@ -1,49 +1,25 @@
 -- What stands since `&` is ASCII, and numbers above those of all characters are one as another.
-use Rattle.std.proofs.Common.{◌≡◌, ℕ, zero, suc, ◌+◌, ◌-◌, ◌*◌, ◌<◌, ◌≤◌, true, false, ◌||◌, inl, inr, List, [], ◌∷◌, Option, Some, None, chars, drop, eqb, length, min, take, refl, sym, ap, ◌∙◌, arith, nat_lt}
+use Rattle.std.proofs.Common.{◌≡◌, ℕ, zero, suc, ◌+◌, ◌-◌, ◌*◌, ◌<◌, ◌≤◌, true, inl, inr, List, [], ◌∷◌, Option, Some, None, chars, drop, length, min, take, refl, sym, ap, ◌∙◌, arith}
 use Rattle.std.specs.Char.{digit_value}
 use Rattle.std.specs.Str.Parse.{digits_value, digits_value_after}
 use native.Mathlib.Nat.{mul-le-mul_left, mul-one, min_comm, min-eq_left, min-le_left, le_refl}
-use Rattle.std.proofs.lemmas.Bool.{cases_Bool, cases_lt, lt-ltb}
+use Rattle.std.proofs.lemmas.Bool.{cases_lt}
 use Rattle.std.proofs.lemmas.Bool.Decides.{nat_tests}
 use Rattle.std.proofs.lemmas.List.{take_all, drop_all}
 use Rattle.std.proofs.lemmas.Str.{IsAscii-take, IsAscii-drop, chars-IsAscii}
 use Rattle.html_names.proofs.Basics.{is_ascii_is}
 use Rattle.html_names.proofs.Lists.{chars_ascii}
-use Rattle.html_names.specs.Characters.{is_digit}
 use Rattle.html_names.specs.Names.{is_ascii}
 use Rattle.typst_html_parse_names.specs.NamedReferences.{legacy_reference}
-use Rattle.typst_html_parse.specs.PageReferences.{is_alphanumeric, is_hex_digit, is_x, continues, continues_number, numbered, numbered_char, number_error, resolved_number, found_before, longest_legacy}
-
-first_ascii : (c : ℕ) → (is_alphanumeric c || eqb c 35) ≡ true → c < 128
-first_ascii c h = grind (arith, nat_tests)
-
-alphanumeric_ascii : (c : ℕ) → is_alphanumeric c ≡ true → c < 128
-alphanumeric_ascii c h = grind (arith, nat_tests)
-
-begins_number_ascii : (c : ℕ) → (is_digit c || is_x c) ≡ true → c < 128
-begins_number_ascii c h = grind (arith, nat_tests)
-
-hex_ascii : (c : ℕ) → is_hex_digit c ≡ true → c < 128
-hex_ascii c h = grind (arith, nat_tests)
-
-digit_ascii : (c : ℕ) → is_digit c ≡ true → c < 128
-digit_ascii c h = grind (arith, nat_tests)
+use Rattle.typst_html_parse.specs.PageReferences.{continues, continues_number, numbered, numbered_char, number_error, resolved_number, found_before, longest_legacy}
 
 number_ascii : (since : List ℕ) (c : ℕ) → continues_number since c ≡ true → c < 128
-number_ascii [] c h = begins_number_ascii c h
-number_ascii (d ∷ ds) c h =
-    elim (cases_Bool (is_x d)) [
-      | inl e ↦ hex_ascii c (rw e at h)
-      | inr e ↦ digit_ascii c (rw e at h)
-    ]
+number_ascii [] c h = grind (arith, nat_tests)
+number_ascii (d ∷ ds) c h = grind (arith, nat_tests)
 
 pub continues_ascii : (since : List ℕ) (c : ℕ) → continues since c ≡ true → c < 128
-continues_ascii [] c h = first_ascii c h
-continues_ascii (s ∷ ss) c h =
-    elim (cases_Bool (eqb s 35)) [
-      | inl e ↦ number_ascii ss c (rw e at h)
-      | inr e ↦ alphanumeric_ascii c (rw e at h)
-    ]
+continues_ascii [] c h = grind (arith, nat_tests)
+continues_ascii (s ∷ ss) c h = grind (arith, nat_tests, number_ascii ss c)
 
 min-eq_right : {m n : ℕ} → n ≤ m → min m n ≡ n
 min-eq_right {m} {n} h = min_comm m n ∙ min-eq_left h
@@ -76,16 +52,10 @@ capped b n ds h = at_min (λ m. min (digits_value_after b m ds) 0x11_0000) n 0x1
 
 -- the character and the error of a number that is too high are those of the first that is
 pub capped_char : (n : ℕ) → numbered_char (min n 0x11_0000) ≡ numbered_char n
-capped_char n = at_min numbered_char n 0x11_0000 (λ high.
-    let beyond : nat_lt 0x10_ffff n ≡ true = lt-ltb 0x10_ffff n (omega arith) in
-    let some : eqb n 0 ≡ false = grind (arith, nat_tests) in
-    rw (some, beyond) refl)
+capped_char n = at_min numbered_char n 0x11_0000 (λ high. grind (arith, nat_tests))
 
 pub capped_error : (n : ℕ) → number_error (min n 0x11_0000) ≡ number_error n
-capped_error n = at_min number_error n 0x11_0000 (λ high.
-    let beyond : nat_lt 0x10_ffff n ≡ true = lt-ltb 0x10_ffff n (omega arith) in
-    let some : eqb n 0 ≡ false = grind (arith, nat_tests) in
-    rw (some, beyond) refl)
+capped_error n = at_min number_error n 0x11_0000 (λ high. grind (arith, nat_tests))
 
 same_numbered : (n m : ℕ) (behind : Option ℕ) → numbered_char n ≡ numbered_char m →
     number_error n ≡ number_error m → numbered n behind ≡ numbered m behind
@@ -114,13 +84,15 @@ left_at n t = at_min (λ k. drop k t) n (length t)
 
 -- its bytes are its characters
 module _ (t : List ℕ) (a : is_ascii t ≡ true) (n : ℕ) where
-  pub front_chars : chars (take (min n (length t)) t) ≡ take n (chars t)
-  front_chars = ap chars (cut_at n t)
+  pub front_chars : (k : ℕ) (front : List ℕ) → k ≡ min n (length t) → front ≡ take k t →
+      chars front ≡ take n (chars t)
+  front_chars k front few is = ap chars (is ∙ (ap (λ k. take k t) few ∙ cut_at n t))
       ∙ (chars-IsAscii (take n t) (IsAscii-take t n (is_ascii_is t a))
       ∙ ap (take n) (sym (chars_ascii t a)))
 
-  pub rest_chars : chars (drop (min n (length t)) t) ≡ drop n (chars t)
-  rest_chars = ap chars (left_at n t)
+  pub rest_chars : (k : ℕ) (rest : List ℕ) → k ≡ min n (length t) → rest ≡ drop k t →
+      chars rest ≡ drop n (chars t)
+  rest_chars k rest few is = ap chars (is ∙ (ap (λ k. drop k t) few ∙ left_at n t))
       ∙ (chars-IsAscii (drop n t) (IsAscii-drop t n (is_ascii_is t a))
       ∙ ap (drop n) (sym (chars_ascii t a)))
 

@@ -1,11 +1,12 @@
 -- Names and end tags that are read at once are read as their characters one by one.
-use Rattle.std.proofs.Common.{◌≡◌, ℕ, ◌+◌, ◌-◌, Bool, true, false, not, ◌&&◌, ◌||◌, List, [], ◌∷◌, ◌++◌, chars, length, eqb, refl, sym, ap, ◌∙◌, arith, append_assoc, length-append, Ok, Err, Some}
+use Rattle.std.proofs.Common.{◌≡◌, ℕ, ◌+◌, ◌-◌, Bool, true, false, List, [], ◌∷◌, ◌++◌, chars, length, eqb, refl, sym, ap, ◌∙◌, arith, append_assoc, length-append, Ok, Err, Some}
 use Rattle.std.specs.Char.{to_ascii_lowercase}
 use Rattle.std.specs.List.{list_all}
 use Rattle.std.specs.Result.{is_ok}
-use Rattle.std.proofs.lemmas.Bool.{agree_below, agree_below_at, and_from, and_parts, eqb-true, false≢true, not-true, or_left}
+use Rattle.std.proofs.lemmas.Bool.Decides.{nat_tests}
+use Rattle.std.proofs.lemmas.Bool.{and_parts, false≢true}
 use Rattle.std.proofs.lemmas.Str.{chars-IsAscii}
-use Rattle.html_names.specs.Characters.{all, is_capital, is_digit, is_hyphen, is_lower, is_tag_char}
+use Rattle.html_names.specs.Characters.{all, is_lower, is_tag_char}
 use Rattle.typst_html_parse.specs.Fronts.{BeginsWith, CutsAll, begins_small, is_name_char}
 use Rattle.typst_html_parse.specs.PageReading.{run}
 use Rattle.typst_html_parse.specs.PageReferences.{is_letter}
@@ -22,27 +23,18 @@ use Rattle.typst_html_parse_tree.specs.PageBodies.{is_space}
 use Rattle.typst_html_parse_tree.specs.PageTrees.{token_read}
 use Rattle.typst_html_parse_tree.proofs.OwnEnds.{own_end_taken}
 
-by_table : (p : ℕ → Bool) (c : ℕ) →
-    agree_below (λ d. is_name_char d && p d) is_name_char 128 ≡ true →
-    is_name_char c ≡ true → p c ≡ true
-by_table p c table h = (and_parts (is_name_char c) (p c)
-    (agree_below_at (λ d. is_name_char d && p d) is_name_char 128 c table (name_small c h) ∙ h)).1
-
 lowered : (c : ℕ) → is_name_char c ≡ true → to_ascii_lowercase c ≡ c
-lowered c h = eqb-true _ c (by_table (λ d. eqb (to_ascii_lowercase d) d) c refl h)
+lowered c h = grind (arith, nat_tests)
 
 spaceless : (c : ℕ) → is_name_char c ≡ true → is_space c ≡ false
-spaceless c h = not-true _ (by_table (λ d. not (is_space d)) c refl h)
+spaceless c h = grind (arith, nat_tests)
 
 none : (c d : ℕ) → is_name_char c ≡ true → is_name_char d ≡ false → eqb c d ≡ false
 none c d h k = other is_name_char c d h k
 
 names : (cs : List ℕ) → all is_name_char cs ≡ true → list_all is_tag_char cs ≡ true
 names [] h = refl
-names (c ∷ cs) h =
-    let both = and_parts (is_name_char c) (all is_name_char cs) h in
-    and_from (is_tag_char c) (list_all is_tag_char cs) (by_table is_tag_char c refl both.0)
-    (names cs both.1)
+names (c ∷ cs) h = grind (arith, nat_tests, names cs)
 
 -- such a character, by which a state is left for another
 name_char_step : (s t : TokenState) (c : ℕ) (r : Reading) → is_name_char c ≡ true →
@@ -71,11 +63,10 @@ name_run cs ds tag r h = grow_run (λ n. TagName (record tag { name = n })) is_n
     (name_step tag) tag.name cs ds r h
 
 small_name : (c : ℕ) → is_lower c ≡ true → is_name_char c ≡ true
-small_name c h = or_left (is_lower c || is_digit c) (is_hyphen c)
-    (or_left (is_lower c) (is_digit c) h)
+small_name c h = grind arith
 
 letter : (c : ℕ) → is_lower c ≡ true → is_letter c ≡ true
-letter c h = or_left (is_lower c) (is_capital c) h
+letter c h = grind arith
 
 open_step : (is_end : Bool) (c : ℕ) (r : Reading) → is_lower c ≡ true →
     step (record { state = tag_open is_end; reading = r }) c ≡ Ok (in_name is_end (c ∷ []) r)
@@ -103,6 +94,15 @@ named : (name : List ℕ) → begins_small name ≡ true → all is_name_char na
     is_name name ≡ true
 named [] h k = absurd (false≢true h)
 named (c ∷ cs) h k = name_from c cs (names (c ∷ cs) k)
+
+-- behind a step, in the data at that place
+abbrev at_place : Reads Page → (place : ℕ) → Reads PageReader
+at_place x place = x next (λ p. Ok (in_data (record {
+  page = p;
+  place = place;
+  fresh = false;
+  after_return = false;
+})))
 
 behind_end : (x : Reads Page) (f : Page → Reading) (g : PageReader → PageReader) →
     (((x next (λ p. Ok (f p))) next goes Data) next (λ q. Ok (g q)))
@@ -134,18 +134,8 @@ own_end_run name cs r current taken small are =
     ap (run (record { state = tag_open true; reading = r })) (append_assoc name (62 ∷ []) cs)
     ∙ (tag_run true name (62 ∷ cs) r small are
     ∙ ap (λ x. x next (λ q. run q cs)) (ended name q token (named name small are)
-    ∙ (ap (λ p. (closed true p) next (λ p. Ok (in_data (record {
-      page = p;
-      place = q.place + 1;
-      fresh = false;
-      after_return = false;
-    })))) same
-    ∙ ap (λ n. (closed true r.page) next (λ p. Ok (in_data (record {
-      page = p;
-      place = n;
-      fresh = false;
-      after_return = false;
-    })))) {x = q.place + 1} {y = r.place + length (name ++ 62 ∷ [])}
+    ∙ (ap (λ p. at_place (closed true p) (q.place + 1)) same
+    ∙ ap (at_place (closed true r.page)) {x = q.place + 1} {y = r.place + length (name ++ 62 ∷ [])}
     (omega (arith, chars_place name r, length-append name (62 ∷ []))))))
 
 -- the name of an attribute, with `="` behind it
@@ -204,13 +194,8 @@ abbrev place_of : Reads PageReader → ℕ
 place_of (Ok q) = q.reading.place
 place_of (Err e) = 0
 
-place_behind : (x : Reads Page) (place : ℕ) (new : PageReader) →
-    (x next (λ p. Ok (in_data (record {
-      page = p;
-      place = place;
-      fresh = false;
-      after_return = false;
-    })))) ≡ Ok new → new.reading.place ≡ place
+place_behind : (x : Reads Page) (place : ℕ) (new : PageReader) → at_place x place ≡ Ok new →
+    new.reading.place ≡ place
 place_behind (Ok p) place new h = sym (ap place_of h)
 place_behind (Err e) place new h = absurd (false≢true (ap is_ok h))
 
@@ -245,13 +230,10 @@ attr_read q new tag text (c ∷ cs) behind rest opened cut some equals made =
     let same : chars attr ≡ attr = chars-IsAscii attr (name_ascii attr cut.are) in
     let passed : new ≡ in_quotes tag attr [] (behind_chars front r) =
     made
-    ∙ (ap (λ a. in_quotes tag a [] (record r {
-      place = r.place + (length attr + 2);
+    ∙ ((λ i. in_quotes tag (same i) [] (record r {
+      place = r.place + sym long i;
       after_return = false;
-    })) same
-    ∙ (ap (λ k. in_quotes tag attr [] (record r { place = r.place + k; after_return = false }))
-    (sym long)
-    ∙ ap (in_quotes tag attr []) (sym (chars_form c (cs ++ 61 ∷ 34 ∷ []) r)))) in
+    })) ∙ ap (in_quotes tag attr []) (sym (chars_form c (cs ++ 61 ∷ 34 ∷ []) r))) in
     front_read q new text front rest
     (begins_on text attr behind (61 ∷ 34 ∷ []) rest cut.begins equals)
     (ap (λ s. run (record { state = s; reading = r }) (front ++ chars rest)) opened

@@ -6,13 +6,12 @@ use Rattle.std.proofs.lemmas.Bool.{and_from, and_parts, not-true}
 use Rattle.std.proofs.lemmas.Bool.Decides.{nat_tests}
 use Rattle.html_names.specs.Characters.{IsOf, all, is_tag_char}
 use Rattle.typst_html_read.proofs.Closings.{name_is}
+use Rattle.typst_html_read.proofs.EndTags.{name_listed}
 use Rattle.typst_html_parse.specs.PageTokens.{is_name}
 
 all_of : (p : ℕ → Bool) (cs : List ℕ) → list_all p cs ≡ true → all p cs ≡ true
 all_of p [] h = refl
-all_of p (c ∷ cs) h =
-    let both = and_parts (p c) (list_all p cs) h in
-    and_from (p c) (all p cs) both.0 (all_of p cs both.1)
+all_of p (c ∷ cs) h = grind (arith, all_of p cs)
 
 of_chars : (p : ℕ → Bool) (cs : List ℕ) → eqb (length cs) 0 ≡ false → list_all p cs ≡ true →
     IsOf p cs
@@ -27,12 +26,6 @@ tag_bytes t u h =
     of_chars is_tag_char (chars t) (not-true _ both.0) both.1 in
     subst (IsOf is_tag_char) (sym (name_is t u is)) is
 
-some_all : (p : ℕ → Bool) (cs : List ℕ) → all p cs ≡ true → list_all p cs ≡ true
-some_all p [] h = refl
-some_all p (c ∷ cs) h =
-    let both = and_parts (p c) (all p cs) h in
-    and_from (p c) (list_all p cs) both.0 (some_all p cs both.1)
-
 pub name_from : (c : ℕ) (cs : List ℕ) → list_all is_tag_char (c ∷ cs) ≡ true →
     is_name (c ∷ cs) ≡ true
 name_from c cs h =
@@ -41,5 +34,4 @@ name_from c cs h =
 
 pub name_of_tag : (cs : List ℕ) → IsOf is_tag_char cs → is_name cs ≡ true
 name_of_tag [] h = absurd h
-name_of_tag (c ∷ cs) h = name_from c cs
-    (and_from (is_tag_char c) (list_all is_tag_char cs) h.0 (some_all is_tag_char cs h.1))
+name_of_tag (c ∷ cs) h = name_from c cs (name_listed (c ∷ cs) h)

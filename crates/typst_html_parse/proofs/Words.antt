@@ -6,25 +6,21 @@ use Rattle.std.specs.Str.{IsUtf8, IsAscii}
 use Rattle.std.proofs.lemmas.Bool.Decides.{Decides-eqb, nat_tests}
 use Rattle.std.proofs.lemmas.List.{length-map, take-append-drop, take_at}
 use Rattle.std.proofs.lemmas.Slice.Eq.{starts_is}
-use Rattle.std.proofs.lemmas.Str.{IsAscii-take, IsUtf8-from_ascii, length-encode, len_utf8_bounds, chars-IsAscii, encodes-chars, encodes-IsAscii}
-use lib.Utf8.{encode, encodes}
+use Rattle.std.proofs.lemmas.Str.{IsAscii-take, IsUtf8-from_ascii, chars-IsAscii, encodes-chars, encodes-IsAscii}
+use lib.Utf8.{encodes}
 use Rattle.html_names.specs.Names.{is_ascii}
 use Rattle.html_names.proofs.Basics.{is_ascii_is}
 use Rattle.html_names.proofs.Lists.{chars_ascii, bytes_eq-chars}
 use Rattle.typst_html_read.proofs.BegunReferences.{front_ascii}
 use Rattle.typst_html_read.proofs.Closings.{raised, same_tests}
+use Rattle.typst_html_read.proofs.Places.{first_long}
 use Rattle.typst_html_read.proofs.Words.{chars_after_word, word_before}
 
 empty_of : (cs t : List ℕ) → encodes cs ≡ t → eqb (length cs) 0 ≡ eqb (length t) 0
 empty_of [] t e = ap (λ l. eqb (length l) 0) e
 empty_of (c ∷ cs) t e =
-    let some : 1 ≤ length t = omega (
-      arith,
-      ap length e,
-      length-append (encode c) (encodes cs),
-      length-encode c,
-      len_utf8_bounds c,
-    ) in
+    let long = first_long t (encodes cs) c (sym e) in
+    let some : 1 ≤ length t = omega (arith, long.0, long.1) in
     grind (arith, nat_tests)
 
 pub is_word : (n t : List ℕ) → is_ascii n ≡ true → IsUtf8 t →

@@ -16,20 +16,14 @@ use crate::reader::{Brackets, Reader, State};
 use html_dom_tree::text;
 use std::alloc::AllocError;
 use typst_html_parse_open::{Halt, PageError, TableRule};
+use typst_html_read::begins;
 
+#[tactic(auto, using(crate::proofs::Words::is_word))]
 fn is(word: &str, text: &str) -> bool
     requires { IsTrue (is_ascii word.now) }
     ensures { result ≡ bytes_eq (chars text.now) word.now }
 {
     text == word
-}
-
-/// Returns whether an ASCII word begins with the text.
-fn begins(word: &str, text: &str) -> bool
-    requires { IsTrue (is_ascii word.now) }
-    ensures { result ≡ begins (chars text.now) word.now }
-{
-    word.starts_with(text)
 }
 
 /// Returns whether an ASCII word begins with the text in lowercase.

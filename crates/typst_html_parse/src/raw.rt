@@ -12,9 +12,10 @@ ghost use Rattle.typst_html_parse_open.specs.PageViews.{page_of, stack_of};
 
 use crate::reader::{Depth, Holder, Reader, State};
 use html_names::HtmlTag;
+use typst_html_encode::is_tag_end;
 use typst_html_parse_names::Kind;
 use typst_html_parse_open::{Halt, Page};
-use typst_html_read::{end_of, ends_in, is_tag_end};
+use typst_html_read::{end_of, ends_in};
 
 /// Returns the number of characters of a closing tag with that name, without its last.
 fn closing_length(name: &str) -> usize

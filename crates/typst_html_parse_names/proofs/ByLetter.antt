@@ -1,10 +1,10 @@
 -- A name is looked for among the references that begin with its first letter.
-use Rattle.std.proofs.Common.{◌≡◌, ℕ, zero, suc, ◌+◌, ◌<◌, ◌≤◌, Bool, true, false, ◌&&◌, List, [], ◌∷◌, ◌++◌, refl, sym, ap, ◌∙◌, length, get_or, arith, bytes_eq, chars, Option, Some, None, option_map, cond, ◌⊎◌, inl, inr}
+use Rattle.std.proofs.Common.{◌≡◌, ℕ, zero, suc, ◌+◌, ◌<◌, ◌≤◌, Bool, true, false, ◌&&◌, List, [], ◌∷◌, ◌++◌, refl, sym, ap, ◌∙◌, length, get_or, arith, bytes_eq, chars, Option, None, option_map, ◌⊎◌, inl, inr}
 use Rattle.std.specs.Borrow.{Bor}
-use Rattle.std.specs.List.{find, list_all, flat_map}
+use Rattle.std.specs.List.{list_all, flat_map}
 use Rattle.std.specs.Option.{option_or}
 use Rattle.std.specs.Str.{IsUtf8}
-use Rattle.std.proofs.lemmas.Bool.{and_parts, ne_eqb}
+use Rattle.std.proofs.lemmas.Bool.{ne_eqb}
 use Rattle.std.proofs.lemmas.Slice.Eq.{bytes_eq-Decides}
 use mathlib.Core.Logic.{⊎_elim}
 use Rattle.html_names.specs.Names.{is_ascii}
@@ -21,8 +21,7 @@ abbrev is_of : (letter : ℕ) → Row → Bool
 is_of letter r = begins_with letter r.0 && is_ascii r.0
 
 or_none : (o : Value) → option_or o None ≡ o
-or_none None = refl
-or_none (Some x) = refl
+or_none o = grind arith
 
 abbrev is_named : (name : List ℕ) → Row → Bool
 is_named name r = bytes_eq r.0 name
@@ -30,34 +29,17 @@ is_named name r = bytes_eq r.0 name
 abbrev value : Option Row → Value
 value = option_map (λ r. r.1)
 
-head_or : (is : Bool) (r : Row) (found more : Option Row) (other : Value) →
-    value more ≡ option_or (value found) other →
-    value (cond is (Some r) more) ≡ option_or (value (cond is (Some r) found)) other
-head_or true r found more other e = refl
-head_or false r found more other e = e
-
 value_in-append : (xs ys : List Row) (name : List ℕ) →
     value_in (xs ++ ys) name ≡ option_or (value_in xs name) (value_in ys name)
 value_in-append [] ys name = refl
-value_in-append (r ∷ xs) ys name = head_or (is_named name r) r (find (is_named name) xs)
-    (find (is_named name) (xs ++ ys)) (value_in ys name) (value_in-append xs ys name)
-
-other_letter : (letter : ℕ) (row name : List ℕ) (b : Bool) → begins_with letter row ≡ true →
-    begins_with letter name ≡ false → bytes_eq row name ≡ b → b ≡ false
-other_letter letter row name false is other e = refl
-other_letter letter row name true is other e =
-    let same : row ≡ name = (bytes_eq-Decides row name).0 e in
-    sym is ∙ (ap (begins_with letter) same ∙ other)
+value_in-append (r ∷ xs) ys name = grind (arith, value_in-append xs ys name)
 
 -- no name of a group begins with another letter
 other_group : (letter : ℕ) (rows : List Row) (name : List ℕ) → list_all (is_of letter) rows ≡ true →
     begins_with letter name ≡ false → value_in rows name ≡ None
 other_group letter [] name are other = refl
 other_group letter (r ∷ rows) name are other =
-    let both = and_parts (is_of letter r) (list_all (is_of letter) rows) are in
-    let begins = (and_parts (begins_with letter r.0) (is_ascii r.0) both.0).0 in
-    rw (other_letter letter r.0 name (bytes_eq r.0 name) begins other refl)
-    (other_group letter rows name both.1 other)
+    grind (arith, (bytes_eq-Decides r.0 name).0, other_group letter rows name)
 
 value_in_groups-cons : (rows : List Row) (groups : List (List Row)) (name : List ℕ) →
     value_in_groups (rows ∷ groups) name ≡ option_or (value_in rows name) (value_in_groups groups name)
@@ -73,11 +55,9 @@ no_group : (letter : ℕ) (groups : List (List Row)) (name : List ℕ) →
     ((l : ℕ) → letter ≤ l → begins_with l name ≡ false) → value_in_groups groups name ≡ None
 no_group letter [] name are other = nothing name
 no_group letter (rows ∷ groups) name are other =
-    let both = and_parts (list_all (is_of letter) rows) (are_grouped (suc letter) groups) are in
-    let here = other_group letter rows name both.0 (other letter (omega arith)) in
-    let there = no_group (suc letter) groups name both.1 (λ l h. other l (omega arith)) in
-    value_in_groups-cons rows groups name ∙ (ap (λ o. option_or o (value_in_groups groups name)) here
-    ∙ there)
+    let here = other_group letter rows name (grind arith) (other letter (omega arith)) in
+    let there = no_group (suc letter) groups name (grind arith) (λ l h. other l (omega arith)) in
+    grind (arith, value_in_groups-cons rows groups name)
 
 -- of names that begin with a letter all are in its group
 by_letter : (letter n c : ℕ) (groups : List (List Row)) (cs : List ℕ) →
@@ -85,41 +65,31 @@ by_letter : (letter n c : ℕ) (groups : List (List Row)) (cs : List ℕ) →
     value_in_groups groups (c ∷ cs) ≡ value_in (get_or groups n []) (c ∷ cs)
 by_letter letter n c [] cs are is = nothing (c ∷ cs)
 by_letter letter zero c (rows ∷ groups) cs are is =
-    let both = and_parts (list_all (is_of letter) rows) (are_grouped (suc letter) groups) are in
-    let there = no_group (suc letter) groups (c ∷ cs) both.1 (λ l h. ne_eqb c l (λ e. omega arith)) in
+    let there = no_group (suc letter) groups (c ∷ cs) (grind arith)
+    (λ l h. ne_eqb c l (λ e. omega arith)) in
     value_in_groups-cons rows groups (c ∷ cs)
     ∙ (ap (option_or (value_in rows (c ∷ cs))) there ∙ or_none (value_in rows (c ∷ cs)))
 by_letter letter (suc n) c (rows ∷ groups) cs are is =
-    let both = and_parts (list_all (is_of letter) rows) (are_grouped (suc letter) groups) are in
-    let here = other_group letter rows (c ∷ cs) both.0 (ne_eqb c letter (λ e. omega arith)) in
+    let other = ne_eqb c letter (λ e. omega arith) in
+    let here = other_group letter rows (c ∷ cs) (grind arith) other in
     value_in_groups-cons rows groups (c ∷ cs)
     ∙ (ap (λ o. option_or o (value_in_groups groups (c ∷ cs))) here
-    ∙ by_letter (suc letter) n c groups cs both.1 (omega arith))
-
-same_head : (is : Bool) (r : Row) (found found' : Option Row) → value found ≡ value found' →
-    value (cond is (Some r) found) ≡ value (cond is (Some r) found')
-same_head true r found found' e = refl
-same_head false r found found' e = e
+    ∙ by_letter (suc letter) n c groups cs (grind arith) (omega arith))
 
 -- names are ASCII, so that texts may be compared by their bytes
 value_in-chars : (letter : ℕ) (rows : List Row) (t : List ℕ) → list_all (is_of letter) rows ≡ true →
     IsUtf8 t → value_in rows (chars t) ≡ value_in rows t
 value_in-chars letter [] t are u = refl
 value_in-chars letter (r ∷ rows) t are u =
-    let both = and_parts (is_of letter r) (list_all (is_of letter) rows) are in
-    let ascii = (and_parts (begins_with letter r.0) (is_ascii r.0) both.0).1 in
-    ap (λ is. value (cond is (Some r) (find (is_named (chars t)) rows))) (bytes_eq-ascii r.0 t ascii u)
-    ∙ same_head (is_named t r) r (find (is_named (chars t)) rows) (find (is_named t) rows)
-    (value_in-chars letter rows t both.1 u)
+    grind (arith, bytes_eq-ascii r.0 t, value_in-chars letter rows t)
 
 in_bytes : (letter : ℕ) (groups : List (List Row)) (t : List ℕ) → are_grouped letter groups ≡ true →
     IsUtf8 t → value_in_groups groups (chars t) ≡ value_in_groups groups t
 in_bytes letter [] t are u = nothing (chars t) ∙ sym (nothing t)
 in_bytes letter (rows ∷ groups) t are u =
-    let both = and_parts (list_all (is_of letter) rows) (are_grouped (suc letter) groups) are in
     value_in_groups-cons rows groups (chars t)
-    ∙ ((λ i. option_or (value_in-chars letter rows t both.0 u i) (in_bytes (suc letter) groups t both.1 u i))
-    ∙ sym (value_in_groups-cons rows groups t))
+    ∙ ((λ i. option_or (value_in-chars letter rows t (grind arith) u i)
+    (in_bytes (suc letter) groups t (grind arith) u i)) ∙ sym (value_in_groups-cons rows groups t))
 
 pub view_at : (names : List (Bor (List ℕ))) (references : List (Bor (List Reference))) (n : ℕ)
     (d : Bor (List ℕ)) (e : Bor (List Reference)) → n < length names → n < length references →
@@ -146,10 +116,9 @@ pub long_at : (names : List (Bor (List ℕ))) (references : List (Bor (List Refe
 long_at [] references n d e are l m = absurd (omega arith)
 long_at (t ∷ ts) [] n d e are l m = absurd (omega arith)
 long_at (t ∷ ts) (r ∷ rs) zero d e are l m =
-    (and_parts (are_as_long t.now r.now) (all_as_long ts rs) are).0
+    grind arith
 long_at (t ∷ ts) (r ∷ rs) (suc n) d e are l m =
-    long_at ts rs n d e (and_parts (are_as_long t.now r.now) (all_as_long ts rs) are).1
-    (omega arith) (omega arith)
+    long_at ts rs n d e (grind arith) (omega arith) (omega arith)
 
 pub no_letter : (groups : List (List Row)) (t : List ℕ) → are_grouped 65 groups ≡ true → IsUtf8 t →
     length t ≤ 0 → value_in_groups groups (chars t) ≡ None

@@ -2,7 +2,7 @@
 use Rattle.std.proofs.Common.{◌≡◌, ℕ, zero, suc, ◌<◌, Bool, true, false, List, [], ◌∷◌, refl, sym, ap, ◌∙◌, length, get_or, arith, map, bytes_eq, Some, None, unwrap_or}
 use Rattle.std.specs.List.{find}
 use Rattle.std.specs.Borrow.{Bor}
-use Rattle.std.proofs.lemmas.Bool.{and_parts, or_parts}
+use Rattle.std.proofs.lemmas.Bool.{and_parts}
 use Rattle.std.proofs.lemmas.Slice.Eq.{bytes_eq-Decides}
 use Rattle.std.proofs.lemmas.List.{get_or-map, length-map}
 use Rattle.html_names.specs.Names.{stands_in, texts, rises, IsPlace}
@@ -32,14 +32,13 @@ find_none : (names : List (List ℕ)) (text : List ℕ) → stands_in (map lower
 unfolding stands_in
 find_none [] text h = refl
 find_none (m ∷ ms) text h =
-    let both = or_parts (bytes_eq (lowered m) text) (stands_in (map lowered ms) text) h in
-    rw both.0 (find_none ms text both.1)
+    grind (arith, find_none ms text)
 
 valid_at : (names : List (List ℕ)) (n : ℕ) → n < length names → are_names names ≡ true →
     is_name (get_or names n []) ≡ true
 valid_at [] n l a = absurd (omega arith)
 valid_at (m ∷ ms) zero l a = (and_parts _ _ a).0
-valid_at (m ∷ ms) (suc n) l a = valid_at ms n (omega arith) (and_parts (is_name m) _ a).1
+valid_at (m ∷ ms) (suc n) l a = valid_at ms n (omega arith) (grind arith)
 
 pub with_capitals_at : (table : List (Bor (List ℕ))) (small : List (List ℕ)) (text : List ℕ)
     (n k : ℕ) (d : Bor (List ℕ)) → small ≡ map lowered (texts table) → rises small ≡ true →

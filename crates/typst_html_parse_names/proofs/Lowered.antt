@@ -2,7 +2,7 @@
 use Rattle.std.proofs.Common.{◌≡◌, ℕ, suc, ◌<◌, ◌≤◌, true, false, codes, List, [], ◌∷◌, ◌++◌, refl, sym, ap, ◌∙◌, inl, inr, length, get_or, arith, bytes_eq}
 use Rattle.std.specs.Char.{to_ascii_lowercase}
 use Rattle.std.specs.Str.{IsUtf8, chars}
-use Rattle.std.proofs.lemmas.Bool.{and_parts, and_from, cases_lt}
+use Rattle.std.proofs.lemmas.Bool.{cases_lt}
 use Rattle.std.proofs.lemmas.List.{append-nil, map-append}
 use Rattle.std.proofs.lemmas.Str.{inside_one, encode_ascii, encodes-chars, chars-encodes, scalars-chars}
 use Rattle.std.proofs.lemmas.Str.Ascii.{lowercase_is, lowercase_ascii}
@@ -57,10 +57,7 @@ encodes-lowered (c ∷ cs) =
 
 scalars-lowered : (cs : List ℕ) → scalars cs ≡ true → scalars (lowered cs) ≡ true
 scalars-lowered [] are = are
-scalars-lowered (c ∷ cs) are =
-    let both = and_parts (scalar c) (scalars cs) are in
-    and_from (scalar (to_ascii_lowercase c)) (scalars (lowered cs)) (scalar-lowered c both.0)
-    (scalars-lowered cs both.1)
+scalars-lowered (c ∷ cs) are = grind (arith, scalar-lowered c, scalars-lowered cs)
 
 in_characters : (bs : List ℕ) → IsUtf8 bs → encodes (lowered (chars bs)) ≡ lowered bs
 in_characters bs u = sym (encodes-lowered (chars bs)) ∙ ap lowered (encodes-chars bs u)

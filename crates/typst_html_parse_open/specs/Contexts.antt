@@ -76,18 +76,7 @@ numbered n = if n == 0 then BeforeHtml else (if n == 1 then BeforeHead
 
 number_back : (m : Mode) → numbered (number_of m) ≡ m
 number_back BeforeHtml = refl
-number_back BeforeHead = refl
-number_back InHead = refl
-number_back InHeadNoscript = refl
-number_back AfterHead = refl
-number_back InBody = refl
-number_back InText = refl
-number_back InTable = refl
-number_back InCaption = refl
-number_back InColumns = refl
-number_back InSection = refl
-number_back InRow = refl
-number_back InCell = refl
+number_back _ = refl
 
 context_discrete : Discrete Context
 context_discrete = discrete_by (λ c. (c.mode, c.has_paragraph))

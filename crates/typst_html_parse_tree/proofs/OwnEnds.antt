@@ -1,5 +1,5 @@
 -- Where a page takes the end tag of the current node's name, the tag closes it.
-use Rattle.std.proofs.Common.{◌≡◌, ℕ, Bool, true, false, not, ◌&&◌, ◌||◌, List, [], ◌∷◌, inl, inr, refl, sym, ap, subst, ◌∙◌, Ok, Err}
+use Rattle.std.proofs.Common.{◌≡◌, arith, ℕ, Bool, true, false, not, ◌&&◌, ◌||◌, List, [], ◌∷◌, inl, inr, refl, sym, ap, subst, ◌∙◌, Ok, Err}
 use Rattle.std.proofs.lemmas.Bool.{and_from, and_parts, and_right, cases_Bool, false≢true, not-true, or_left, or_parts}
 use Rattle.std.proofs.lemmas.Option.{none-some, same_Some}
 use Rattle.std.proofs.lemmas.Slice.Eq.{bytes_eq-Decides}
@@ -21,8 +21,7 @@ use Rattle.typst_html_parse_tree.specs.PageTrees.{behind_turn, by_mode, in_cell,
 -- both branches are the same
 pub either : {A : Type 0} (b : Bool) (x y r : A) → (b ≡ true → x ≡ r) → (b ≡ false → y ≡ r) →
     (if b then x else y) ≡ r
-either true x y r h k = h refl
-either false x y r h k = k refl
+either b x y r h k = grind arith
 
 none_lost : (name : List ℕ) (ls : List (Option (List ℕ))) → loses_some ls ≡ false →
     is_lost name ls ≡ false
@@ -112,38 +111,32 @@ module _ (p : Page) (o : OpenElement) (os : List OpenElement) (html : is_html o.
             else (if not near then refused refusal.AdoptionAgency q
             else closed_to (is n)
             (noted_if (not (is_at (is n) q.stack)) error.EndTagOverOpenElements q))))) ≡ closed true q
-        adopted_by false true true true a b c d = closed_last
-        adopted_by true active scoped near a b c d = absurd (false≢true (sym a))
-        adopted_by false false scoped near a b c d = absurd (false≢true b)
-        adopted_by false true false near a b c d = absurd (false≢true c)
-        adopted_by false true true false a b c d = absurd (false≢true d)
+        adopted_by lost active scoped near a b c d = rw (a, b, c, d) closed_last
 
   end_element : closes_in_body n ≡ true → loses_some p.lost ≡ false →
       element_ended n q ≡ closed true q
   end_element h l =
-      let both = and_parts (not (of kind.Root n || (of kind.Br n || of kind.Form n))) _ h in
-      let some = or_parts (of kind.Root n) (of kind.Br n || of kind.Form n) (not-true _ both.0) in
-      let form = (or_parts (of kind.Br n) (of kind.Form n) some.1).1 in
-      let implied = not-true (of kind.Implied n && (of kind.Heading n || of kind.ClosesInScope n)) both.1 in
+      let form : of kind.Form n ≡ false = grind arith in
+      let implied : (of kind.Implied n && (of kind.Heading n || of kind.ClosesInScope n)) ≡ false =
+      grind arith in
       rw form (either (of kind.P n) _ _ (closed true q) end_p (λ p.
       either (of kind.ListItem n) _ _ (closed true q)
       (λ h. within scope.ListItem (is n) (is n) named (but_named (is n) named)) (λ i.
       either (of kind.DescriptionPart n) _ _ (closed true q)
       (λ h. within scope.General (is n) (is n) named (but_named (is n) named)) (λ d.
       either (of kind.Heading n) _ _ (closed true q)
-      (λ h. within scope.General (of kind.Heading) no_name h (rw h at implied)) (λ k.
+      (λ h. within scope.General (of kind.Heading) no_name h (grind arith)) (λ k.
       either (of kind.ClosesInScope n) _ _ (closed true q)
-      (λ h. within scope.General (is n) no_name named (rw (k, h) at implied)) (λ c.
+      (λ h. within scope.General (is n) no_name named (grind arith)) (λ c.
       either (of kind.Formatting n) _ _ (closed true q)
       (λ h. end_formatting l) (λ f. end_other)))))))
 
   end_in_body : closes_in_body n ≡ true → loses_some p.lost ≡ false →
       in_body_end n q ≡ taken (closed true q)
   end_in_body h l =
-      let both = and_parts (not (of kind.Root n || (of kind.Br n || of kind.Form n))) _ h in
-      let some = or_parts (of kind.Root n) (of kind.Br n || of kind.Form n) (not-true _ both.0) in
-      let br = (or_parts (of kind.Br n) (of kind.Form n) some.1).0 in
-      rw (some.0, br) (ap taken (end_element h l))
+      let root : of kind.Root n ≡ false = grind arith in
+      let br : of kind.Br n ≡ false = grind arith in
+      rw (root, br) (ap taken (end_element h l))
 
   pub none_implied_at_all : of kind.Implied n ≡ false → implied_closed no_name q ≡ Ok q
   none_implied_at_all h = none_implied no_name (ap (λ b. b && true) h)
@@ -201,10 +194,7 @@ module _ (p : Page) (o : OpenElement) (os : List OpenElement) (html : is_html o.
 is_html_at : (o : OpenElement) (os : List OpenElement) (p : Page) →
     takes_own_end (record p { stack = o ∷ os }) ≡ true → is_html o.space ≡ true
 unfolding takes_own_end
-is_html_at o os p h =
-    let seen = and_parts (not (is_unseen p.tables)) _ h in
-    let kept = and_parts (not (loses_some p.lost)) _ seen.1 in
-    (and_parts (is_html o.space) _ kept.1).0
+is_html_at o os p h = grind arith
 
 of_stack : (s : List OpenElement) (n : List ℕ) (p : Page) → current_name s ≡ Some n →
     takes_own_end (record p { stack = s }) ≡ true →

@@ -1,6 +1,6 @@
 -- Where a page takes text, each character is added to the current node.
 use Rattle.std.proofs.Common.{◌≡◌, ℕ, Bool, true, false, not, ◌||◌, List, [], ◌∷◌, refl, sym, ◌∙◌, Ok}
-use Rattle.std.proofs.lemmas.Bool.{and_parts, false≢true}
+use Rattle.std.proofs.lemmas.Bool.{and_parts, false≢true, not-true}
 use Rattle.typst_html_parse_open.specs.OpenElements.{OpenElement, mode}
 use Rattle.typst_html_parse_tree.specs.PageTrees.{by_mode, is_foreign_token, is_unseen, processed, token_read, turn}
 use Rattle.typst_html_parse_open.specs.Pages.{Page, Char, Taken, loses_some, reconstructed, with_char}
@@ -8,12 +8,8 @@ use Rattle.typst_html_parse_tree.specs.TakenTexts.{mode_takes_text, takes_text}
 use Rattle.typst_html_parse_open.specs.declared.modes.Mode.{Mode}
 use Rattle.typst_html_parse_open.specs.declared.modes.Mode.TheVariants.{BeforeHtml, BeforeHead, InHead, InHeadNoscript, AfterHead, InBody, InText, InTable, InCaption, InColumns, InSection, InRow, InCell}
 
-none_lost : (b : Bool) → not b ≡ true → b ≡ false
-none_lost true h = sym h
-none_lost false h = refl
-
 kept : (p : Page) → not (loses_some p.lost) ≡ true → reconstructed p ≡ Ok p
-kept p h = rw (none_lost (loses_some p.lost) h) refl
+kept p h = rw (not-true (loses_some p.lost) h) refl
 
 mode_text : (m : Mode) (c : ℕ) (p : Page) → mode_takes_text m p ≡ true →
     by_mode m (Char c) p ≡ Ok (Taken (with_char c p))
@@ -21,15 +17,7 @@ mode_text InText c p h = refl
 mode_text InBody c p h = rw (kept p h) refl
 mode_text InCaption c p h = rw (kept p h) refl
 mode_text InCell c p h = rw (kept p h) refl
-mode_text BeforeHtml c p h = absurd (false≢true h)
-mode_text BeforeHead c p h = absurd (false≢true h)
-mode_text InHead c p h = absurd (false≢true h)
-mode_text InHeadNoscript c p h = absurd (false≢true h)
-mode_text AfterHead c p h = absurd (false≢true h)
-mode_text InTable c p h = absurd (false≢true h)
-mode_text InColumns c p h = absurd (false≢true h)
-mode_text InSection c p h = absurd (false≢true h)
-mode_text InRow c p h = absurd (false≢true h)
+mode_text _ c p h = absurd (false≢true h)
 
 foreign_text : (c : ℕ) (os : List OpenElement) →
     is_foreign_token (Char c) os ≡ is_foreign_token (Char 0) os

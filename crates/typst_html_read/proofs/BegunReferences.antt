@@ -1,21 +1,19 @@
 -- What begins no reference is read as none, whatever follows.
-use Rattle.std.proofs.Common.{◌≡◌, ℕ, zero, suc, ◌+◌, ◌*◌, ◌/◌, ◌%◌, ◌^◌, ◌<◌, ◌≤◌, Bool, true, false, not, ◌&&◌, ◌||◌, inl, inr, eqb, List, [], ◌∷◌, ◌++◌, None, bytes_eq, chars, codes, get_or, length, refl, sym, ap, ◌∙◌, subst, arith, nat_lt, eq-eqb, ne_eqb, ltb-true}
-use Rattle.std.specs.Prelude.{if◌then◌else◌}
+use Rattle.std.proofs.Common.{◌≡◌, ℕ, zero, suc, ◌+◌, ◌*◌, ◌/◌, ◌%◌, ◌^◌, ◌<◌, ◌≤◌, true, false, not, ◌&&◌, inl, inr, eqb, List, [], ◌∷◌, ◌++◌, None, bytes_eq, chars, codes, get_or, length, refl, sym, ap, ◌∙◌, subst, arith, nat_lt, eq-eqb, ltb-true}
 use Rattle.std.specs.Char.{digit_value}
 use Rattle.std.specs.Fmt.{digit_glyph, digits_onto, digits}
 use Rattle.std.specs.List.{list_all}
 use Rattle.std.specs.Str.{IsUtf8, IsAscii}
 use Rattle.std.specs.Str.Parse.{AllDigits, IsNumeral, digits_value, digits_value_after, without_leading_plus}
-use Rattle.std.proofs.lemmas.Bool.{cases_Bool, and_from, and_parts, agree_below_at, eqb-true, false≢true, false_from_ne_true, lt-ltb}
+use Rattle.std.proofs.lemmas.Bool.{and_from, and_parts, agree_below_at, false≢true, false_from_ne_true, lt-ltb, or_parts}
 use Rattle.std.proofs.lemmas.Bool.Decides.{Decides-eqb, nat_tests}
 use Rattle.std.proofs.lemmas.Fmt.{digits_is_IsNumeral}
 use Rattle.std.proofs.lemmas.List.{take_at}
 use Rattle.std.proofs.lemmas.List.Folds.{list_all-append}
-use Rattle.std.proofs.lemmas.Slice.Eq.{starts_is}
+use Rattle.std.proofs.lemmas.Slice.Eq.{bytes_eq-Decides, starts_is}
 use Rattle.std.proofs.lemmas.Str.{IsAscii-take, chars-IsAscii, encodes-chars, encodes-IsAscii}
 use Rattle.std.proofs.Math.Nat.{div-lt_iff_lt-mul, pow-suc, pow-zero}
 use lib.Utf8.{encodes, scalar, scalar_cases}
-use Rattle.html_names.proofs.Basics.{bytes_eq-same}
 use Rattle.html_names.proofs.Digits.{digits_ascii}
 use Rattle.typst_html_encode.specs.References.{numbered_char, reference_by_number, reference}
 use Rattle.typst_html_read.specs.BegunReferences.{is_small_digit, begins_digits, begins_number, begins, begins_reference}
@@ -29,45 +27,34 @@ glyph_small d h =
     agree_below_at (λ e. is_small_digit (digit_glyph false e)) (λ e. true) 16 d refl h
 
 glyph_some : (d : ℕ) → d < 16 → 0 < d → eqb (digit_glyph false d) 48 ≡ false
-glyph_some d h p =
-    agree_below_at (λ e. eqb (digit_glyph false e) 48) (λ e. eqb e 0) 16 d refl h
-    ∙ ne_eqb d 0 (λ e. omega (arith, e, p))
-
-if_small : (b : Bool) (xs ys : List ℕ) → list_all is_small_digit xs ≡ true →
-    list_all is_small_digit ys ≡ true → list_all is_small_digit (if b then xs else ys) ≡ true
-if_small true xs ys h k = h
-if_small false xs ys h k = k
+glyph_some d h p = grind (
+  arith,
+  nat_tests,
+  agree_below_at (λ e. eqb (digit_glyph false e) 48) (λ e. eqb e 0) 16 d refl h,
+)
 
 onto_small : (k n : ℕ) (acc : List ℕ) → list_all is_small_digit acc ≡ true →
     list_all is_small_digit (digits_onto k 16 false n acc) ≡ true
 onto_small zero n acc h = h
-onto_small (suc k) n acc h =
-    let d = digit_glyph false (n % 16) in
-    let more : list_all is_small_digit (d ∷ acc) ≡ true =
-    and_from (is_small_digit d) (list_all is_small_digit acc) (glyph_small (n % 16) (omega arith)) h in
-    if_small (eqb (n / 16) 0) (d ∷ acc) (digits_onto k 16 false (n / 16) (d ∷ acc)) more
-    (onto_small k (n / 16) (d ∷ acc) more)
+onto_small (suc k) n acc h = grind (
+  arith,
+  glyph_small (n % 16) (omega arith),
+  onto_small k (n / 16) (digit_glyph false (n % 16) ∷ acc),
+)
 
 onto_some : (k n : ℕ) (acc : List ℕ) → 0 < n → n < 16 ^ k →
     eqb (get_or (digits_onto k 16 false n acc) 0 0) 48 ≡ false
 onto_some zero n acc p h = absurd (omega (arith, pow-zero 16, h, p))
 onto_some (suc k) n acc p h =
-    let d = digit_glyph false (n % 16) in
-    let first : List ℕ → Bool = λ ds. eqb (get_or ds 0 0) 48 in
-    let choice : Bool → List ℕ =
-    λ b. if b then d ∷ acc else digits_onto k 16 false (n / 16) (d ∷ acc) in
-    elim (cases_Bool (eqb (n / 16) 0)) [
-      | inl e ↦
-          let none : n / 16 ≡ 0 = eqb-true (n / 16) 0 e in
-          ap (λ b. first (choice b)) e ∙ glyph_some (n % 16) (omega arith) (omega arith)
-      | inr e ↦
-          let not_none : n / 16 ≡ 0 → ⊥ = λ z. false≢true (sym e ∙ eq-eqb (n / 16) 0 z) in
-          let some : 0 < n / 16 = omega arith in
-          let sixteen : 0 < 16 = omega arith in
-          let small : n / 16 < 16 ^ k =
-          (div-lt_iff_lt-mul sixteen).1 (omega (arith, pow-suc 16 k, h)) in
-          ap (λ b. first (choice b)) e ∙ onto_some k (n / 16) (d ∷ acc) some small
-    ]
+    let sixteen : 0 < 16 = omega arith in
+    let small : n / 16 < 16 ^ k =
+    (div-lt_iff_lt-mul sixteen).1 (omega (arith, pow-suc 16 k, h)) in
+    grind (
+      arith,
+      nat_tests,
+      glyph_some (n % 16) (omega arith),
+      onto_some k (n / 16) (digit_glyph false (n % 16) ∷ acc),
+    )
 
 digits_small : (n : ℕ) → list_all is_small_digit (digits 16 false n) ≡ true
 unfolding digits
@@ -119,58 +106,39 @@ numbered_never : (ds more : List ℕ) → begins_digits ds ≡ false → numbere
 numbered_never ds more h =
     let l = ds ++ more in
     let v = digits_value 16 l in
-    elim (cases_Bool ((scalar v && nat_lt 0 v) && bytes_eq l (digits 16 false v))) [
-      | inl e ↦
-          let p = and_parts (scalar v && nat_lt 0 v) (bytes_eq l (digits 16 false v)) e in
-          let q = and_parts (scalar v) (nat_lt 0 v) p.0 in
-          absurd (false≢true (sym h ∙ digits_begun ds more v (bytes_eq-same l _ p.1)
-          (ltb-true 0 v q.1) (char_low v q.0)))
-      | inr e ↦ rw e refl
-    ]
+    grind (
+      arith,
+      nat_tests,
+      (bytes_eq-Decides l (digits 16 false v)).0,
+      digits_begun ds more v,
+      char_low v,
+    )
 
 -- a word that a text begins, begins with the text's beginnings
 pub front_begins : (word front rest : List ℕ) → word ≡ front ++ rest → begins word front ≡ true
 front_begins word front rest e = (starts_is Decides-eqb word front (begins word front) refl).1 rest e
 
-no_hash : (x : ℕ) → begins (codes "#x") (x ∷ []) ≡ false → eqb x 35 ≡ false
-no_hash x h = false_from_ne_true (eqb x 35) (λ e. false≢true (sym h
-    ∙ front_begins (codes "#x") (x ∷ []) (120 ∷ [])
-    (ap (λ c. c ∷ 120 ∷ []) (sym (eqb-true x 35 e)))))
-
 number_never : (w more : List ℕ) → begins (codes "#x") w ≡ false → begins_number w ≡ false →
     reference_by_number (w ++ more) ≡ None
-number_never [] more h k = absurd (false≢true (sym h ∙ front_begins (codes "#x") [] (codes "#x") refl))
+number_never [] more h k = grind (arith, front_begins (codes "#x") [] (codes "#x"))
 number_never (x ∷ []) [] h k = refl
-number_never (x ∷ []) (y ∷ ds) h k = let other : eqb x 35 ≡ false = no_hash x h in rw other refl
-number_never (x ∷ y ∷ ds) more h k =
-    elim (cases_Bool (eqb x 35)) [
-      | inl e ↦ elim (cases_Bool (eqb y 120)) [
-        | inl f ↦
-            let none : begins_digits ds ≡ false = rw (e, f) at k in
-            rw (e, f) (numbered_never ds more none)
-        | inr f ↦ rw (e, f) refl
-      ]
-      | inr e ↦ rw e refl
-    ]
+number_never (x ∷ []) (y ∷ ds) h k = grind (arith, nat_tests)
+number_never (x ∷ y ∷ ds) more h k = grind (arith, numbered_never ds more)
 
 name_never : (name w more : List ℕ) → begins name w ≡ false → bytes_eq (w ++ more) name ≡ false
-name_never name w more h = false_from_ne_true (bytes_eq (w ++ more) name) (λ e. false≢true
-    (sym h ∙ front_begins name w more (sym (bytes_eq-same (w ++ more) name e))))
-
-pub neither : (a b : Bool) → (a || b) ≡ false → (a ≡ false) × (b ≡ false)
-neither true b h = cc
-neither false b h = (refl, h)
+name_never name w more h =
+    grind (arith, front_begins name w more, (bytes_eq-Decides (w ++ more) name).0)
 
 pub reference_never : (w : List ℕ) → begins_reference w ≡ false → (more : List ℕ) →
     reference (w ++ more) ≡ None
 unfolding begins_reference
 reference_never w h more =
-    let amp = neither (begins (codes "amp") w) _ h in
-    let lt = neither (begins (codes "lt") w) _ amp.1 in
-    let gt = neither (begins (codes "gt") w) _ lt.1 in
-    let quot = neither (begins (codes "quot") w) _ gt.1 in
-    let apos = neither (begins (codes "apos") w) _ quot.1 in
-    let number = neither (begins (codes "#x") w) _ apos.1 in
+    let amp = or_parts (begins (codes "amp") w) _ h in
+    let lt = or_parts (begins (codes "lt") w) _ amp.1 in
+    let gt = or_parts (begins (codes "gt") w) _ lt.1 in
+    let quot = or_parts (begins (codes "quot") w) _ gt.1 in
+    let apos = or_parts (begins (codes "apos") w) _ quot.1 in
+    let number = or_parts (begins (codes "#x") w) _ apos.1 in
     rw (
       name_never (codes "amp") w more amp.0,
       name_never (codes "lt") w more lt.0,
@@ -182,14 +150,9 @@ reference_never w h more =
 
 -- the digits of a text, by its bytes
 
-digit_small : (c : ℕ) → is_small_digit c ≡ true → digit_value c < 16
-digit_small c h = grind (arith, nat_tests)
-
 all_digits : (cs : List ℕ) → list_all is_small_digit cs ≡ true → AllDigits 16 cs
 all_digits [] h = tt
-all_digits (c ∷ cs) h =
-    let both = and_parts (is_small_digit c) (list_all is_small_digit cs) h in
-    (digit_small c both.0, all_digits cs both.1)
+all_digits (c ∷ cs) h = grind (arith, nat_tests, all_digits cs)
 
 -- ASCII is its own bytes
 own_bytes : (ds : List ℕ) → IsUtf8 ds → IsAscii (chars ds) → ds ≡ chars ds
@@ -225,12 +188,13 @@ front_own word front a h = front_ascii front _
 
 pub begins-chars : (word text : List ℕ) → IsAscii word → IsUtf8 text →
     begins word text ≡ begins word (chars text)
-begins-chars word text a u =
-    elim (cases_Bool (begins word text)) [
-      | inl e ↦ ap (begins word) (sym (chars-IsAscii text (front_own word text a e)))
-      | inr e ↦ e ∙ sym (false_from_ne_true (begins word (chars text)) (λ t. false≢true (sym e
-          ∙ (ap (begins word) (own_bytes text u (front_own word (chars text) a t)) ∙ t))))
-    ]
+begins-chars word text a u = grind (
+  arith,
+  front_own word text a,
+  front_own word (chars text) a,
+  chars-IsAscii text,
+  own_bytes text u,
+)
 
 -- `#x` and digits
 
@@ -242,17 +206,7 @@ no_number : (cs : List ℕ) → ((rest : List ℕ) → cs ≡ 35 ∷ 120 ∷ res
     false ≡ begins_number cs
 no_number [] h = refl
 no_number (x ∷ []) h = refl
-no_number (x ∷ y ∷ ds) h =
-    elim (cases_Bool (eqb x 35)) [
-      | inl e ↦ elim (cases_Bool (eqb y 120)) [
-        | inl f ↦
-            let p : x ≡ 35 = eqb-true x 35 e in
-            let q : y ≡ 120 = eqb-true y 120 f in
-            absurd (h ds cc)
-        | inr f ↦ rw (e, f) refl
-      ]
-      | inr e ↦ rw e refl
-    ]
+no_number (x ∷ y ∷ ds) h = grind (arith, nat_tests, h ds)
 
 pub number_otherwise : (w : List ℕ) → IsUtf8 w → ((rest : List ℕ) → w ≡ 35 ∷ 120 ∷ rest → ⊥) →
     false ≡ begins_number (chars w)

@@ -1,5 +1,5 @@
 -- Closing tags at the end of a text, by its bytes and by its characters.
-use Rattle.std.proofs.Common.{◌≡◌, ℕ, suc, eqb, ◌+◌, ◌-◌, ◌<◌, ◌≤◌, Bool, true, false, List, [], ◌∷◌, ◌++◌, bytes_eq, chars, codes, drop, take, map, refl, sym, ap, ◌∙◌, subst, arith, length, get_or, length-append, length-drop}
+use Rattle.std.proofs.Common.{◌≡◌, ℕ, suc, eqb, ◌+◌, ◌-◌, ◌<◌, ◌≤◌, Bool, true, List, [], ◌∷◌, ◌++◌, bytes_eq, chars, codes, drop, take, map, refl, sym, ap, ◌∙◌, subst, arith, length, get_or, length-append, length-drop}
 use Rattle.std.specs.Char.{to_ascii_lowercase}
 use Rattle.std.specs.Str.{IsUtf8, IsAscii, IsCharBoundary}
 use Rattle.std.proofs.lemmas.Bool.Decides.{nat_tests}
@@ -41,9 +41,7 @@ closing_ascii n h = IsAscii-cons 60 (47 ∷ map to_ascii_lowercase n) (omega ari
 
 -- tests of which each holds where the other does
 pub same_tests : (a b : Bool) → (a ≡ true → b ≡ true) → (b ≡ true → a ≡ true) → a ≡ b
-same_tests true b f g = sym (f refl)
-same_tests false true f g = g refl
-same_tests false false f g = refl
+same_tests a b f g = grind arith
 
 pub closing_long : (n : List ℕ) → length (closing n) ≡ length n + 2
 closing_long n = omega (arith, length-map n to_ascii_lowercase)
@@ -61,14 +59,19 @@ exact_is (x ∷ y ∷ rest) n e =
     let q : to_ascii_lowercase y ≡ 47 = cc in
     rw (small_is x 60 (omega arith) p, small_is y 47 (omega arith) q) refl
 
+-- so many characters at the end of a text are a word, once their letters are made small
+pub record Ends (w t : List ℕ) (at : ℕ) : Type 0 where
+  pub boundary : IsCharBoundary t at
+  pub dropped : drop (length (chars t) - length w) (chars t) ≡ drop at t
+  pub before : chars (take at t) ≡ take (length (chars t) - length w) (chars t)
+  pub ends : ends_in w (chars t) ≡ true
+
 -- the end of the characters is the end of the bytes: a word of ASCII, of so many characters
 module _ (w t : List ℕ) (k : ℕ) (a : IsAscii w) (u : IsUtf8 t) (some : 0 < k) (long : length w ≡ k) where
-  abbrev place : ℕ
-  place = length (chars t) - length w
-
   pub word_by_characters : ends_in w (chars t) ≡ true →
       (k ≤ length t) × (map to_ascii_lowercase (drop (length t - k) t) ≡ w)
   word_by_characters e =
+      let place = length (chars t) - length w in
       let end = drop place (chars t) in
       let front = take place (chars t) in
       let is : map to_ascii_lowercase end ≡ w =
@@ -84,39 +87,30 @@ module _ (w t : List ℕ) (k : ℕ) (a : IsAscii w) (u : IsUtf8 t) (some : 0 < k
         ap (map to_ascii_lowercase) cut ∙ is,
       )
 
-  module _ (fits : k ≤ length t) (e : map to_ascii_lowercase (drop (length t - k) t) ≡ w) where
-    abbrev at : ℕ
-    at = length t - k
-
-    ascii : IsAscii (drop at t)
-    ascii = raised (drop at t) w e a
-
-    pub word_boundary : IsCharBoundary t at
-    word_boundary =
-        let here : get_or (drop at t) 0 0 < 128 = ascii 0 in
-        let there : get_or t (at + 0) 0 < 128 = rw (get_or-drop at t 0 0) at here in
-        let same : at + 0 ≡ at = omega arith in
-        IsCharBoundary-before_ascii t at (omega arith) (subst (λ n. get_or t n 0 < 128) same there)
-
-    cut : chars t ≡ chars (take at t) ++ drop at t
-    cut = ap chars (sym (take-append-drop at t))
-        ∙ (chars-append (take at t) (drop at t) (IsUtf8-take t at u word_boundary)
-        ∙ ap (λ l. chars (take at t) ++ l) (chars-IsAscii (drop at t) ascii))
-
-    far : length (drop at t) ≡ length w
-    far = omega (arith, length-drop at t, long)
-
-    pub word_dropped : drop place (chars t) ≡ drop at t
-    word_dropped = ap (λ l. drop (length l - length w) l) cut
-        ∙ last_dropped (chars (take at t)) (drop at t) (length w) far
-
-    pub word_before : chars (take at t) ≡ take place (chars t)
-    word_before = sym (ap (λ l. take (length l - length w) l) cut
-        ∙ last_taken (chars (take at t)) (drop at t) (length w) far)
-
-    pub word_by_bytes : ends_in w (chars t) ≡ true
-    word_by_bytes =
-        (bytes_eq-Decides _ _).1 (ap (map to_ascii_lowercase) word_dropped ∙ e)
+  pub word_by_bytes : k ≤ length t → map to_ascii_lowercase (drop (length t - k) t) ≡ w →
+      Ends w t (length t - k)
+  word_by_bytes fits e =
+      let at = length t - k in
+      let end = drop at t in
+      let ascii : IsAscii end = raised end w e a in
+      let there : get_or t (at + 0) 0 < 128 = rw (get_or-drop at t 0 0) at (ascii 0) in
+      let same : at + 0 ≡ at = omega arith in
+      let boundary : IsCharBoundary t at = IsCharBoundary-before_ascii t at (omega arith)
+      (subst (λ n. get_or t n 0 < 128) same there) in
+      let cut : chars t ≡ chars (take at t) ++ end = ap chars (sym (take-append-drop at t))
+      ∙ (chars-append (take at t) end (IsUtf8-take t at u boundary)
+      ∙ ap (λ l. chars (take at t) ++ l) (chars-IsAscii end ascii)) in
+      let far : length end ≡ length w = omega (arith, length-drop at t, long) in
+      let dropped : drop (length (chars t) - length w) (chars t) ≡ end =
+      ap (λ l. drop (length l - length w) l) cut
+      ∙ last_dropped (chars (take at t)) end (length w) far in
+      record {
+        boundary = boundary;
+        dropped = dropped;
+        before = sym (ap (λ l. take (length l - length w) l) cut
+            ∙ last_taken (chars (take at t)) end (length w) far);
+        ends = (bytes_eq-Decides _ _).1 (ap (map to_ascii_lowercase) dropped ∙ e);
+      }
 
 -- the same of a closing tag
 module _ (n t : List ℕ) (h : IsOf is_tag_char n) (u : IsUtf8 t) where
@@ -128,27 +122,19 @@ module _ (n t : List ℕ) (h : IsOf is_tag_char n) (u : IsUtf8 t) where
   by_characters e = word_by_characters (closing n) t (length n + 2) (closing_ascii n h) u some
       (closing_long n) e
 
-  module _ (fits : length n + 2 ≤ length t)
-      (e : map to_ascii_lowercase (drop (length t - (length n + 2)) t) ≡ closing n) where
-    abbrev from : ℕ
-    from = length t - (length n + 2)
-
-    pub boundary : IsCharBoundary t from
-    boundary = word_boundary (closing n) t (length n + 2) (closing_ascii n h) u some
-        (closing_long n) fits e
-
-    pub by_bytes : (c : ℕ) → is_tag_end c ≡ true →
-        (exact : Bool) → exact ≡ bytes_eq (drop 2 (drop from t)) n → EndsAt n t c (from, exact)
-    by_bytes c last exact is =
-        let dropped = word_dropped (closing n) t (length n + 2) (closing_ascii n h) u some
-        (closing_long n) fits e in
-        record {
-          tag_end = last;
-          ends = word_by_bytes (closing n) t (length n + 2) (closing_ascii n h) u some
-              (closing_long n) fits e;
-          exact = is ∙ sym (ap (λ l. bytes_eq l (codes "</" ++ n)) dropped
-              ∙ exact_is (drop from t) n e);
-          boundary = boundary;
-          before = word_before (closing n) t (length n + 2) (closing_ascii n h) u some
-              (closing_long n) fits e;
-        }
+  pub by_bytes : length n + 2 ≤ length t →
+      map to_ascii_lowercase (drop (length t - (length n + 2)) t) ≡ closing n →
+      (c : ℕ) → is_tag_end c ≡ true → (exact : Bool) →
+      exact ≡ bytes_eq (drop 2 (drop (length t - (length n + 2)) t)) n →
+      EndsAt n t c (length t - (length n + 2), exact)
+  by_bytes fits e c last exact is =
+      let end = word_by_bytes (closing n) t (length n + 2) (closing_ascii n h) u some
+      (closing_long n) fits e in
+      record {
+        tag_end = last;
+        ends = end.ends;
+        exact = is ∙ sym (ap (λ l. bytes_eq l (codes "</" ++ n)) end.dropped
+            ∙ exact_is (drop (length t - (length n + 2)) t) n e);
+        boundary = end.boundary;
+        before = end.before;
+      }

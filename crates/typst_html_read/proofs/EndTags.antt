@@ -1,21 +1,21 @@
 -- An end tag that is read at once, as the reader of the definition reads it.
-use Rattle.std.proofs.Common.{◌≡◌, ℕ, ◌<◌, Bool, true, false, not, ◌&&◌, eqb, bytes_eq, codes, get_or, List, [], ◌∷◌, ◌++◌, length, refl, sym, ap, ◌∙◌, arith, append_assoc, eq-eqb, ne_eqb}
+use Rattle.std.proofs.Common.{◌≡◌, ℕ, ◌<◌, Bool, true, false, not, ◌&&◌, eqb, bytes_eq, codes, get_or, List, [], ◌∷◌, ◌++◌, length, refl, sym, ap, ◌∙◌, arith, append_assoc, append-nil, eq-eqb}
 use Rattle.std.specs.Prelude.{Option, None, Some, MatchOption, IfSome}
 use Rattle.std.specs.List.{list_all}
 use Rattle.std.proofs.lemmas.Bool.{and_from, and_parts}
-use Rattle.std.proofs.lemmas.List.{get_or_past, length-append}
+use Rattle.std.proofs.lemmas.Bool.Decides.{nat_tests}
+use Rattle.std.proofs.lemmas.List.{length-append}
 use Rattle.std.proofs.lemmas.List.Folds.{list_all-append}
 use Rattle.std.proofs.lemmas.Slice.Eq.{bytes_eq-Decides}
-use Rattle.std.proofs.lemmas.Str.{encodes-IsAscii}
-use Rattle.std.proofs.Math.Seq.{get_or-append_seam}
 use lib.Utf8.{encodes}
 use Rattle.html_names.specs.Characters.{IsOf, all, is_tag_char}
 use Rattle.html_dom_tree.specs.Tree.{TextPair}
 use Rattle.html_dom_tree.specs.PlainTree.{Plains}
-use Rattle.typst_html_encode.specs.Reader.{Open, ReaderState, Content, Less, EndName, Stop, add_text, with_text, complete}
+use Rattle.typst_html_encode.specs.Reader.{Open, ReaderState, Content, Less, EndName, add_text, with_text, complete}
 use Rattle.typst_html_read.specs.EndTags.{EndsTag, Leaves}
 use Rattle.typst_html_read.specs.LimitedReading.{ends_at, is_stop, next_state}
 use Rattle.typst_html_read.specs.Stretches.{all_grow, next_states, runs_on, ReadsOn}
+use Rattle.typst_html_read.proofs.Refusals.{next_is}
 use Rattle.typst_html_read.proofs.Stretches.{Grows, grown, names_ascii}
 
 -- one part is read after the other
@@ -51,10 +51,7 @@ module _ (o : Open) (os : List Open) (named : list_all is_tag_char o.name ≡ tr
   name_grows [] read e h k = refl
   name_grows (c ∷ front) read e h k =
       let both = and_parts (is_tag_char c) (list_all is_tag_char front) k in
-      let own : encodes read ≡ read = encodes-IsAscii read (names_ascii read h) in
-      let there : get_or o.name (length (encodes read)) 62 ≡ c =
-      ap (λ l. get_or o.name (length l) 62) own
-      ∙ (ap (λ l. get_or l (length read) 62) e ∙ get_or-append_seam read c front 62) in
+      let there = next_is o.name read (c ∷ front) (names_ascii read h) e in
       and_from _ _ (and_from _ _ (eq-eqb c _ (sym there)) both.0)
       (name_grows front (read ++ c ∷ []) (e ∙ sym (append_assoc read (c ∷ []) front))
       (list_all-append is_tag_char read (c ∷ []) ∙ and_from _ _ h (and_from _ _ both.0 refl)) both.1)
@@ -66,10 +63,7 @@ module _ (o : Open) (os : List Open) (named : list_all is_tag_char o.name ≡ tr
 
   name_ended : next_state (EndName o.name (o ∷ os)) 62 ≡ complete o.name o.attrs o.children os
   name_ended =
-      let own : encodes o.name ≡ o.name = encodes-IsAscii o.name (names_ascii o.name named) in
-      let there : get_or o.name (length (encodes o.name)) 62 ≡ 62 =
-      ap (λ l. get_or o.name (length l) 62) own
-      ∙ get_or_past o.name (length o.name) 62 (omega arith) in
+      let there = next_is o.name o.name [] (names_ascii o.name named) (sym (append-nil o.name)) in
       let here : eqb 62 (get_or o.name (length (encodes o.name)) 62) ≡ true =
       eq-eqb 62 _ (sym there) in
       let same : bytes_eq o.name o.name ≡ true = (bytes_eq-Decides o.name o.name).1 refl in
@@ -93,8 +87,7 @@ module _ (o : Open) (os : List Open) (named : list_all is_tag_char o.name ≡ tr
 
 slash_read : (p : Open) (ps : List Open) →
     next_state (Less (p ∷ ps)) 47 ≡ EndName [] (p ∷ ps)
-slash_read p ps =
-    let some : eqb (length (p ∷ ps)) 0 ≡ false = ne_eqb _ 0 (λ z. omega (arith, z)) in rw some refl
+slash_read p ps = grind (arith, nat_tests)
 
 -- the end tag of the innermost element, behind a text
 pub end_tag_read : (words : List ℕ) (o : Open) (os : List Open) (text rest : List ℕ)
@@ -122,22 +115,12 @@ end_tag_fewer stack text rest h = omega (
   length-append h.top.name (codes ">" ++ rest),
 )
 
--- the innermost of these elements is complete
-abbrev finished : List Open → ReaderState
-finished [] = Stop
-finished (o ∷ os) = complete o.name o.attrs o.children os
-
-finished_is : (p q : Open) (ps qs : List Open) → p ∷ ps ≡ q ∷ qs →
-    complete p.name p.attrs p.children ps ≡ complete q.name q.attrs q.children qs
-finished_is p q ps qs e = ap finished e
-
 -- the innermost element was left
 pub left : (text : List ℕ) (old held rest : List Open) (o : Open) (new : ReaderState) →
     held ≡ add_text text old → held ≡ o ∷ rest → new ≡ complete o.name o.attrs o.children rest →
     Leaves text old new
 left text [] held rest o new e k m = tt
-left text (p ∷ ps) held rest o new e k m =
-    m ∙ finished_is o (record p { children = with_text text p.children }) rest ps (sym k ∙ e)
+left text (p ∷ ps) held rest o new e k m = cc
 
 pub left_none : (text : List ℕ) (old held : List Open) (new : ReaderState) →
     held ≡ add_text text old → held ≡ [] → Leaves text old new
@@ -150,15 +133,13 @@ no_text (o ∷ os) = refl
 
 -- names of elements are names of tags
 
-all_listed : (cs : List ℕ) → all is_tag_char cs ≡ true → list_all is_tag_char cs ≡ true
-all_listed [] h = refl
-all_listed (c ∷ cs) h =
-    let both = and_parts (is_tag_char c) (all is_tag_char cs) h in
-    and_from _ _ both.0 (all_listed cs both.1)
+pub all_listed : (p : ℕ → Bool) (cs : List ℕ) → all p cs ≡ true → list_all p cs ≡ true
+all_listed p [] h = refl
+all_listed p (c ∷ cs) h = grind (arith, all_listed p cs)
 
 pub name_listed : (name : List ℕ) → IsOf is_tag_char name → list_all is_tag_char name ≡ true
 name_listed [] h = elim h [ ]
-name_listed (c ∷ cs) h = and_from _ _ h.0 (all_listed cs h.1)
+name_listed (c ∷ cs) h = and_from _ _ h.0 (all_listed is_tag_char cs h.1)
 
 pub some_weaker : {A : Type 0} (No : Type 0) (P Q : A → Type 0) (r : Option A) →
     MatchOption r No P → ((x : A) → P x → Q x) → IfSome r Q

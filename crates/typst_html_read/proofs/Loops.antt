@@ -33,10 +33,6 @@ unfolding deep_places
 deep_stopped limit before [] = refl
 deep_stopped limit before (c ∷ cs) = deep_stopped limit (before + 1) cs
 
-pub deep_ended : (limit before : ℕ) (s : ReaderState) → deep_places limit before s [] ≡ []
-unfolding deep_places
-deep_ended limit before s = refl
-
 pub not_stop : (s : ReaderState) → (s ≡ Stop → ⊥) → is_stop s ≡ false
 not_stop Stop h = absurd (h refl)
 not_stop s h = refl
@@ -53,10 +49,6 @@ pub stop_here : (before : ℕ) (s : ReaderState) (c : ℕ) (cs : List ℕ) → n
 unfolding stop_place
 stop_here before s c cs h =
     ap (λ t. if is_stop t then before else stop_place (before + 1) (next_state s c) cs) h
-
-pub stop_ended : (before : ℕ) (s : ReaderState) → stop_place before s [] ≡ before
-unfolding stop_place
-stop_ended before s = refl
 
 -- a text that does not begin with a word
 pub begins_otherwise : (n s : List ℕ) → is_ascii n ≡ true → IsUtf8 s →

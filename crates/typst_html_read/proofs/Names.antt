@@ -1,16 +1,14 @@
 -- A text is read as an element just where all names of its tags are names.
-use Rattle.std.proofs.Common.{◌≡◌, ℕ, Bool, true, false, not, ◌&&◌, ◌∷◌, ◌++◌, ◌⊎◌, inl, inr, List, [], Option, Some, None, eqb, bytes_eq, refl, sym, ap, ◌∙◌, subst}
+use Rattle.std.proofs.Common.{arith, ◌≡◌, ℕ, Bool, true, false, not, ◌&&◌, ◌∷◌, ◌++◌, ◌⊎◌, inl, inr, List, [], Option, Some, None, eqb, refl, sym, ap, ◌∙◌, subst}
 use Rattle.std.specs.Prelude.{if◌then◌else◌, is_some, is_none}
 use Rattle.std.specs.List.{list_all}
-use Rattle.std.proofs.Math.Bool.{and-true, and-false, and_assoc}
-use Rattle.html_names.specs.Characters.{is_tag_char, is_attr_char, is_blank}
-use Rattle.html_names.specs.Kinds.{is_void, is_foreign_self_closing, is_raw}
+use Rattle.html_names.specs.Characters.{is_tag_char, is_attr_char}
 use Rattle.html_names.specs.Names.{tag_fault, attr_fault}
 use Rattle.html_dom_tree.specs.Tree.{TextPair, ElementView}
 use Rattle.html_dom_tree.specs.PlainTree.{Plain, words, branch, Plains, no_plains, plain}
-use Rattle.typst_html_encode.specs.ClosingTags.{is_tag_end, ends_closing, ends_exact, before_closing}
+use Rattle.typst_html_encode.specs.ClosingTags.{before_closing}
 use Rattle.typst_html_encode.specs.References.{reference}
-use Rattle.typst_html_encode.specs.Reader.{drops_feed, ◌then◌, Open, ReaderState, Outside, Content, Fresh, Reference, Raw, Less, StartName, Space, AttrName, Equals, Value, ValueReference, Quoted, Slash, EndName, Stop, with_text, add_text, complete, holds_text_alone, after_start_tag, after, close, or_stop, in_content, step, run, final_root}
+use Rattle.typst_html_encode.specs.Reader.{◌then◌, Open, ReaderState, Outside, Content, Fresh, Reference, Raw, Less, StartName, Space, AttrName, Equals, Value, ValueReference, Quoted, Slash, EndName, Stop, with_text, add_text, complete, after_start_tag, after, close, or_stop, in_content, step, run, final_root}
 use Rattle.typst_html_read.specs.PlainElements.{plain_element, is_named, are_named, accepted}
 
 -- all names so far are names, but for the one that is being read
@@ -59,24 +57,13 @@ ends_refused s c = false
 abbrev pub Holds : ReaderState → Bool → Type 0
 Holds s g = (s ≡ Stop) ⊎ (taken s ≡ g)
 
-if_holds : (b : Bool) (s t : ReaderState) (g : Bool) → Holds s g → Holds t g →
-    Holds (if b then s else t) g
-if_holds true s t g h k = h
-if_holds false s t g h k = k
-
 or_holds : (o : Option ℕ) (f : ℕ → ReaderState) (g : Bool) → ((d : ℕ) → Holds (f d) g) →
     Holds (or_stop o f) g
 or_holds None f g h = inl refl
 or_holds (Some d) f g h = h d
 
-and_last : (a b x g : Bool) → ((a && (b && x)) && g) ≡ (x && ((a && b) && g))
-and_last true true x g = refl
-and_last true false x g = sym (and-false x)
-and_last false b x g = sym (and-false x)
-
-some_none : {A : Type 0} (o : Option A) → is_none o ≡ not (is_some o)
-some_none None = refl
-some_none (Some a) = refl
+and_between : (a b c d : Bool) → (a && (b && (c && d))) ≡ ((a && (b && c)) && d)
+and_between a b c d = grind arith
 
 -- names of lists
 
@@ -90,157 +77,114 @@ named_then no_plains qs = refl
 named_then (plain (words t) ps) qs = named_then ps qs
 named_then (plain (branch name attrs kids) ps) qs =
     ap (λ b. is_named name attrs && (are_named kids && b)) (named_then ps qs)
-    ∙ (ap (λ b. is_named name attrs && b)
-    (sym (and_assoc (are_named kids) (are_named ps) (are_named qs)))
-    ∙ sym (and_assoc (is_named name attrs) (are_named kids && are_named ps) (are_named qs)))
+    ∙ and_between (is_named name attrs) (are_named kids) (are_named ps) (are_named qs)
 
 one_named : (name : List ℕ) (attrs : List TextPair) (kids : Plains) →
     are_named (plain (branch name attrs kids) no_plains) ≡ (is_named name attrs && are_named kids)
 unfolding are_named
-one_named name attrs kids = ap (λ b. is_named name attrs && b) (and-true (are_named kids))
+one_named name attrs kids = grind arith
 
 words_named : (t : List ℕ) (ps : Plains) → are_named (with_text t ps) ≡ are_named ps
 unfolding are_named
 words_named [] ps = refl
-words_named (c ∷ cs) ps = named_then ps (plain (words (c ∷ cs)) no_plains) ∙ and-true (are_named ps)
+words_named (c ∷ cs) ps = grind (arith, named_then ps (plain (words (c ∷ cs)) no_plains))
 
 text_taken : (t : List ℕ) (stack : List Open) → stack_taken (add_text t stack) ≡ stack_taken stack
 text_taken t [] = refl
-text_taken t (o ∷ os) =
-    ap (λ b. (is_named o.name o.attrs && b) && stack_taken os) (words_named t o.children)
+text_taken t (o ∷ os) = grind (arith, words_named t o.children)
 
 all_more : (p : TextPair → Bool) (xs : List TextPair) (x : TextPair) →
     list_all p (xs ++ x ∷ []) ≡ (list_all p xs && p x)
-all_more p [] x = and-true (p x)
-all_more p (y ∷ ys) x = ap (λ b. p y && b) (all_more p ys x)
-    ∙ sym (and_assoc (p y) (list_all p ys) (p x))
+all_more p [] x = grind arith
+all_more p (y ∷ ys) x = grind (arith, all_more p ys x)
 
 named_more : (name : List ℕ) (attrs : List TextPair) (attr value : List ℕ) →
     is_named name (attrs ++ (attr, value) ∷ [])
     ≡ (is_named name attrs && is_none (attr_fault attr))
 named_more name attrs attr value =
-    ap (λ b. is_none (tag_fault name) && b)
-    (all_more (λ p. is_none (attr_fault p.0)) attrs (attr, value))
-    ∙ sym (and_assoc (is_none (tag_fault name)) (list_all (λ p. is_none (attr_fault p.0)) attrs)
-    (is_none (attr_fault attr)))
+    grind (arith, all_more (λ p. is_none (attr_fault p.0)) attrs (attr, value))
 
 -- tags
 
 complete_holds : (name : List ℕ) (attrs : List TextPair) (kids : Plains) (stack : List Open) →
     Holds (complete name attrs kids stack)
     ((is_named name attrs && are_named kids) && stack_taken stack)
-complete_holds name attrs kids [] = inr (sym (and-true (is_named name attrs && are_named kids)))
-complete_holds name attrs kids (o ∷ os) =
-    inr (ap (λ b. (is_named o.name o.attrs && b) && stack_taken os)
-    (named_then o.children (plain (branch name attrs kids) no_plains)
-    ∙ ap (λ b. are_named o.children && b) (one_named name attrs kids))
-    ∙ and_last (is_named o.name o.attrs) (are_named o.children)
-    (is_named name attrs && are_named kids) (stack_taken os))
+complete_holds name attrs kids [] = grind arith
+complete_holds name attrs kids (o ∷ os) = grind (
+  arith,
+  named_then o.children (plain (branch name attrs kids) no_plains),
+  one_named name attrs kids,
+)
 
 bare_holds : (name : List ℕ) (attrs : List TextPair) (kids : Plains) (stack : List Open) →
     are_named kids ≡ true → Holds (complete name attrs kids stack)
     (is_named name attrs && stack_taken stack)
-bare_holds name attrs kids stack h =
-    subst (λ b. Holds (complete name attrs kids stack) (b && stack_taken stack))
-    (ap (λ b. is_named name attrs && b) h ∙ and-true (is_named name attrs))
-    (complete_holds name attrs kids stack)
-
-entered : (name : List ℕ) (attrs : List TextPair) (stack : List Open) →
-    stack_taken (record { name = name; attrs = attrs; children = no_plains } ∷ stack)
-    ≡ (is_named name attrs && stack_taken stack)
-entered name attrs stack =
-    ap (λ b. (is_named name attrs && b) && stack_taken stack) none_named
-    ∙ ap (λ b. b && stack_taken stack) (and-true (is_named name attrs))
+bare_holds name attrs kids stack h = grind (arith, complete_holds name attrs kids stack)
 
 start_holds : (name : List ℕ) (attrs : List TextPair) (stack : List Open) →
     Holds (after_start_tag name attrs stack) (is_named name attrs && stack_taken stack)
 start_holds name attrs stack =
-    if_holds (is_void name) _ _ _ (bare_holds name attrs no_plains stack none_named)
-    (if_holds (is_raw name) _ _ _ (inr refl)
-    (if_holds (drops_feed name) _ _ _ (inr (entered name attrs stack))
-    (inr (entered name attrs stack))))
+    grind (arith, none_named, bare_holds name attrs no_plains stack none_named)
 
 after_holds : (name : List ℕ) (attrs : List TextPair) (stack : List Open) (c : ℕ) →
     Holds (after name attrs stack c) (is_named name attrs && stack_taken stack)
-after_holds name attrs stack c =
-    if_holds (eqb c 32) _ _ _ (inr refl)
-    (if_holds (is_foreign_self_closing name) _ _ _
-    (if_holds (eqb c 47) _ _ _ (inr refl) (inl refl))
-    (if_holds (eqb c 62) _ _ _ (start_holds name attrs stack) (inl refl)))
+after_holds name attrs stack c = grind (arith, start_holds name attrs stack)
 
 close_holds : (name : List ℕ) (stack : List Open) → Holds (close name stack) (stack_taken stack)
 close_holds name [] = inl refl
-close_holds name (o ∷ os) = if_holds (bytes_eq name o.name) _ _ _
-    (complete_holds o.name o.attrs o.children os) (inl refl)
+close_holds name (o ∷ os) = grind (arith, complete_holds o.name o.attrs o.children os)
 
 content_holds : (text : List ℕ) (stack : List Open) (c : ℕ) →
     Holds (in_content text stack c) (stack_taken stack)
-content_holds text stack c = if_holds (eqb c 60) _ _ _ (inr (text_taken text stack))
-    (if_holds (eqb c 38) _ _ _ (inr refl) (inr refl))
+content_holds text stack c = grind (arith, text_taken text stack)
 
-start_name_holds : (b : Bool) (name : List ℕ) (stack : List Open) (c : ℕ) →
-    Holds (if b then StartName (name ++ c ∷ []) stack else after name [] stack c)
-    (not (not b && is_some (tag_fault name)) && stack_taken stack)
-start_name_holds true name stack c = inr refl
-start_name_holds false name stack c =
-    subst (λ b. Holds (after name [] stack c) (b && stack_taken stack))
-    (and-true (is_none (tag_fault name)) ∙ some_none (tag_fault name))
-    (after_holds name [] stack c)
-
-attr_name_holds : (b : Bool) (name : List ℕ) (attrs : List TextPair) (attr : List ℕ)
-    (stack : List Open) (c : ℕ) →
-    Holds (if b then AttrName name attrs (attr ++ c ∷ []) stack
-    else (if eqb c 61 then Equals name attrs attr stack
-    else after name (attrs ++ (attr, []) ∷ []) stack c))
-    (not (not b && is_some (attr_fault attr)) && (is_named name attrs && stack_taken stack))
-attr_name_holds true name attrs attr stack c = inr refl
-attr_name_holds false name attrs attr stack c =
-    let n = is_named name attrs in
-    let a = is_none (attr_fault attr) in
-    let k = stack_taken stack in
-    let same : ((n && a) && k) ≡ (not (is_some (attr_fault attr)) && (n && k)) =
-    moved n a k ∙ ap (λ b. b && (n && k)) (some_none (attr_fault attr)) in
-    if_holds (eqb c 61) _ _ _ (inr same)
-    (subst (Holds (after name (attrs ++ (attr, []) ∷ []) stack c))
-    (ap (λ b. b && k) (named_more name attrs attr []) ∙ same)
-    (after_holds name (attrs ++ (attr, []) ∷ []) stack c))
-  where
-    moved : (n a k : Bool) → ((n && a) && k) ≡ (a && (n && k))
-    moved true a k = refl
-    moved false a k = sym (and-false a)
+-- behind the name of an attribute, which may be none
+attr_holds : {F : Type 0} (more equals : Bool) (fault : Option F) (s t u : ReaderState)
+    (n k : Bool) →
+    Holds s (n && k) → Holds t ((n && is_none fault) && k) → Holds u ((n && is_none fault) && k) →
+    Holds (if more then s else (if equals then t else u))
+    (not (not more && is_some fault) && (n && k))
+attr_holds more equals fault s t u n k h i j = grind arith
 
 pub step_holds : (s : ReaderState) (c : ℕ) →
     Holds (step s c) (not (ends_refused s c) && taken s)
-step_holds (Outside None) c = if_holds (is_blank c) _ _ _ (inr refl)
-    (if_holds (eqb c 60) _ _ _ (inr refl) (inl refl))
-step_holds (Outside (Some root)) c = if_holds (is_blank c) _ _ _ (inr refl)
-    (if_holds (eqb c 60) _ _ _ (inl refl) (inl refl))
+step_holds (Outside None) c = grind arith
+step_holds (Outside (Some root)) c = grind arith
 step_holds (Content text stack) c = content_holds text stack c
-step_holds (Fresh stack) c = if_holds (eqb c 10) _ _ _ (inr refl) (content_holds [] stack c)
-step_holds (Reference text since stack) c = if_holds (eqb c 59) _ _ _
-    (or_holds (reference since) _ _ (λ d. inr refl)) (inr refl)
+step_holds (Fresh stack) c = grind (arith, content_holds [] stack c)
+step_holds (Reference text since stack) c = grind (
+  arith,
+  or_holds (reference since)
+      (λ d. Content (text ++ d ∷ []) stack) (stack_taken stack) (λ d. inr refl),
+)
 step_holds (Raw name attrs text stack) c =
-    if_holds (is_tag_end c && ends_closing name text) _ _ _
-    (if_holds (eqb c 62 && ends_exact name text) _ _ _
-    (bare_holds name attrs (with_text (before_closing name text) no_plains) stack
-    (words_named (before_closing name text) no_plains ∙ none_named)) (inl refl)) (inr refl)
-step_holds (Less stack) c = if_holds (eqb c 47) _ _ _ (inr refl)
-    (if_holds (is_tag_char c && not (holds_text_alone stack)) _ _ _ (inr refl) (inl refl))
-step_holds (StartName name stack) c = start_name_holds (is_tag_char c) name stack c
-step_holds (Space name attrs stack) c = if_holds (is_attr_char c) _ _ _ (inr refl) (inl refl)
+    let words = with_text (before_closing name text) no_plains in
+    let named : are_named words ≡ true =
+    words_named (before_closing name text) no_plains ∙ none_named in
+    let whole : Holds (complete name attrs words stack) (is_named name attrs && stack_taken stack) =
+    bare_holds name attrs words stack named in
+    grind arith
+step_holds (Less stack) c = grind arith
+step_holds (StartName name stack) c = grind (arith, after_holds name [] stack c)
+step_holds (Space name attrs stack) c = grind arith
 step_holds (AttrName name attrs attr stack) c =
-    attr_name_holds (is_attr_char c) name attrs attr stack c
-step_holds (Equals name attrs attr stack) c = if_holds (eqb c 34) _ _ _ (inr refl) (inl refl)
-step_holds (Value name attrs attr value stack) c = if_holds (eqb c 34) _ _ _
-    (inr (ap (λ b. b && stack_taken stack) (named_more name attrs attr value)))
-    (if_holds (eqb c 38) _ _ _ (inr refl) (inr refl))
-step_holds (ValueReference name attrs attr value since stack) c = if_holds (eqb c 59) _ _ _
-    (or_holds (reference since) _ _ (λ d. inr refl)) (inr refl)
+    let more = attrs ++ (attr, []) ∷ [] in
+    attr_holds (is_attr_char c) (eqb c 61) (attr_fault attr) _ _ _ (is_named name attrs)
+    (stack_taken stack) (inr refl) (inr refl)
+    (subst (λ b. Holds (after name more stack c) (b && stack_taken stack))
+    (named_more name attrs attr []) (after_holds name more stack c))
+step_holds (Equals name attrs attr stack) c = grind arith
+step_holds (Value name attrs attr value stack) c = grind (arith, named_more name attrs attr value)
+step_holds (ValueReference name attrs attr value since stack) c = grind (
+  arith,
+  or_holds
+      (reference since) (λ d. Value name attrs attr (value ++ d ∷ []) stack)
+      (taken (Value name attrs attr value stack)) (λ d. inr refl),
+)
 step_holds (Quoted name attrs stack) c = after_holds name attrs stack c
-step_holds (Slash name attrs stack) c = if_holds (eqb c 62) _ _ _
-    (bare_holds name attrs no_plains stack none_named) (inl refl)
-step_holds (EndName name stack) c = if_holds (is_tag_char c) _ _ _ (inr refl)
-    (if_holds (eqb c 62) _ _ _ (close_holds name stack) (inl refl))
+step_holds (Slash name attrs stack) c =
+    grind (arith, bare_holds name attrs no_plains stack none_named)
+step_holds (EndName name stack) c = grind (arith, close_holds name stack)
 step_holds Stop c = inl refl
 
 -- what is read once all is read
@@ -265,8 +209,7 @@ pub none_after : (cs : List ℕ) (s : ReaderState) → Holds s false → outcome
 none_after cs s (inl e) = ap (λ t. outcome t cs) e ∙ stopped cs
 none_after [] s (inr e) = state_none s e
 none_after (c ∷ cs) s (inr e) = none_after cs (step s c)
-    (subst (Holds (step s c)) (ap (λ b. not (ends_refused s c) && b) e
-    ∙ and-false (not (ends_refused s c))) (step_holds s c))
+    (grind (arith, step_holds s c))
 
 pub root_accepted : (name : List ℕ) (attrs : List TextPair) (kids : Plains) →
     root_taken (Some (branch name attrs kids)) ≡ true →

@@ -1,13 +1,12 @@
 -- An element that was read is its own normal form: no text is empty, and none follows another.
-use Rattle.std.proofs.Common.{◌≡◌, ℕ, Bool, true, false, not, ◌&&◌, ◌∷◌, ◌++◌, List, [], Option, Some, None, eqb, bytes_eq, refl, sym, ap, ◌∙◌}
+use Rattle.std.proofs.Common.{◌≡◌, arith, ℕ, Bool, ◌∷◌, ◌++◌, List, [], Option, Some, None, eqb, refl, sym, ap, ◌∙◌}
 use Rattle.std.specs.Prelude.{if◌then◌else◌}
-use Rattle.html_names.specs.Characters.{is_tag_char, is_attr_char, is_blank}
-use Rattle.html_names.specs.Kinds.{is_void, is_foreign_self_closing, is_raw}
+use Rattle.html_names.specs.Characters.{is_attr_char}
 use Rattle.html_dom_tree.specs.Tree.{TextPair}
 use Rattle.html_dom_tree.specs.PlainTree.{Plain, words, branch, Plains, no_plains, plain, put_words, nodes_normal}
-use Rattle.typst_html_encode.specs.ClosingTags.{is_tag_end, ends_closing, ends_exact, before_closing}
+use Rattle.typst_html_encode.specs.ClosingTags.{before_closing}
 use Rattle.typst_html_encode.specs.References.{reference}
-use Rattle.typst_html_encode.specs.Reader.{drops_feed, ◌then◌, Open, ReaderState, Outside, Content, Fresh, Reference, Raw, Less, StartName, Space, AttrName, Equals, Value, ValueReference, Quoted, Slash, EndName, Stop, with_text, add_text, complete, holds_text_alone, after_start_tag, after, close, or_stop, in_content, step, run}
+use Rattle.typst_html_encode.specs.Reader.{◌then◌, Open, ReaderState, Outside, Content, Fresh, Reference, Raw, Less, StartName, Space, AttrName, Equals, Value, ValueReference, Quoted, Slash, EndName, Stop, with_text, add_text, complete, after_start_tag, after, close, or_stop, in_content, step, run}
 use Rattle.typst_html_encode.proofs.Normals.{then_assoc, then_none}
 use Rattle.typst_html_read.specs.PlainElements.{plain_nodes}
 
@@ -110,8 +109,7 @@ Fits (EndName name stack) = AreParted stack
 Fits Stop = Unit {0}
 
 if_fits : (b : Bool) (s t : ReaderState) → Fits s → Fits t → Fits (if b then s else t)
-if_fits true s t h k = h
-if_fits false s t h k = k
+if_fits b s t h k = grind arith
 
 or_fits : (o : Option ℕ) (f : ℕ → ReaderState) → ((d : ℕ) → Fits (f d)) → Fits (or_stop o f)
 or_fits None f h = tt
@@ -126,20 +124,15 @@ complete_fits name attrs kids (o ∷ os) k h =
 start_fits : (name : List ℕ) (attrs : List TextPair) (stack : List Open) → AreParted stack →
     Fits (after_start_tag name attrs stack)
 start_fits name attrs stack h =
-    if_fits (is_void name) _ _ (complete_fits name attrs no_plains stack none_normal h)
-    (if_fits (is_raw name) _ _ h (if_fits (drops_feed name) _ _ (none_ended, h) (none_ended, h)))
+    grind (arith, none_ended, complete_fits name attrs no_plains stack none_normal h)
 
 after_fits : (name : List ℕ) (attrs : List TextPair) (stack : List Open) (c : ℕ) →
     AreParted stack → Fits (after name attrs stack c)
-after_fits name attrs stack c h =
-    if_fits (eqb c 32) _ _ h
-    (if_fits (is_foreign_self_closing name) _ _ (if_fits (eqb c 47) _ _ h tt)
-    (if_fits (eqb c 62) _ _ (start_fits name attrs stack h) tt))
+after_fits name attrs stack c h = grind (arith, start_fits name attrs stack h)
 
 close_fits : (name : List ℕ) (stack : List Open) → AreParted stack → Fits (close name stack)
 close_fits name [] h = tt
-close_fits name (o ∷ os) h = if_fits (bytes_eq name o.name) _ _
-    (complete_fits o.name o.attrs o.children os h.0.0 h.1) tt
+close_fits name (o ∷ os) h = grind (arith, complete_fits o.name o.attrs o.children os h.0.0 h.1)
 
 text_fits : (text : List ℕ) (stack : List Open) → AreEnded stack → AreParted (add_text text stack)
 text_fits text [] h = tt
@@ -147,38 +140,33 @@ text_fits text (o ∷ os) h = (text_parted text o.children h.0, h.1)
 
 content_fits : (text : List ℕ) (stack : List Open) (c : ℕ) → AreEnded stack →
     Fits (in_content text stack c)
-content_fits text stack c h = if_fits (eqb c 60) _ _ (text_fits text stack h)
-    (if_fits (eqb c 38) _ _ h h)
+content_fits text stack c h = grind (arith, text_fits text stack h)
 
 step_fits : (s : ReaderState) (c : ℕ) → Fits s → Fits (step s c)
-step_fits (Outside None) c h = if_fits (is_blank c) _ _ tt (if_fits (eqb c 60) _ _ tt tt)
-step_fits (Outside (Some root)) c h = if_fits (is_blank c) _ _ h (if_fits (eqb c 60) _ _ tt tt)
+step_fits (Outside None) c h = grind arith
+step_fits (Outside (Some root)) c h = grind arith
 step_fits (Content text stack) c h = content_fits text stack c h
-step_fits (Fresh stack) c h = if_fits (eqb c 10) _ _ h (content_fits [] stack c h)
+step_fits (Fresh stack) c h = grind (arith, content_fits [] stack c h)
 step_fits (Reference text since stack) c h =
     if_fits (eqb c 59) _ _ (or_fits (reference since) _ (λ d. h)) h
-step_fits (Raw name attrs text stack) c h =
-    if_fits (is_tag_end c && ends_closing name text) _ _
-    (if_fits (eqb c 62 && ends_exact name text) _ _
-    (complete_fits name attrs (with_text (before_closing name text) no_plains) stack
-    (text_parted (before_closing name text) no_plains none_ended).0 h) tt) h
-step_fits (Less stack) c h = if_fits (eqb c 47) _ _ h
-    (if_fits (is_tag_char c && not (holds_text_alone stack)) _ _ h tt)
-step_fits (StartName name stack) c h =
-    if_fits (is_tag_char c) _ _ h (after_fits name [] stack c h)
-step_fits (Space name attrs stack) c h = if_fits (is_attr_char c) _ _ h tt
+step_fits (Raw name attrs text stack) c h = grind (
+  arith,
+  complete_fits name attrs (with_text (before_closing name text) no_plains) stack
+      (text_parted (before_closing name text) no_plains none_ended).0 h,
+)
+step_fits (Less stack) c h = grind arith
+step_fits (StartName name stack) c h = grind (arith, after_fits name [] stack c h)
+step_fits (Space name attrs stack) c h = grind arith
 step_fits (AttrName name attrs attr stack) c h = if_fits (is_attr_char c) _ _ h
     (if_fits (eqb c 61) _ _ h (after_fits name (attrs ++ (attr, []) ∷ []) stack c h))
-step_fits (Equals name attrs attr stack) c h = if_fits (eqb c 34) _ _ h tt
-step_fits (Value name attrs attr value stack) c h =
-    if_fits (eqb c 34) _ _ h (if_fits (eqb c 38) _ _ h h)
+step_fits (Equals name attrs attr stack) c h = grind arith
+step_fits (Value name attrs attr value stack) c h = grind arith
 step_fits (ValueReference name attrs attr value since stack) c h =
     if_fits (eqb c 59) _ _ (or_fits (reference since) _ (λ d. h)) h
 step_fits (Quoted name attrs stack) c h = after_fits name attrs stack c h
 step_fits (Slash name attrs stack) c h =
-    if_fits (eqb c 62) _ _ (complete_fits name attrs no_plains stack none_normal h) tt
-step_fits (EndName name stack) c h = if_fits (is_tag_char c) _ _ h
-    (if_fits (eqb c 62) _ _ (close_fits name stack h) tt)
+    grind (arith, complete_fits name attrs no_plains stack none_normal h)
+step_fits (EndName name stack) c h = grind (arith, close_fits name stack h)
 step_fits Stop c h = tt
 
 pub run_fits : (cs : List ℕ) (s : ReaderState) → Fits s → Fits (run s cs)

@@ -1,7 +1,8 @@
 -- Places, one character after the other.
-use Rattle.std.proofs.Common.{◌≡◌, ℕ, zero, suc, ◌+◌, ◌-◌, ◌<◌, ◌≤◌, inl, inr, eqb, List, [], ◌∷◌, take, refl, ap, arith}
+use Rattle.std.proofs.Common.{◌++◌, length, length-append, ◌≡◌, ℕ, zero, suc, ◌+◌, ◌-◌, ◌<◌, ◌≤◌, List, [], ◌∷◌, take, refl, ap, arith}
 use Rattle.std.specs.Char.{len_utf8}
-use Rattle.std.proofs.lemmas.Bool.{cases_Bool}
+use Rattle.std.proofs.lemmas.Str.{length-encode, len_utf8_bounds}
+use lib.Utf8.{encode}
 use Rattle.typst_html_read.specs.Places.{next_place, place_behind}
 use Rattle.typst_html_read.specs.declared.place.Place.{Place}
 
@@ -17,11 +18,14 @@ one_more p count done c cs h =
 pub passed : (p q : Place) (c : ℕ) → q ≡ next_place p c →
     (q.offset ≡ p.offset + len_utf8 c) × (q.line ≤ p.line + 1)
     × (q.column ≤ p.column + 1)
-passed p q c e =
-    elim (cases_Bool (eqb c 10)) [
-      | inl h ↦ rw (e, h) (refl, omega arith, omega arith)
-      | inr h ↦ rw (e, h) (refl, omega arith, omega arith)
-    ]
+passed p q c e = rw e (grind arith)
+
+-- the first character of a text, by its bytes
+pub first_long : (text later : List ℕ) (c : ℕ) → text ≡ encode c ++ later →
+    (length text ≡ len_utf8 c + length later) × (1 ≤ len_utf8 c)
+first_long text later c e =
+    let bounds = len_utf8_bounds c in
+    (omega (arith, ap length e, length-append (encode c) later, length-encode c), omega arith)
 
 pub none_more : (p : Place) (n : ℕ) → place_behind p (take n []) ≡ p
 none_more p zero = refl

@@ -5,8 +5,8 @@ use Rattle.std.specs.Str.{IsUtf8}
 use Rattle.std.proofs.lemmas.Bool.{false≢true}
 use Rattle.std.proofs.lemmas.Str.{encodes-chars}
 use Rattle.html_dom_tree.specs.Tree.{TextPair, NodeView, tag_node, text_node, element_node, frame_node, NodesView, none, node, ElementView, with_last, with_node}
-use Rattle.html_dom_tree.specs.PlainTree.{words, branch, Plains, no_plains, plain}
-use Rattle.typst_html_encode.specs.Reader.{◌then◌, with_text}
+use Rattle.html_dom_tree.specs.PlainTree.{Plain, words, branch, Plains, no_plains, plain}
+use Rattle.typst_html_encode.specs.Reader.{◌then◌, Open, with_text}
 use lib.Utf8.{encodes}
 use Rattle.typst_html_read.specs.PlainElements.{plain_head, plain_nodes}
 use Rattle.typst_html_read.specs.PlainViews.{bare_nodes, open_view, IsPlain, completed}
@@ -36,72 +36,58 @@ bare-last (node (element_node h kids) ns) n =
     ap (plain (branch h.name h.attrs (bare_nodes kids))) (bare-last ns n)
 bare-last (node (frame_node f) ns) n = bare-last ns n
 
-text-last : (ps : Plains) (s : List ℕ) →
-    plain_nodes (ps then plain (words s) no_plains) ≡ with_last (plain_nodes ps) (text_node s 0)
-unfolding plain_nodes
-text-last no_plains s = refl
-text-last (plain (words t) ps) s = ap (node (text_node t 0)) (text-last ps s)
-text-last (plain (branch name attrs kids) ps) s =
-    ap (node (element_node (plain_head name attrs) (plain_nodes kids))) (text-last ps s)
+-- a plain node as a node
+unfoldable plain_node : Plain → NodeView
+plain_node (words s) = text_node s 0
+plain_node (branch name attrs kids) = element_node (plain_head name attrs) (plain_nodes kids)
 
-element-last : (ps : Plains) (name : List ℕ) (attrs : List TextPair) (kids : Plains) →
-    plain_nodes (ps then plain (branch name attrs kids) no_plains)
-    ≡ with_last (plain_nodes ps) (element_node (plain_head name attrs) (plain_nodes kids))
-unfolding plain_nodes
-element-last no_plains name attrs kids = refl
-element-last (plain (words t) ps) name attrs kids =
-    ap (node (text_node t 0)) (element-last ps name attrs kids)
-element-last (plain (branch m others ks) ps) name attrs kids =
-    ap (node (element_node (plain_head m others) (plain_nodes ks)))
-    (element-last ps name attrs kids)
+plain-last : (ps : Plains) (p : Plain) →
+    plain_nodes (ps then plain p no_plains) ≡ with_last (plain_nodes ps) (plain_node p)
+unfolding plain_nodes plain_node
+plain-last no_plains (words s) = refl
+plain-last no_plains (branch name attrs kids) = refl
+plain-last (plain (words t) ps) p = ap (node (text_node t 0)) (plain-last ps p)
+plain-last (plain (branch name attrs kids) ps) p =
+    ap (node (element_node (plain_head name attrs) (plain_nodes kids))) (plain-last ps p)
 
-text_children : (ns : NodesView) (s : List ℕ) →
-    bare_nodes (with_last ns (text_node s 0)) ≡ (bare_nodes ns then plain (words s) no_plains)
-unfolding bare_nodes
-text_children ns s = bare-last ns (text_node s 0)
+abbrev with_plain : Plain → Open → Open
+with_plain p o = record o { children = o.children then plain p no_plains }
 
-element_children : (ns : NodesView) (d : ElementView) →
-    bare_nodes (with_last ns (element_node d.0 d.1))
-    ≡ (bare_nodes ns then plain (completed (open_view d)) no_plains)
-unfolding bare_nodes
-element_children ns d = bare-last ns (element_node d.0 d.1)
+-- a plain node is one more child
+module _ (e v : ElementView) (n : NodeView) (p : Plain) (h : v ≡ with_node n e)
+    (bare : bare_nodes (node n none) ≡ plain p no_plains) where
+  more : bare_nodes (with_last e.1 n) ≡ (bare_nodes e.1 then plain p no_plains)
+  more = bare-last e.1 n ∙ ap (λ ps. bare_nodes e.1 then ps) bare
 
-pub text_open : (e v : ElementView) (s : List ℕ) → v ≡ with_node (text_node s 0) e →
-    open_view v ≡ record (open_view e) {
-      children = (open_view e).children then plain (words s) no_plains;
-    }
-text_open e v s h = ap open_view h
-    ∙ ap (λ ps. record (open_view e) { children = ps }) (text_children e.1 s)
+  one_open : open_view v ≡ with_plain p (open_view e)
+  one_open = ap open_view h ∙ ap (λ ps. record (open_view e) { children = ps }) more
 
-pub element_open : (e d v : ElementView) → v ≡ with_node (element_node d.0 d.1) e →
-    open_view v ≡ record (open_view e) {
-      children = (open_view e).children then plain (completed (open_view d)) no_plains;
-    }
-element_open e d v h = ap open_view h
-    ∙ ap (λ ps. record (open_view e) { children = ps }) (element_children e.1 d)
+  one_plain : IsPlain e → n ≡ plain_node p → IsPlain v
+  one_plain q is =
+      let kids : with_last e.1 n ≡ plain_nodes (bare_nodes (with_last e.1 n)) =
+      ap (λ x. with_last x.1 n) q
+      ∙ (ap (with_last (plain_nodes (bare_nodes e.1))) is
+      ∙ (sym (plain-last (bare_nodes e.1) p) ∙ ap plain_nodes (sym more))) in
+      subst IsPlain (sym h) (λ i. ((q i).0, kids i))
 
-pub text_plain : (e v : ElementView) (s : List ℕ) → IsPlain e → v ≡ with_node (text_node s 0) e →
-    IsPlain v
-text_plain e v s p h =
-    let n = text_node s 0 in
-    let kids : with_last e.1 n ≡ plain_nodes (bare_nodes (with_last e.1 n)) =
-    ap (λ x. with_last x.1 (text_node s 0)) p
-    ∙ (sym (text-last (bare_nodes e.1) s) ∙ ap plain_nodes (sym (text_children e.1 s))) in
-    subst IsPlain (sym h) (λ i. ((p i).0, kids i))
+module _ (e v : ElementView) (s : List ℕ) (h : v ≡ with_node (text_node s 0) e) where
+  pub text_open : open_view v ≡ with_plain (words s) (open_view e)
+  unfolding bare_nodes
+  text_open = one_open e v (text_node s 0) (words s) h refl
 
-pub element_plain : (e d v : ElementView) → IsPlain e → IsPlain d →
-    v ≡ with_node (element_node d.0 d.1) e → IsPlain v
-element_plain e d v p q h =
-    let n = element_node d.0 d.1 in
-    let o = open_view d in
-    let same : n ≡ element_node (plain_head o.name o.attrs) (plain_nodes o.children) =
-    ap (λ x. element_node x.0 x.1) q in
-    let kids : with_last e.1 n ≡ plain_nodes (bare_nodes (with_last e.1 n)) =
-    ap (λ x. with_last x.1 n) p
-    ∙ (ap (with_last (plain_nodes (bare_nodes e.1))) same
-    ∙ (sym (element-last (bare_nodes e.1) o.name o.attrs o.children)
-    ∙ ap plain_nodes (sym (element_children e.1 d)))) in
-    subst IsPlain (sym h) (λ i. ((p i).0, kids i))
+  pub text_plain : IsPlain e → IsPlain v
+  unfolding bare_nodes plain_node
+  text_plain p = one_plain e v (text_node s 0) (words s) h refl p refl
+
+module _ (e d v : ElementView) (h : v ≡ with_node (element_node d.0 d.1) e) where
+  pub element_open : open_view v ≡ with_plain (completed (open_view d)) (open_view e)
+  unfolding bare_nodes
+  element_open = one_open e v (element_node d.0 d.1) (completed (open_view d)) h refl
+
+  pub element_plain : IsPlain e → IsPlain d → IsPlain v
+  unfolding bare_nodes plain_node
+  element_plain p q = one_plain e v (element_node d.0 d.1) (completed (open_view d)) h refl p
+      (ap (λ x. element_node x.0 x.1) q)
 
 -- a node was added, or none
 pub plain_added : {A E : Type 0} (r : Result A E) (e v : ElementView) → IsPlain e →
@@ -111,11 +97,10 @@ plain_added (Err x) e v p h k = subst IsPlain (sym k) p
 
 -- a text that is not empty, by its bytes
 
-text_by : (cs bs : List ℕ) (ps : Plains) → encodes cs ≡ bs → eqb (length bs) 0 ≡ false →
-    with_text cs ps ≡ (ps then plain (words cs) no_plains)
-text_by [] bs ps e h = absurd (false≢true (sym h ∙ ap (λ l. eqb (length l) 0) (sym e)))
-text_by (c ∷ cs) bs ps e h = refl
-
 pub some_text : (bs : List ℕ) (ps : Plains) → IsUtf8 bs → eqb (length bs) 0 ≡ false →
     with_text (chars bs) ps ≡ (ps then plain (words (chars bs)) no_plains)
-some_text bs ps u h = text_by (chars bs) bs ps (encodes-chars bs u) h
+some_text bs ps u h = by (chars bs) (encodes-chars bs u)
+  where
+    by : (cs : List ℕ) → encodes cs ≡ bs → with_text cs ps ≡ (ps then plain (words cs) no_plains)
+    by [] e = absurd (false≢true (sym h ∙ ap (λ l. eqb (length l) 0) (sym e)))
+    by (c ∷ cs) e = refl

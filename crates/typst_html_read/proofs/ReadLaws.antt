@@ -1,8 +1,8 @@
 -- What is written is read, and what was read is written.
-use Rattle.std.proofs.Common.{◌≡◌, ℕ, Bool, true, false, ◌&&◌, inl, inr, List, [], ◌∷◌, Option, Some, None, bytes_eq, codes, take, drop, refl, sym, ap, ◌∙◌, subst}
+use Rattle.std.proofs.Common.{◌≡◌, arith, ℕ, Bool, true, false, ◌&&◌, inl, inr, List, [], ◌∷◌, Option, Some, None, bytes_eq, codes, take, drop, refl, sym, ap, ◌∙◌, subst}
 use Rattle.std.specs.Prelude.{if◌then◌else◌, is_none}
 use Rattle.std.specs.List.{list_all}
-use Rattle.std.proofs.lemmas.Bool.{cases_Bool, and_parts}
+use Rattle.std.proofs.lemmas.Bool.{cases_Bool}
 use Rattle.html_names.specs.Names.{tag_fault, attr_fault}
 use Rattle.html_names.proofs.Faults.{valid_attr, valid_tag}
 use Rattle.html_names.proofs.Basics.{none_from_is_none}
@@ -68,33 +68,32 @@ read_is_normal text e h =
 pairs_valid : (attrs : List TextPair) →
     list_all (λ p. is_none (attr_fault p.0)) attrs ≡ true → PairsAreNamed attrs
 pairs_valid [] h = tt
-pairs_valid (p ∷ ps) h =
-    let both = and_parts (is_none (attr_fault p.0))
-    (list_all (λ q. is_none (attr_fault q.0)) ps) h in
-    (valid_attr p.0 (none_from_is_none (attr_fault p.0) both.0), pairs_valid ps both.1)
+pairs_valid (p ∷ ps) h = (
+  valid_attr p.0 (none_from_is_none (attr_fault p.0) (grind arith)),
+  pairs_valid ps (grind arith),
+)
 
 head_valid : (name : List ℕ) (attrs : List TextPair) → is_named name attrs ≡ true →
     HeadIsNamed (plain_head name attrs)
-head_valid name attrs h =
-    let both = and_parts (is_none (tag_fault name))
-    (list_all (λ p. is_none (attr_fault p.0)) attrs) h in
-    (valid_tag name (none_from_is_none (tag_fault name) both.0), pairs_valid attrs both.1)
+head_valid name attrs h = (
+  valid_tag name (none_from_is_none (tag_fault name) (grind arith)),
+  pairs_valid attrs (grind arith),
+)
 
 nodes_valid : (ps : Plains) → are_named ps ≡ true → NodesAreNamed (plain_nodes ps)
 unfolding plain_nodes are_named NodeIsNamed NodesAreNamed
 nodes_valid no_plains h = tt
 nodes_valid (plain (words t) ps) h = (tt, nodes_valid ps h)
-nodes_valid (plain (branch name attrs kids) ps) h =
-    let both = and_parts (is_named name attrs) (are_named kids && are_named ps) h in
-    let more = and_parts (are_named kids) (are_named ps) both.1 in
-    ((head_valid name attrs both.0, nodes_valid kids more.0), nodes_valid ps more.1)
+nodes_valid (plain (branch name attrs kids) ps) h = (
+  (head_valid name attrs (grind arith), nodes_valid kids (grind arith)),
+  nodes_valid ps (grind arith),
+)
 
 element_valid : (name : List ℕ) (attrs : List TextPair) (kids : Plains) →
     (is_named name attrs && are_named kids) ≡ true → ElementIsNamed (plain_element name attrs kids)
 unfolding NodeIsNamed
 element_valid name attrs kids h =
-    let both = and_parts (is_named name attrs) (are_named kids) h in
-    (head_valid name attrs both.0, nodes_valid kids both.1)
+    (head_valid name attrs (grind arith), nodes_valid kids (grind arith))
 
 nodes_free : (ps : Plains) → NodesAreFrameFree (plain_nodes ps)
 unfolding plain_nodes NodeIsFrameFree NodesAreFrameFree

@@ -1,7 +1,7 @@
 -- References in a text, by its bytes.
-use Rattle.std.proofs.Common.{◌≡◌, ℕ, ◌&&◌, inl, inr, List, [], ◌∷◌, None, eqb, chars, codes, refl, ap}
+use Rattle.std.proofs.Common.{◌≡◌, ℕ, List, [], ◌∷◌, None, chars, codes, refl, ap, arith}
 use Rattle.std.specs.Str.{IsUtf8}
-use Rattle.std.proofs.lemmas.Bool.{cases_Bool, and_parts, eqb-true}
+use Rattle.std.proofs.lemmas.Bool.Decides.{nat_tests}
 use lib.Utf8.{encodes}
 use Rattle.typst_html_encode.specs.References.{numbered_char, reference_by_number, reference}
 use Rattle.typst_html_read.proofs.Words.{chars_after_word, word_before, word_is_not}
@@ -13,15 +13,7 @@ not_by_number : (cs : List ℕ) → ((rest : List ℕ) → cs ≡ 35 ∷ 120 ∷
     None ≡ reference_by_number cs
 not_by_number [] h = refl
 not_by_number (x ∷ []) h = refl
-not_by_number (x ∷ y ∷ ds) h =
-    elim (cases_Bool (eqb x 35 && eqb y 120)) [
-      | inl e ↦
-          let both = and_parts (eqb x 35) (eqb y 120) e in
-          let p : x ≡ 35 = eqb-true x 35 both.0 in
-          let q : y ≡ 120 = eqb-true y 120 both.1 in
-          absurd (h ds cc)
-      | inr e ↦ rw e refl
-    ]
+not_by_number (x ∷ y ∷ ds) h = grind (arith, nat_tests, h ds)
 
 pub no_reference : (w : List ℕ) → IsUtf8 w → (w ≡ codes "amp" → ⊥) → (w ≡ codes "lt" → ⊥) →
     (w ≡ codes "gt" → ⊥) → (w ≡ codes "quot" → ⊥) → (w ≡ codes "apos" → ⊥) →

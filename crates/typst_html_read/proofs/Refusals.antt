@@ -1,29 +1,26 @@
 -- From a character on that is refused, nothing is read, whatever follows.
-use Rattle.std.proofs.Common.{◌≡◌, ℕ, Bool, true, false, not, ◌&&◌, ◌∷◌, ◌++◌, inl, inr, List, [], None, eqb, bytes_eq, get_or, length, refl, sym, ap, ◌∙◌, subst, arith, append-nil, append_assoc, eq-eqb}
+use Rattle.std.proofs.Common.{◌≡◌, ℕ, Bool, true, false, not, ◌&&◌, ◌∷◌, ◌++◌, List, [], None, eqb, bytes_eq, get_or, length, refl, sym, ap, ◌∙◌, subst, arith, append-nil, append_assoc, eq-eqb}
 use Rattle.std.specs.Prelude.{if◌then◌else◌, is_none}
-use Rattle.std.specs.List.{list_all}
 use Rattle.std.specs.Str.{IsAscii}
-use Rattle.std.proofs.lemmas.Bool.{cases_Bool, and_parts, eqb-true, false≢true, false_from_ne_true, not-true}
-use Rattle.std.proofs.lemmas.List.{get_or_past}
+use Rattle.std.proofs.lemmas.Bool.{false≢true, false_from_ne_true, not-true, or_parts}
+use Rattle.std.proofs.lemmas.Bool.Decides.{nat_tests}
 use Rattle.std.proofs.lemmas.Str.{encodes-IsAscii}
-use Rattle.std.proofs.Math.Seq.{get_or-append_seam}
 use lib.Utf8.{encodes}
 use Rattle.html_names.specs.Characters.{is_tag_char}
-use Rattle.html_names.specs.Names.{tag_fault, attr_fault}
+use Rattle.html_names.specs.Names.{tag_fault}
 use Rattle.html_names.proofs.Basics.{bytes_eq-same, is_ascii_is, none_from_is_none}
 use Rattle.html_names.proofs.Faults.{tag_ascii, valid_tag}
 use Rattle.typst_html_encode.specs.References.{reference}
-use Rattle.typst_html_encode.specs.Reader.{Open, ReaderState, Content, Reference, Less, StartName, AttrName, Value, ValueReference, EndName, Stop, complete, close, or_stop, step, final_root}
+use Rattle.typst_html_encode.specs.Reader.{Open, ReaderState, Content, Reference, Less, StartName, AttrName, Value, ValueReference, EndName, or_stop, step, final_root}
 use Rattle.typst_html_read.specs.BegunReferences.{begins_reference, continues_reference}
 use Rattle.typst_html_read.specs.LimitedReading.{ends_at, refuses, next_state}
-use Rattle.typst_html_read.specs.PlainElements.{is_named, are_named, accepted}
-use Rattle.typst_html_read.proofs.BegunReferences.{front_ascii, neither, reference_never}
-use Rattle.typst_html_read.proofs.Names.{open_taken, stack_taken, taken, ends_refused, Holds, step_holds, outcome, stopped, none_after}
+use Rattle.typst_html_read.specs.PlainElements.{accepted}
+use Rattle.typst_html_read.proofs.BegunReferences.{front_ascii, reference_never}
+use Rattle.typst_html_read.proofs.Names.{stack_taken, taken, ends_refused, Holds, step_holds, outcome, stopped, none_after}
 
 if_none : (b : Bool) (s t : ReaderState) (cs : List ℕ) → outcome s cs ≡ None →
     outcome t cs ≡ None → outcome (if b then s else t) cs ≡ None
-if_none true s t cs h k = h
-if_none false s t cs h k = k
+if_none b s t cs h k = grind arith
 
 -- what stands since `&` begins no reference; `f` are the states that hold it
 module _ (f : List ℕ → ReaderState) (done : ℕ → ReaderState)
@@ -44,69 +41,49 @@ module _ (f : List ℕ → ReaderState) (done : ℕ → ReaderState)
   since_refused : (w : List ℕ) (c : ℕ) (cs : List ℕ) → continues_reference w c ≡ false →
       outcome (step (f w) c) cs ≡ None
   since_refused w c cs h =
-      let no_end : eqb c 59 ≡ false = (neither (eqb c 59) _ h).0 in
-      let no_begin = (neither (eqb c 59) (begins_reference (w ++ c ∷ [])) h).1 in
+      let no = or_parts (eqb c 59) (begins_reference (w ++ c ∷ [])) h in
       ap (λ s. outcome s cs) (next w c
-      ∙ ap (λ b. if b then or_stop (reference w) done else f (w ++ c ∷ [])) no_end)
-      ∙ since_never cs (w ++ c ∷ []) (reference_never (w ++ c ∷ []) no_begin)
+      ∙ ap (λ b. if b then or_stop (reference w) done else f (w ++ c ∷ [])) no.0)
+      ∙ since_never cs (w ++ c ∷ []) (reference_never (w ++ c ∷ []) no.1)
 
 -- an end tag where no element is open
 
 end_alone : (cs name : List ℕ) → outcome (EndName name []) cs ≡ None
 end_alone [] name = refl
-end_alone (c ∷ cs) name = if_none (is_tag_char c) _ _ cs (end_alone cs (name ++ c ∷ []))
-    (if_none (eqb c 62) _ _ cs (stopped cs) (stopped cs))
+end_alone (c ∷ cs) name = grind (arith, end_alone cs (name ++ c ∷ []), stopped cs)
 
 less_refused : (stack : List Open) (c : ℕ) (cs : List ℕ) →
     (eqb c 47 && eqb (length stack) 0) ≡ true → outcome (step (Less stack) c) cs ≡ None
-less_refused [] c cs h =
-    let slash : eqb c 47 ≡ true = (and_parts (eqb c 47) _ h).0 in rw slash (end_alone cs [])
-less_refused (o ∷ os) c cs h =
-    let none : length (o ∷ os) ≡ 0 =
-    eqb-true (length (o ∷ os)) 0 (and_parts (eqb c 47) (eqb (length (o ∷ os)) 0) h).1 in
-    absurd (omega arith)
+less_refused [] c cs h = grind (arith, end_alone cs [])
+less_refused (o ∷ os) c cs h = grind (arith, nat_tests)
+
+-- behind what was read of a name, the rest stands at that place
+pub next_is : (name read rest : List ℕ) → IsAscii read → name ≡ read ++ rest →
+    get_or name (length (encodes read)) 62 ≡ get_or rest 0 62
+next_is name read rest a e = ap (λ l. get_or name (length l) 62) (encodes-IsAscii read a)
+    ∙ (ap (λ l. get_or l (length read) 62) e ∙ at_rest read)
+  where
+    at_rest : (read : List ℕ) → get_or (read ++ rest) (length read) 62 ≡ get_or rest 0 62
+    at_rest [] = refl
+    at_rest (c ∷ cs) = at_rest cs
 
 -- an end tag of another name than that of the innermost element
 
-other_name : (name read rest : List ℕ) (c : ℕ) → IsAscii name →
-    eqb c (get_or name (length (encodes read)) 62) ≡ false →
-    bytes_eq (read ++ c ∷ rest) name ≡ false
-other_name name read rest c a h = false_from_ne_true (bytes_eq (read ++ c ∷ rest) name) (λ e.
-    let is : read ++ c ∷ rest ≡ name = bytes_eq-same (read ++ c ∷ rest) name e in
-    let own : encodes read ≡ read =
-    encodes-IsAscii read (front_ascii read (c ∷ rest) (subst IsAscii (sym is) a)) in
-    let there : get_or name (length (encodes read)) 62 ≡ c =
-    ap (λ l. get_or name (length l) 62) own
-    ∙ (ap (λ l. get_or l (length read) 62) (sym is) ∙ get_or-append_seam read c rest 62) in
-    false≢true (sym h ∙ eq-eqb c _ (sym there)))
-
-short_name : (name read : List ℕ) (c : ℕ) → IsAscii name → c ≡ 62 →
-    eqb c (get_or name (length (encodes read)) 62) ≡ false → bytes_eq read name ≡ false
-short_name name read c a m h = false_from_ne_true (bytes_eq read name) (λ e.
-    let is : read ≡ name = bytes_eq-same read name e in
-    let own : encodes read ≡ name =
-    encodes-IsAscii read (subst IsAscii (sym is) a) ∙ is in
-    let there : get_or name (length (encodes read)) 62 ≡ 62 =
-    ap (λ l. get_or name (length l) 62) own ∙ get_or_past name (length name) 62 (omega arith) in
-    false≢true (sym h ∙ eq-eqb c _ (m ∙ sym there)))
+other_name : (name read rest : List ℕ) (c : ℕ) → IsAscii name → c ≡ get_or rest 0 62 →
+    eqb c (get_or name (length (encodes read)) 62) ≡ false → bytes_eq (read ++ rest) name ≡ false
+other_name name read rest c a is h = false_from_ne_true (bytes_eq (read ++ rest) name) (λ e.
+    let whole : name ≡ read ++ rest = sym (bytes_eq-same (read ++ rest) name e) in
+    let ascii : IsAscii read = front_ascii read rest (subst IsAscii whole a) in
+    false≢true (sym h ∙ eq-eqb c _ (is ∙ sym (next_is name read rest ascii whole))))
 
 module _ (o : Open) (os : List Open) where
-  close_never : (read cs : List ℕ) → bytes_eq read o.name ≡ false →
-      outcome (close read (o ∷ os)) cs ≡ None
-  close_never read cs h =
-      ap (λ b. outcome (if b then complete o.name o.attrs o.children os else Stop) cs) h
-      ∙ stopped cs
-
   end_never : (cs read : List ℕ) → ((more : List ℕ) → bytes_eq (read ++ more) o.name ≡ false) →
       outcome (EndName read (o ∷ os)) cs ≡ None
   end_never [] read h = refl
   end_never (c ∷ cs) read h =
-      let none : bytes_eq read o.name ≡ false =
-      ap (λ l. bytes_eq l o.name) (sym (append-nil read)) ∙ h [] in
-      if_none (is_tag_char c) _ _ cs
-      (end_never cs (read ++ c ∷ [])
-      (λ more. ap (λ l. bytes_eq l o.name) (append_assoc read (c ∷ []) more) ∙ h (c ∷ more)))
-      (if_none (eqb c 62) _ _ cs (close_never read cs none) (stopped cs))
+      let more = end_never cs (read ++ c ∷ [])
+      (λ more. ap (λ l. bytes_eq l o.name) (append_assoc read (c ∷ []) more) ∙ h (c ∷ more)) in
+      if_none (is_tag_char c) _ _ cs more (grind (arith, append-nil read, h [], stopped cs))
 
   end_refused : (read : List ℕ) (c : ℕ) (cs : List ℕ) → IsAscii o.name →
       eqb c (get_or o.name (length (encodes read)) 62) ≡ false →
@@ -115,22 +92,14 @@ module _ (o : Open) (os : List Open) where
       if_none (is_tag_char c) _ _ cs
       (end_never cs (read ++ c ∷ []) (λ more.
       ap (λ l. bytes_eq l o.name) (append_assoc read (c ∷ []) more)
-      ∙ other_name o.name read more c a h))
-      (closing (eqb c 62) refl)
-    where
-      closing : (b : Bool) → eqb c 62 ≡ b →
-          outcome (if b then close read (o ∷ os) else Stop) cs ≡ None
-      closing true e = close_never read cs (short_name o.name read c a (eqb-true c 62 e) h)
-      closing false e = stopped cs
+      ∙ other_name o.name read (c ∷ more) c a refl h))
+      (grind (arith, nat_tests, append-nil read, stopped cs, other_name o.name read [] c a))
 
 own_ascii : (o : Open) (os : List Open) → stack_taken (o ∷ os) ≡ true → IsAscii o.name
 own_ascii o os h =
-    let first = and_parts (open_taken o) (stack_taken os) h in
-    let named = and_parts (is_named o.name o.attrs) (are_named o.children) first.0 in
-    let name = and_parts (is_none (tag_fault o.name))
-    (list_all (λ p. is_none (attr_fault p.0)) o.attrs) named.0 in
+    let named : is_none (tag_fault o.name) ≡ true = grind arith in
     is_ascii_is o.name
-    (tag_ascii o.name (valid_tag o.name (none_from_is_none (tag_fault o.name) name.0)))
+    (tag_ascii o.name (valid_tag o.name (none_from_is_none (tag_fault o.name) named)))
 
 name_refused : (s : ReaderState) (c : ℕ) (cs : List ℕ) → ends_refused s c ≡ true →
     outcome (step s c) cs ≡ None
@@ -150,8 +119,7 @@ refused_none (ValueReference name attrs attr value since stack) c cs t h =
     since_refused (λ w. ValueReference name attrs attr value w stack)
     (λ d. Value name attrs attr (value ++ d ∷ []) stack)
     (λ w d. refl) (λ w. refl) since c cs (not-true (continues_reference since c) h)
-refused_none (EndName name []) c cs t h = if_none (is_tag_char c) _ _ cs
-    (end_alone cs (name ++ c ∷ [])) (if_none (eqb c 62) _ _ cs (stopped cs) (stopped cs))
+refused_none (EndName name []) c cs t h = end_alone (c ∷ cs) name
 refused_none (EndName name (o ∷ os)) c cs t h = end_refused o os name c cs (own_ascii o os t)
     (not-true (ends_at (o ∷ os) (length (encodes name)) c) h)
 refused_none s c cs t h = absurd (false≢true h)
@@ -159,12 +127,7 @@ refused_none s c cs t h = absurd (false≢true h)
 -- what is read is the same where reading stops there
 pub next_outcome : (s : ReaderState) (c : ℕ) (cs : List ℕ) → taken s ≡ true →
     outcome (next_state s c) cs ≡ outcome s (c ∷ cs)
-next_outcome s c cs t =
-    elim (cases_Bool (refuses s c)) [
-      | inl e ↦ ap (λ b. outcome (if b then Stop else step s c) cs) e
-          ∙ (stopped cs ∙ sym (refused_none s c cs t e))
-      | inr e ↦ ap (λ b. outcome (if b then Stop else step s c) cs) e
-    ]
+next_outcome s c cs t = grind (arith, refused_none s c cs t, stopped cs)
 
 names_pass : (s : ReaderState) (c : ℕ) → refuses s c ≡ false → ends_refused s c ≡ false
 names_pass (StartName name stack) c h = h
@@ -173,10 +136,4 @@ names_pass s c h = refl
 
 -- and the names stay taken
 pub next_taken : (s : ReaderState) (c : ℕ) → taken s ≡ true → Holds (next_state s c) true
-next_taken s c t =
-    elim (cases_Bool (refuses s c)) [
-      | inl e ↦ inl (ap (λ b. if b then Stop else step s c) e)
-      | inr e ↦ subst (λ s. Holds s true) (sym (ap (λ b. if b then Stop else step s c) e))
-          (subst (λ b. Holds (step s c) (not b && true)) (names_pass s c e)
-          (subst (λ b. Holds (step s c) (not (ends_refused s c) && b)) t (step_holds s c)))
-    ]
+next_taken s c t = grind (arith, step_holds s c, names_pass s c)

@@ -1,24 +1,28 @@
 -- Stretches of characters that are read at once, as the reader of the definition reads them.
-use Rattle.std.proofs.Common.{◌≡◌, ℕ, ◌+◌, ◌-◌, ◌<◌, ◌≤◌, Bool, true, false, not, ◌&&◌, ◌||◌, eqb, nat_le, List, [], ◌∷◌, ◌++◌, chars, drop, get_or, length, take, inl, inr, refl, sym, ap, ◌∙◌, arith, append-nil, append_assoc, ne_eqb}
-use Rattle.std.specs.Prelude.{Option}
+use Rattle.std.proofs.Common.{◌≡◌, ℕ, ◌+◌, ◌-◌, ◌<◌, ◌≤◌, Bool, true, false, not, List, [], ◌∷◌, ◌++◌, chars, drop, get_or, length, take, inl, inr, refl, sym, ap, subst, ◌∙◌, arith, append-nil, append_assoc}
+use Rattle.std.specs.Prelude.{Option, None, Result, IfOk}
+use Rattle.std.specs.Borrow.{Bor}
+use Rattle.std.proofs.lemmas.Result.{IfOk-weaker}
 use Rattle.std.specs.List.{list_all}
 use Rattle.std.specs.Str.{IsUtf8, IsAscii, IsCharBoundary}
-use Rattle.std.proofs.lemmas.Bool.{and_from, and_parts, agree_below_at, false≢true, not-true}
+use Rattle.std.proofs.lemmas.Bool.{and_parts, false≢true, not-true}
 use Rattle.std.proofs.lemmas.Bool.Decides.{nat_tests}
-use Rattle.std.proofs.lemmas.List.{length-append, take-append-drop}
+use Rattle.std.proofs.lemmas.List.{take-append-drop}
 use Rattle.std.proofs.lemmas.List.Folds.{list_all-append}
 use Rattle.std.proofs.lemmas.Str.{chars-append, chars-IsAscii, encode_ascii, encodes-chars, IsCharBoundary-from_take, IsUtf8-from_ascii, IsUtf8-take}
 use Rattle.std.proofs.lemmas.Str.Ascii.{IsAscii-nil, IsAscii-cons}
 use lib.Utf8.{encode, encodes}
 use Rattle.html_names.specs.Characters.{is_tag_char, is_attr_char}
 use Rattle.html_dom_tree.specs.Tree.{TextPair, ElementView}
-use Rattle.typst_html_encode.specs.Reader.{Open, ReaderState, Content, Reference, Value, ValueReference, StartName, AttrName, Less}
-use Rattle.typst_html_read.specs.BegunReferences.{begins_reference}
+use Rattle.html_dom_tree.specs.declared.node.HtmlElement.{HtmlElement}
+use Rattle.typst_html_encode.specs.Reader.{Open, ReaderState, Content, Reference, Value, ValueReference, StartName, AttrName, Less, Stop, final_root}
+use Rattle.typst_html_read.specs.Endings.{Gives}
+use Rattle.typst_html_read.specs.declared.fault.ReadFault.{ReadFault}
 use Rattle.typst_html_read.specs.LimitedReading.{next_state, begins_deep, deep_places, is_stop, stop_place}
+use Rattle.typst_html_read.specs.PlainElements.{accepted}
 use Rattle.typst_html_read.specs.Stretches.{all_grow, continues, is_plain, Splits, Adds, next_states, runs_on, ReadsOn}
-use Rattle.typst_html_read.proofs.BegunReferences.{neither}
-use Rattle.typst_html_read.proofs.Loops.{deep_later, stop_later}
-use Rattle.typst_html_read.proofs.Names.{taken, outcome}
+use Rattle.typst_html_read.proofs.Loops.{deep_here, deep_later, deep_stopped, stop_here, stop_later}
+use Rattle.typst_html_read.proofs.Names.{taken, outcome, stopped}
 use Rattle.typst_html_read.proofs.Refusals.{next_outcome, next_taken}
 
 -- splitting a text at a byte
@@ -27,15 +31,13 @@ use Rattle.typst_html_read.proofs.Refusals.{next_outcome, next_taken}
 all_encoded : (p : ℕ → Bool) → ((c : ℕ) → 128 ≤ c → p c ≡ true) → (cs : List ℕ) →
     list_all p (encodes cs) ≡ true → list_all p cs ≡ true
 all_encoded p wide [] h = refl
-all_encoded p wide (c ∷ cs) h =
-    let both = and_parts _ _ (sym (list_all-append p (encode c) (encodes cs)) ∙ h) in
-    and_from (p c) (list_all p cs) (first (nat_le 128 c) refl both.0) (all_encoded p wide cs both.1)
-  where
-    first : (b : Bool) → nat_le 128 c ≡ b → list_all p (encode c) ≡ true → p c ≡ true
-    first true e k = wide c (grind (arith, nat_tests))
-    first false e k =
-        let small : c < 128 = grind (arith, nat_tests) in
-        (and_parts (p c) true (sym (ap (list_all p) (encode_ascii c small)) ∙ k)).0
+all_encoded p wide (c ∷ cs) h = grind (
+  arith,
+  list_all-append p (encode c) (encodes cs),
+  encode_ascii c,
+  wide c,
+  all_encoded p wide cs,
+)
 
 -- a class of ASCII alone or with all beyond it
 pub record IsByBytes (p : ℕ → Bool) : Type 0 where
@@ -52,8 +54,7 @@ split_at p text n by u cut h front rest e k =
     }
 
 plain_wide : (end c : ℕ) → end < 128 → 128 ≤ c → is_plain end c ≡ true
-plain_wide end c h k =
-    rw (ne_eqb c end (λ e. omega (arith, e)), ne_eqb c 38 (λ e. omega (arith, e))) refl
+plain_wide end c h k = grind (arith, nat_tests)
 
 pub plain_bytes : (end : ℕ) → end < 128 → IsByBytes (is_plain end)
 plain_bytes end h = record {
@@ -72,8 +73,7 @@ tag_small c h = grind (arith, nat_tests)
 pub names_ascii : (bs : List ℕ) → list_all is_tag_char bs ≡ true → IsAscii bs
 names_ascii [] h = IsAscii-nil
 names_ascii (b ∷ bs) h =
-    let both = and_parts (is_tag_char b) (list_all is_tag_char bs) h in
-    IsAscii-cons b bs (tag_small b both.0) (names_ascii bs both.1)
+    IsAscii-cons b bs (tag_small b (grind arith)) (names_ascii bs (grind arith))
 
 pub name_bytes : IsByBytes is_tag_char
 name_bytes = record {
@@ -118,22 +118,29 @@ reads_on class f g old new text rest h =
       state = ap f h.added ∙ both.1;
     }
 
+-- the same where a mode of the reader says which state that is
+pub read_at : {class : List ℕ → ℕ → Bool} {f : List ℕ → ReaderState} {M E : Type 0} {m n : M}
+    {old new : List ℕ} (g : Grows class f) (from to : M → ReaderState) (text : List ℕ)
+    (r : Result (Bor (List ℕ)) E) → m ≡ n → from n ≡ f old → to n ≡ f new →
+    IfOk r (λ rest. Adds class old new text (chars rest.now)) →
+    IfOk r (λ rest. ReadsOn (from m) (to m) text (chars rest.now))
+read_at {class} {f} {n = n} {old} {new} g from to text r is e k h =
+    subst (λ m. IfOk r (λ rest. ReadsOn (from m) (to m) text (chars rest.now))) (sym is)
+    (subst (λ s. IfOk r (λ rest. ReadsOn s (to n) text (chars rest.now))) (sym e)
+    (subst (λ s. IfOk r (λ rest. ReadsOn (f old) s text (chars rest.now))) (sym k)
+    (IfOk-weaker r _ _ (λ rest h. reads_on class f g old new text (chars rest.now) h) h)))
+
 pub all_alike : (class : ℕ → Bool) (front t : List ℕ) → list_all class front ≡ true →
     all_grow (λ _. class) t front ≡ true
 all_alike class [] t h = refl
-all_alike class (c ∷ front) t h =
-    let both = and_parts (class c) (list_all class front) h in
-    and_from _ _ both.0 (all_alike class front (t ++ c ∷ []) both.1)
+all_alike class (c ∷ front) t h = grind (arith, all_alike class front (t ++ c ∷ []))
 
 pub reads_none : (s : ReaderState) (text : List ℕ) → ReadsOn s s text text
 reads_none s text = record { front = []; parts = refl; runs = refl; state = refl }
 
-plain_none : (end c : ℕ) → is_plain end c ≡ true → (eqb c end ≡ false) × (eqb c 38 ≡ false)
-plain_none end c h = neither (eqb c end) (eqb c 38) (not-true (eqb c end || eqb c 38) h)
-
 pub in_text : (stack : List Open) → Grows (λ _. is_plain 60) (λ t. Content t stack)
 in_text stack = record {
-  adds = λ t c h. let none = plain_none 60 c h in rw (none.0, none.1) refl;
+  adds = λ t c h. grind (arith, nat_tests);
   flat = λ t c. refl;
   stays = λ t. refl;
 }
@@ -141,7 +148,7 @@ in_text stack = record {
 pub in_value : (name : List ℕ) (attrs : List TextPair) (attr : List ℕ) (stack : List Open) →
     Grows (λ _. is_plain 34) (λ t. Value name attrs attr t stack)
 in_value name attrs attr stack = record {
-  adds = λ t c h. let none = plain_none 34 c h in rw (none.0, none.1) refl;
+  adds = λ t c h. grind (arith, nat_tests);
   flat = λ t c. refl;
   stays = λ t. refl;
 }
@@ -154,9 +161,7 @@ in_start_name stack = record {
 }
 
 tag_attr : (c : ℕ) → is_tag_char c ≡ true → is_attr_char c ≡ true
-tag_attr c h = (and_parts (is_tag_char c) (is_attr_char c)
-    (agree_below_at (λ d. is_tag_char d && is_attr_char d) is_tag_char 128 c refl (tag_small c h)
-    ∙ h)).1
+tag_attr c h = grind (arith, nat_tests)
 
 pub in_attr_name : (name : List ℕ) (attrs : List TextPair) (stack : List Open) →
     Grows (λ _. is_tag_char) (λ t. AttrName name attrs t stack)
@@ -166,16 +171,10 @@ in_attr_name name attrs stack = record {
   stays = λ t. refl;
 }
 
-not_end : (t : List ℕ) (c : ℕ) → continues t c ≡ true →
-    (eqb c 59 ≡ false) × (begins_reference (t ++ c ∷ []) ≡ true)
-not_end t c h =
-    let both = and_parts (not (eqb c 59)) (begins_reference (t ++ c ∷ [])) h in
-    (not-true (eqb c 59) both.0, both.1)
-
 pub in_reference : (text : List ℕ) (stack : List Open) →
     Grows continues (λ t. Reference text t stack)
 in_reference text stack = record {
-  adds = λ t c h. let both = not_end t c h in rw (both.0, both.1) refl;
+  adds = λ t c h. grind (arith, nat_tests);
   flat = λ t c. refl;
   stays = λ t. refl;
 }
@@ -183,46 +182,21 @@ in_reference text stack = record {
 pub in_value_reference : (name : List ℕ) (attrs : List TextPair) (attr value : List ℕ)
     (stack : List Open) → Grows continues (λ t. ValueReference name attrs attr value t stack)
 in_value_reference name attrs attr value stack = record {
-  adds = λ t c h. let both = not_end t c h in rw (both.0, both.1) refl;
+  adds = λ t c h. grind (arith, nat_tests);
   flat = λ t c. refl;
   stays = λ t. refl;
 }
 
--- all that is read of a text, its places counted in one that is so long
+-- all that is read of a text before which so many characters stand
 
 abbrev pub Reading : Type 0
 Reading = Option ElementView × List ℕ × ℕ
 
-abbrev pub reading : (limit total : ℕ) → ReaderState → List ℕ → Reading
-reading limit total s cs = (
-  outcome s cs,
-  deep_places limit (total - length cs) s cs,
-  stop_place (total - length cs) s cs,
-)
+abbrev pub reading : (limit before : ℕ) → ReaderState → List ℕ → Reading
+reading limit before s cs = (outcome s cs, deep_places limit before s cs, stop_place before s cs)
 
--- the same is read behind a character at which reading goes on
-pub one_read : (limit total : ℕ) (s : ReaderState) (c : ℕ) (cs : List ℕ) → taken s ≡ true →
-    begins_deep limit s c ≡ false → is_stop (next_state s c) ≡ false → length (c ∷ cs) ≤ total →
-    reading limit total (next_state s c) cs ≡ reading limit total s (c ∷ cs)
-one_read limit total s c cs t flat runs room =
-    let before = total - length (c ∷ cs) in
-    let more : total - length cs ≡ before + 1 = omega arith in
-    let deep : deep_places limit (total - length cs) (next_state s c) cs
-    ≡ deep_places limit before s (c ∷ cs) =
-    ap (λ n. deep_places limit n (next_state s c) cs) more
-    ∙ sym (deep_later limit before s c cs flat) in
-    let stop : stop_place (total - length cs) (next_state s c) cs
-    ≡ stop_place before s (c ∷ cs) =
-    ap (λ n. stop_place n (next_state s c) cs) more ∙ sym (stop_later before s c cs runs) in
-    λ i. (next_outcome s c cs t i, deep i, stop i)
-
-pub one_taken : (s : ReaderState) (c : ℕ) → taken s ≡ true → is_stop (next_state s c) ≡ false →
-    taken (next_state s c) ≡ true
-one_taken s c t runs =
-    elim (next_taken s c t) [
-      | inl e ↦ absurd (false≢true (sym runs ∙ ap is_stop e))
-      | inr e ↦ e
-    ]
+abbrev pub GivesReading : Result HtmlElement ReadFault → (text : List ℕ) → Reading → Type 0
+GivesReading r text read = Gives r text read.0 read.1 read.2
 
 -- where no start tag begins, none begins too deep
 flat_at : (limit : ℕ) (s : ReaderState) (c : ℕ) → begins_deep 0 s c ≡ false →
@@ -230,58 +204,78 @@ flat_at : (limit : ℕ) (s : ReaderState) (c : ℕ) → begins_deep 0 s c ≡ fa
 flat_at limit (Less stack) c h = grind (arith, nat_tests)
 flat_at limit s c h = h
 
-pub many_read : (limit total : ℕ) (front cs : List ℕ) (s : ReaderState) → taken s ≡ true →
-    runs_on s front ≡ true → length (front ++ cs) ≤ total →
-    (reading limit total (next_states s front) cs ≡ reading limit total s (front ++ cs))
-    × (taken (next_states s front) ≡ true)
-many_read limit total [] cs s t h room = (refl, t)
-many_read limit total (c ∷ front) cs s t h room =
-    let both = and_parts _ (runs_on (next_state s c) front) h in
-    let here = and_parts (not (begins_deep 0 s c)) (not (is_stop (next_state s c))) both.0 in
-    let flat = flat_at limit s c (not-true (begins_deep 0 s c) here.0) in
-    let runs = not-true (is_stop (next_state s c)) here.1 in
-    let more = many_read limit total front cs (next_state s c) (one_taken s c t runs) both.1
-    (omega arith) in
-    (more.0 ∙ one_read limit total s c (front ++ cs) t flat runs room, more.1)
+-- of a text that is so long, of which that is read, the rest is read from the state on
+pub record Goes (limit total : ℕ) (whole : Reading) (s : ReaderState) (rest : List ℕ) : Type 0 where
+  pub same : reading limit (total - length rest) s rest ≡ whole
+  pub names : taken s ≡ true
+  pub room : 15 + length rest ≤ total
 
--- of a text, the same is read of the rest
-pub record Goes (limit total : ℕ) (old new : ReaderState) (text rest : List ℕ) : Type 0 where
-  pub same : reading limit total new rest ≡ reading limit total old text
-  pub names : taken new ≡ true
-  pub fewer : length rest ≤ length text
+module _ {limit total : ℕ} {whole : Reading} where
+  -- behind a character at which reading goes on
+  pub goes_one : {s t : ReaderState} {past : List ℕ} (c : ℕ) (cs : List ℕ) →
+      Goes limit total whole s past → past ≡ c ∷ cs → begins_deep limit s c ≡ false →
+      t ≡ next_state s c → is_stop t ≡ false → Goes limit total whole t cs
+  goes_one {s} {t} {past} c cs g e flat step runs =
+      let before = total - length past in
+      let more : total - length cs ≡ before + 1 = omega (arith, g.room, ap length e) in
+      let room : 15 + length cs ≤ total = omega (arith, g.room, ap length e) in
+      let goes : is_stop (next_state s c) ≡ false = ap is_stop (sym step) ∙ runs in
+      let one : reading limit (before + 1) (next_state s c) cs ≡ reading limit before s (c ∷ cs) =
+      λ i. (
+        next_outcome s c cs g.names i,
+        sym (deep_later limit before s c cs flat) i,
+        sym (stop_later before s c cs goes) i,
+      ) in
+      subst (λ u. Goes limit total whole u cs) (sym step) (record {
+        same = ap (λ n. reading limit n (next_state s c) cs) more
+            ∙ (one ∙ (ap (reading limit before s) (sym e) ∙ g.same));
+        names = elim (next_taken s c g.names) [
+          | inl h ↦ absurd (false≢true (sym goes ∙ ap is_stop h))
+          | inr h ↦ h
+        ];
+        room = room;
+      })
 
-module _ (limit total : ℕ) (old : ReaderState) (text : List ℕ) (room : length text ≤ total) where
-  pub goes_on : (s t : ReaderState) (cs ds : List ℕ) → Goes limit total old s text cs →
-      ReadsOn s t cs ds → Goes limit total old t text ds
-  goes_on s t cs ds g h =
-      let long : length cs ≡ length (h.front ++ ds) = ap length h.parts in
-      let both = many_read limit total h.front ds s g.names h.runs (omega (arith, g.fewer)) in
-      record {
-        same = ap (λ u. reading limit total u ds) h.state
-            ∙ (both.0 ∙ (ap (reading limit total s) (sym h.parts) ∙ g.same));
-        names = ap taken h.state ∙ both.1;
-        fewer = omega (arith, g.fewer, length-append h.front ds);
-      }
+  goes_many : (front cs : List ℕ) (s : ReaderState) → Goes limit total whole s (front ++ cs) →
+      runs_on s front ≡ true → Goes limit total whole (next_states s front) cs
+  goes_many [] cs s g h = g
+  goes_many (c ∷ front) cs s g h =
+      let both = and_parts _ (runs_on (next_state s c) front) h in
+      let here = and_parts (not (begins_deep 0 s c)) (not (is_stop (next_state s c))) both.0 in
+      let flat = flat_at limit s c (not-true (begins_deep 0 s c) here.0) in
+      goes_many front cs (next_state s c) (goes_one c (front ++ cs) g refl flat refl
+      (not-true (is_stop (next_state s c)) here.1)) both.1
 
-  pub goes_one : (s : ReaderState) (c : ℕ) (cs : List ℕ) → Goes limit total old s text (c ∷ cs) →
-      begins_deep limit s c ≡ false → is_stop (next_state s c) ≡ false →
-      Goes limit total old (next_state s c) text cs
-  goes_one s c cs g flat runs = record {
-    same = one_read limit total s c cs g.names flat runs (omega (arith, g.fewer)) ∙ g.same;
-    names = one_taken s c g.names runs;
-    fewer = omega (arith, g.fewer);
-  }
+  pub goes_on : {s t u : ReaderState} {cs ds : List ℕ} → Goes limit total whole s cs →
+      ReadsOn s t cs ds → u ≡ t → Goes limit total whole u ds
+  goes_on {s} {ds = ds} g h e = subst (λ u. Goes limit total whole u ds) (sym (e ∙ h.state))
+      (goes_many h.front ds s (subst (Goes limit total whole s) h.parts g) h.runs)
 
--- what was read so far, where so many characters stand before the text
-module _ (limit total : ℕ) (old s : ReaderState) (text cs : List ℕ) (begun : total ≡ 15 + length text)
-    (g : Goes limit total old s text cs) where
-  pub outcome_is : outcome s cs ≡ outcome old text
-  outcome_is = ap (λ (r : Reading). r.0) g.same
+  -- what is read where an element stands too deep, where reading stops, and at the end
 
-  pub deep_is : deep_places limit (total - length cs) s cs ≡ deep_places limit 15 old text
-  deep_is = ap (λ (r : Reading). r.1) g.same
-      ∙ ap (λ n. deep_places limit n old text) {x = total - length text} {y = 15} (omega arith)
+  pub whole_deep : {s : ReaderState} {past : List ℕ} (c : ℕ) (cs : List ℕ) →
+      Goes limit total whole s past → past ≡ c ∷ cs → begins_deep limit s c ≡ true →
+      whole.1 ≡ (total - length past - 1)
+      ∷ deep_places limit (total - length past + 1) (next_state s c) cs
+  whole_deep {s} {past} c cs g e deep =
+      let before = total - length past in
+      sym (ap (λ r. r.1) g.same)
+      ∙ (ap (deep_places limit before s) e ∙ deep_here limit before s c cs deep)
 
-  pub stop_is : stop_place (total - length cs) s cs ≡ stop_place 15 old text
-  stop_is = ap (λ (r : Reading). r.2) g.same
-      ∙ ap (λ n. stop_place n old text) {x = total - length text} {y = 15} (omega arith)
+  pub whole_stopped : {s : ReaderState} {past : List ℕ} (c : ℕ) (cs : List ℕ) →
+      Goes limit total whole s past → past ≡ c ∷ cs → begins_deep limit s c ≡ false →
+      next_state s c ≡ Stop → whole ≡ (None, [], total - length past)
+  whole_stopped {s} {past} c cs g e flat stop =
+      let before = total - length past in
+      let none : outcome s (c ∷ cs) ≡ None = sym (next_outcome s c cs g.names)
+      ∙ (ap (λ t. outcome t cs) stop ∙ stopped cs) in
+      let shallow : deep_places limit before s (c ∷ cs) ≡ [] = deep_later limit before s c cs flat
+      ∙ (ap (λ t. deep_places limit (before + 1) t cs) stop
+      ∙ deep_stopped limit (before + 1) cs) in
+      sym g.same ∙ (ap (reading limit before s) e
+      ∙ (λ i. (none i, shallow i, stop_here before s c cs stop i)))
+
+  pub whole_ended : {s : ReaderState} {past : List ℕ} → Goes limit total whole s past → past ≡ [] →
+      whole ≡ (accepted (final_root s), [], total - length past)
+  unfolding deep_places stop_place
+  whole_ended {s} {past} g e = sym g.same ∙ ap (reading limit (total - length past) s) e

@@ -7,13 +7,7 @@ ghost use Rattle.html_names.specs.Names.{is_ascii};
 ghost use Rattle.typst_html_encode.specs.ClosingTags as ending;
 ghost use Rattle.typst_html_read.specs.RawEnds.{EndsAt, ends_in, ends_raw};
 
-/// Whether a closing tag's name ends before the character.
-#[tactic(auto, unfolding(typst_html_encode::specs::ClosingTags::is_tag_end))]
-pub fn is_tag_end(c: char) -> bool
-    ensures { result ≡ ending.is_tag_end c }
-{
-    matches!(c, '\t' | '\n' | '\u{c}' | '\r' | ' ' | '>' | '/')
-}
+use typst_html_encode::is_tag_end;
 
 /// Whether these bytes are a closing tag of that name, in any ASCII case, without its last
 /// character.

@@ -16,7 +16,8 @@ mod stack;
 mod stretch;
 mod tags;
 
-pub use closing::{end_of, ends_in, is_tag_end};
+pub use closing::{end_of, ends_in};
 pub use fault::ReadFault;
 pub use place::Place;
 pub use read::read_html;
+pub use reference::begins;

@@ -73,15 +73,13 @@ fn char_count(text: &str) -> usize
 
 /// How many characters of a text stand before its rest.
 fn count_before(text: &str, rest: &str) -> usize
-    requires { length (chars rest.now) ≤ length (chars text.now) }
     ensures { result ≡ length (chars text.now) - length (chars rest.now) }
 {
-    char_count(text) - char_count(rest)
+    char_count(text).saturating_sub(char_count(rest))
 }
 
 /// That a text is not read from its rest on.
 fn syntax_at(text: &str, rest: &str) -> ReadFault
-    requires { length (chars rest.now) ≤ length (chars text.now) }
     ensures { let count = length (chars text.now) - length (chars rest.now) in
         result ≡ ReadFault.Syntax (place_at (chars text.now) count) }
 {

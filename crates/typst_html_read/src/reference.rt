@@ -99,7 +99,8 @@ fn begins_digits(digits: &str) -> bool
     is_number_of_char(digits)
 }
 
-fn begins(word: &str, text: &str) -> bool
+/// Returns whether an ASCII word begins with the text.
+pub fn begins(word: &str, text: &str) -> bool
     requires { IsTrue (is_ascii word.now) }
     ensures { result ≡ begun.begins word.now (chars text.now) }
 {

@@ -9,7 +9,7 @@ use Rattle.html_dom_tree.specs.Views.{nodes_of}
 use Rattle.html_flow_convert.specs.BareSpaces.{bare_spaces}
 use Rattle.html_flow_convert.specs.Nodes.{made_head, pre_wrap_head, is_one}
 use Rattle.html_flow_convert.specs.Pieces.{PieceView, stretch, alone, line_break, piece_node, pieces}
-use Rattle.html_flow_convert.specs.Runs.{is_blank_node, first_span, are_kept, run_nodes, nodes_with_runs}
+use Rattle.html_flow_convert.specs.Runs.{is_blank_node, first_node_span, are_kept, run_nodes, nodes_with_runs}
 use Rattle.html_flow_convert.specs.Converted.{text_item_nodes, list_nodes, RoleText, item_role, element_head, body_level, body_whitespace, body_role, item_nodes, items_nodes, body_nodes, converted_nodes}
 use Rattle.html_flow_convert.specs.LoneNode.{node_list, lone_node, DisplayChangeView, css_with_display, node_with_display, block_change, changed_or_in, box_change_of, box_head, block_head, box_nodes, block_nodes}
 use Rattle.html_flow_convert.specs.declared.convert.ConversionLevel.{ConversionLevel}
@@ -72,7 +72,7 @@ module _ (w : Wanted) (way : HoldsOnTheWay w) where
 
   of_run : (ns : List NodeView) → Each IsInRun ns → Each Of ns → Each Of (run_nodes ns)
   of_run ns e r = elim (cases_Bool (are_kept (filter is_blank_node ns))) [
-    | inl f ↦ rw f ((way.wrap (first_span ns) (is_empty (nodes_of ns)), in_run ns e r), tt)
+    | inl f ↦ rw f ((way.wrap (first_node_span ns) (is_empty (nodes_of ns)), in_run ns e r), tt)
     | inr f ↦ rw f r
   ]
 

@@ -11,8 +11,9 @@ use Rattle.html_names.specs.Names.{stands_in}
 use Rattle.html_names.specs.Texts.{TextPair}
 use Rattle.html_names.specs.declared.property.Display.{Display}
 use Rattle.html_names.specs.declared.property.Display.TheVariants as display
-use Rattle.html_values_css.specs.Properties.{with_value, without}
-use Rattle.html_dom_tree.specs.Attributes.{first, or_else}
+use Rattle.html_values_css.specs.Properties.{with_property, without}
+use Rattle.html_dom_tree.proofs.Folds.{first-append}
+use Rattle.html_dom_tree.specs.Attributes.{first}
 use Rattle.html_dom_tree.specs.Styled.{styled_attrs}
 use Rattle.html_dom_tree.specs.Tree.{Head, element_node, NodesView}
 use Rattle.html_flow_convert.specs.BareSpaces.{is_border_element, makes_block}
@@ -45,14 +46,6 @@ is_wrap plain = false
 is_wrap block = false
 is_wrap wrap = true
 is_wrap block_wrap = true
-
-pub first-append : (xs ys : List TextPair) (name : List ℕ) →
-    first (xs ++ ys) name ≡ or_else (first xs name) (first ys name)
-first-append [] ys name = refl
-first-append (x ∷ xs) ys name = elim (cases_Bool (bytes_eq x.0 name)) [
-  | inl e ↦ rw e refl
-  | inr e ↦ rw e (first-append xs ys name)
-]
 
 pub made_style_is : (c : MadeCss) (attrs : List TextPair) → first attrs (codes "style") ≡ None →
     first (styled_attrs (made_css c) attrs) (codes "style") ≡ made_style c
@@ -87,7 +80,7 @@ without_block wrap = wrap
 without_block block_wrap = wrap
 
 block_css : (c : MadeCss) →
-    with_value (made_css c) (codes "display") (codes "block") ≡ made_css (with_block c)
+    with_property (made_css c) (codes "display") (codes "block") ≡ made_css (with_block c)
 unfolding with_block lib.Utf8.encode
 block_css plain = refl
 block_css c = refl
@@ -250,10 +243,10 @@ stands_as h m css k c w borders one =
     }
 
 set_block : (h : Head) (m : MadeHead h) (css : List TextPair) →
-    with_value h.css (codes "display") (codes "block") ≡ css → StandsForBlock h css
+    with_property h.css (codes "display") (codes "block") ≡ css → StandsForBlock h css
 set_block h m css e =
     let c : css ≡ made_css (with_block m.kind) = sym e
-    ∙ (ap (λ l. with_value l (codes "display") (codes "block")) m.css_is ∙ block_css m.kind) in
+    ∙ (ap (λ l. with_property l (codes "display") (codes "block")) m.css_is ∙ block_css m.kind) in
     stands_as h m css (with_block m.kind) c (block_wraps m.kind)
     (style_border h.name (styled_attrs css h.attrs) m.kind) (css_border h m.kind css c)
 

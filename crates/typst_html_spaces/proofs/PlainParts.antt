@@ -7,12 +7,13 @@ use Rattle.html_names.specs.Kinds.{is_replaced, replaced_names, is_line_break, s
 use Rattle.html_names.specs.Names.{stands_in}
 use Rattle.html_names.specs.Texts.{TextPair}
 use Rattle.html_names.proofs.Basics.{none_from_not_some}
+use Rattle.html_dom_tree.proofs.Folds.{first-append}
 use Rattle.html_dom_tree.specs.Attributes.{first, has_name}
 use Rattle.typst_html_encode.specs.Collapsing.{has_border}
 use Rattle.html_flow_convert.specs.Converted.{RoleText, passes_role, role_pairs, element_head}
 use Rattle.html_flow_convert.specs.Items.{ElemHead}
 use Rattle.typst_html_spaces.specs.PlainFlow.{is_plain_name, has_no_css, is_plain_head}
-use Rattle.typst_html_spaces.proofs.MadeHeads.{plain, MadeHead, first-append, listed_pass}
+use Rattle.typst_html_spaces.proofs.MadeHeads.{plain, MadeHead, listed_pass}
 
 no_css : (css : List TextPair) → has_no_css css ≡ true → css ≡ []
 no_css [] e = refl

@@ -4,10 +4,10 @@ use Rattle.std.specs.List.{filter}
 use Rattle.std.proofs.lemmas.Bool.{cases_Bool, false≢true, or_parts, or_cases, eqb-true}
 use Rattle.std.proofs.Math.Bool.{or-false}
 use Rattle.html_dom_tree.specs.Styled.{styled_nodes}
-use Rattle.html_dom_tree.specs.Tree.{NodeView, tag_node, text_node}
+use Rattle.html_dom_tree.specs.Tree.{NodeView, tag_node, text_node, is_tag}
 use Rattle.html_dom_tree.specs.Views.{nodes_of}
-use Rattle.html_flow_convert.specs.Nodes.{is_one, is_tag}
-use Rattle.html_flow_convert.specs.Runs.{is_space, is_tab, is_blank_node, first_span, are_kept, run_nodes, nodes_with_runs}
+use Rattle.html_flow_convert.specs.Nodes.{is_one}
+use Rattle.html_flow_convert.specs.Runs.{is_space, is_tab, is_blank_node, first_node_span, are_kept, run_nodes, nodes_with_runs}
 use Rattle.typst_html_encode.specs.Collapsing.{Atom, kept, text_atoms}
 use Rattle.typst_html_encode.proofs.NodeAtoms.{nodes_atoms}
 use Rattle.typst_html_spaces.proofs.Each.{Each}
@@ -69,7 +69,7 @@ few_ready (n ∷ ns) r e = elim (cases_Bool (is_blank_node n)) [
 
 run_ready : (ns : List NodeView) → Each IsInRun ns → Each AlmostReady ns → Each Ready (run_nodes ns)
 run_ready ns r s = elim (cases_Bool (are_kept (filter is_blank_node ns))) [
-  | inl e ↦ rw e (wrap_ready (first_span ns) (nodes_of ns) (run_unseen ns r), tt)
+  | inl e ↦ rw e (wrap_ready (first_node_span ns) (nodes_of ns) (run_unseen ns r), tt)
   | inr e ↦ rw e (few_ready ns s e)
 ]
 

@@ -2,10 +2,9 @@
 use Rattle.std.proofs.Common.{◌≡◌, ◌||◌, List, [], ◌∷◌, ◌++◌, inl, inr, refl, ap, ◌∙◌, sym, append-nil}
 use Rattle.std.proofs.lemmas.Bool.{cases_Bool}
 use Rattle.std.specs.List.{filter}
-use Rattle.html_dom_tree.specs.Tree.{NodeView}
+use Rattle.html_dom_tree.specs.Tree.{NodeView, is_tag}
 use Rattle.html_dom_tree.specs.Views.{nodes_of}
-use Rattle.html_flow_convert.specs.Nodes.{is_tag}
-use Rattle.html_flow_convert.specs.Runs.{is_blank_node, are_kept, first_span, run_nodes, front_nodes, blank_front, after_front, nodes_with_runs}
+use Rattle.html_flow_convert.specs.Runs.{is_blank_node, are_kept, first_node_span, run_nodes, front_nodes, blank_front, after_front, nodes_with_runs}
 use Rattle.typst_html_spaces.proofs.OwnPieces.{list_pieces, list_pieces-append, pre_wrap_pieces}
 
 module _ {M : Type 0} (total : List NodeView → M) (add : M → M → M)
@@ -47,7 +46,7 @@ module _ {M : Type 0} (total : List NodeView → M) (add : M → M → M)
 run_pieces : (ns : List NodeView) → list_pieces (run_nodes ns) ≡ list_pieces ns
 run_pieces ns =
     elim (cases_Bool (are_kept (filter is_blank_node ns))) [
-      | inl e ↦ rw e (append-nil _ ∙ pre_wrap_pieces (first_span ns) (nodes_of ns))
+      | inl e ↦ rw e (append-nil _ ∙ pre_wrap_pieces (first_node_span ns) (nodes_of ns))
       | inr e ↦ rw e refl
     ]
 

@@ -1,4 +1,5 @@
 ghost use Rattle.std.specs.Prelude.{◌≡◌, ◌<◌, ◌^◌, ℕ, None, length, OnOk, slice_index_or};
+ghost use Rattle.std.specs.BTreeMap.{get_by_text};
 ghost use Rattle.html_names.specs.NumberMaps.{number_of, Puts, HoldsNone};
 
 use crate::name::Name;
@@ -22,12 +23,13 @@ impl NumberMap {
         }
     }
 
+    #[inline(always)]
     pub(crate) fn number_of(&self, name: &Name) -> Option<usize>
         ensures { result ≡ number_of self.now name.now }
     {
         match name {
             Name::Known(place) => known_number(&self.known, *place),
-            Name::Own(text) => self.own.get(text.as_str()).copied(),
+            Name::Own(text) => own_number(&self.own, text.as_str()),
         }
     }
 
@@ -56,6 +58,13 @@ fn known_number(numbers: &[Option<usize>], place: u8) -> Option<usize>
         Some(number) => *number,
         None => None,
     }
+}
+
+#[inline(never)]
+fn own_number(numbers: &BTreeMap<String, usize>, text: &str) -> Option<usize>
+    ensures { result ≡ get_by_text numbers.now text.now }
+{
+    numbers.get(text).copied()
 }
 
 fn make_room(numbers: &mut Vec<Option<usize>>, place: usize) -> Result<(), AllocError>

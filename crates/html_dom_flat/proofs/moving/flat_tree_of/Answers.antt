@@ -12,7 +12,7 @@ invariant_of-result c =
     let ns = node (element_node e.0 e.1) none in
     let list : builder_view c.move_element.new.self ≡ nodes_flat 0 ns
     = c.in_ok-move_element.ensures.list
-    ∙ rw (c.new-builder.ensures.list, c.new-builder.ensures.count) (sym (element_list 0 e)) in
+    ∙ rw (c.in_ok-builder.ensures.list, c.in_ok-builder.ensures.count) (sym (element_list 0 e)) in
     record { given = c.move_element.new.self.given; spells = list_spells _ ns list }
 
 pub returns : goal.returns
@@ -21,5 +21,5 @@ returns c =
     let ns = node (element_node e.0 e.1) none in
     let list : builder_view c.move_element.new.self ≡ nodes_flat 0 ns
     = c.in_ok-move_element.ensures.list
-    ∙ rw (c.new-builder.ensures.list, c.new-builder.ensures.count) (sym (element_list 0 e)) in
+    ∙ rw (c.in_ok-builder.ensures.list, c.in_ok-builder.ensures.count) (sym (element_list 0 e)) in
     list_spelled _ ns list

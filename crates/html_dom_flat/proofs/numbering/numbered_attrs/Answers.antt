@@ -4,30 +4,17 @@ use Rattle.html_dom_flat.proofs.numbering.numbered_attrs.Goals as goal
 
 pub returns-in_err-push-clause-grows : goal.returns-in_err-push-clause-grows
 returns-in_err-push-clause-grows c =
-    grows_on _ _ _ c.loop-attr.invariant.grows (grows_attr _ _ _ _ c.attr-in-loop-attr.ensures)
-
-pub loop-attr-preserved-in_ok-push : goal.loop-attr-preserved-in_ok-push
-loop-attr-preserved-in_ok-push c =
-    let puts : c.push.new.self.items
-    ≡ c.loop-attr.pairs.items ++ (c.in_ok-attr.field-0, c.in-Some.value) ∷ [] = search rules in
-    record {
-      grows = grows_on _ _ _ c.loop-attr.invariant.grows
-          (grows_attr _ _ _ _ c.attr-in-loop-attr.ensures);
-      pairs = rw puts
-          (numbered_more c.loop-attr.names c.attr-in-loop-attr.new.self c.loop-attr.pairs.items
-          c.loop-attr.yielded c.in-Some.attr c.in_ok-attr.field-0 c.in-Some.value
-          c.loop-attr.invariant.pairs c.in_ok-attr.ensures);
-    }
+    grows_on _ _ _ c.loop-attr.invariant.grows (grows_attr _ _ _ _ c.insert_attr.ensures)
 
 pub loop-attr-preserved : goal.loop-attr-preserved
 loop-attr-preserved c =
     let puts : c.push.new.self.items
-    ≡ c.loop-attr.pairs.items ++ (c.in_ok-attr.field-0, c.in-Some.value) ∷ [] = search rules in
+    ≡ c.loop-attr.pairs.items ++ (c.in_ok-insert_attr.field-0, c.in-Some.value) ∷ [] = search rules in
     record {
       grows = grows_on _ _ _ c.loop-attr.invariant.grows
-          (grows_attr _ _ _ _ c.attr-in-loop-attr.ensures);
+          (grows_attr _ _ _ _ c.insert_attr.ensures);
       pairs = rw puts
-          (numbered_more c.loop-attr.names c.attr-in-loop-attr.new.self c.loop-attr.pairs.items
-          c.loop-attr.yielded c.in-Some.attr c.in_ok-attr.field-0 c.in-Some.value
-          c.loop-attr.invariant.pairs c.in_ok-attr.ensures);
+          (numbered_more c.loop-attr.names c.insert_attr.new.self c.loop-attr.pairs.items
+          c.loop-attr.yielded c.in-Some.attr c.in_ok-insert_attr.field-0 c.in-Some.value
+          c.loop-attr.invariant.pairs c.in_ok-insert_attr.ensures);
     }

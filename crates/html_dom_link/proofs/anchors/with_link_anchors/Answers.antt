@@ -9,7 +9,7 @@ use Rattle.html_dom_link.specs.LinkAnchors.{document_targets}
 use Rattle.html_dom_link.specs.MadeDocuments.{with_children}
 use Rattle.html_dom_link.specs.NewNames.{element_names}
 use Rattle.html_dom_link.specs.AnchorWalk.{Walked, element_walk}
-use Rattle.html_dom_link.specs.WalkViews.{walk_view}
+use Rattle.html_dom_link.specs.WalkViews.{state_view}
 use Rattle.html_dom_link.proofs.DocumentNames.{anchors_are_new, anchors_are_serving, anchors_are_shown, ids_stay_distinct}
 use Rattle.html_dom_link.proofs.MovedRoots.{put_again}
 use Rattle.html_dom_link.proofs.WholeWalk.{answers_are, root_walked, root_written}
@@ -21,7 +21,7 @@ returns c =
     let is_target = has_location c.args.targets.now in
     let taken = c.take_children-children.ensures in
     let w : Walked =
-    (nodes_view c.in_ok-children.children.items, walk_view c.in_ok-children.state) in
+    (nodes_view c.in_ok-children.children.items, state_view c.in_ok-children.state) in
     let whole : w ≡ element_walk (document_targets is_target d) (document_root d) =
     root_walked is_target d _ _ _ w
     (c.introspector.ensures ∙ ap (λ (v : DocumentView). v.introspector) taken.rest) taken.children

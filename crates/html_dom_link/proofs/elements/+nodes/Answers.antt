@@ -11,7 +11,7 @@ use Rattle.html_dom_tree.specs.Views.{optional_text_view, node_view, nodes_view,
 use Rattle.html_dom_link.specs.Anchors.{span_before}
 use Rattle.html_dom_document.specs.DomIndices.{◌then◌}
 use Rattle.html_dom_link.specs.AnchorWalk.{first_waiting, Serves}
-use Rattle.html_dom_link.specs.WalkViews.{walk_view, targets_view}
+use Rattle.html_dom_link.specs.WalkViews.{state_view, targets_view}
 use Rattle.html_dom_link.proofs.WholeWalk.{element_served, node_placed, node_kept, node_walked, nodes_kept, nodes_walked}
 use Rattle.html_dom_link.proofs.Steps.{span_placed}
 use Rattle.html_dom_link.proofs.elements.+nodes.Goals as goal
@@ -21,8 +21,8 @@ unfolding known_attrs
 anchor_element-returns t c =
     let x = targets_view c.args.sought in
     let e = element_view c.args.element.now in
-    let st = walk_view c.args.state.now in
-    let after = walk_view c.serve.new.self in
+    let st = state_view c.args.state.now in
+    let after = state_view c.serve.new.self in
     let name = optional_text_view c.in_ok-name.name in
     on_ok_weaker c.anchor_nodes.result (λ below.
     element_served x e.0 _ e.1 _ st after _ name
@@ -34,7 +34,7 @@ pub anchor_in_place-loop-child-preserved : goal.anchor_in_place-loop-child-prese
 anchor_in_place-loop-child-preserved t c =
     let at = c.loop-child in
     let x = targets_view c.args.sought in
-    let st = walk_view at.state in
+    let st = state_view at.state in
     let h : at.child-index < length at.nodes = grind (arith, common_steps) in
     let step = node_kept x at.nodes _ at.child-index c.child-item.result c.anchor_node.new.child
     (span_before (optional_text_view c.in_ok-anchor_node.field-0) none) st _ _ h refl
@@ -46,11 +46,25 @@ anchor_in_place-loop-child-preserved t c =
       no_end = step.1;
     }
 
+pub anchor_in_place-loop-child-preserved-then-passes : goal.anchor_in_place-loop-child-preserved-then-passes
+anchor_in_place-loop-child-preserved-then-passes t c =
+    let at = c.loop-child in
+    let x = targets_view c.args.sought in
+    let st = state_view at.state in
+    let h : at.child-index < length at.nodes = grind (arith, common_steps) in
+    let step = node_kept x at.nodes _ at.child-index c.child-item.result _ none st st _ h refl
+    at.invariant.no_end at.invariant.told (sym (c.passes.ensures c.if-passes.true x)) in
+    record {
+      unvisited = (grind (arith, common_steps), λ k d le. grind (arith, common_steps));
+      told = step.0;
+      no_end = step.1;
+    }
+
 pub anchor_in_place-returns : goal.anchor_in_place-returns
 anchor_in_place-returns t c =
     let at = c.loop-child in
     let h : length at.nodes ≤ at.child-index = grind (arith, common_steps) in
-    nodes_kept (targets_view c.args.sought) at.nodes at.child-index (walk_view at.state) _ h
+    nodes_kept (targets_view c.args.sought) at.nodes at.child-index (state_view at.state) _ h
     at.invariant.told
 
 pub with_spans-loop-child-init : goal.with_spans-loop-child-init
@@ -77,9 +91,9 @@ with_spans-loop-child-preserved t c =
     ∙ span_placed old n more) in
     record {
       told = node_walked x (reverse at.nodes.items) (reverse nodes) c.in-Some.child (nodes_view old) _
-          (walk_view at.state) _ _ first at.invariant.told
+          (state_view at.state) _ _ first at.invariant.told
           (node_placed x (node_view c.in-Some.child) (node_view n) more (nodes_view old) _
-          (walk_view at.state) _ c.in_ok-name.ensures placed);
+          (state_view at.state) _ c.in_ok-name.ensures placed);
       deep = omega (arith, at.invariant.deep, parts, ap (most the_size) c.give_back.ensures);
     }
 
@@ -88,4 +102,4 @@ with_spans-returns t c =
     let at = c.loop-child in
     let empty = nil_from_length at.nodes.items (sym at.nodes.ok.0 ∙ c.in_default.ensures.cases.0) in
     nodes_walked (targets_view c.args.sought) (reverse at.nodes.items) (nodes_view at.made.items)
-    (walk_view at.state) _ (ap reverse empty) at.invariant.told
+    (state_view at.state) _ (ap reverse empty) at.invariant.told

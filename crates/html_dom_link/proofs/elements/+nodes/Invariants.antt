@@ -4,7 +4,7 @@ use Rattle.html_dom_tree.proofs.node.HtmlNode.TheLaws.{the_size}
 use Rattle.html_dom_tree.specs.Views.{nodes_view}
 use Rattle.html_dom_link.specs.Joined.{walked_behind}
 use Rattle.html_dom_link.specs.AnchorWalk.{walk}
-use Rattle.html_dom_link.specs.WalkViews.{walk_view, targets_view}
+use Rattle.html_dom_link.specs.WalkViews.{state_view, targets_view}
 use Rattle.html_dom_link.proofs.WholeWalk.{has_end}
 use Rattle.html_dom_link.proofs.elements.+nodes.Given as goal
 
@@ -15,8 +15,8 @@ invariant-anchor_in_place-loop-child l =
     record {
       unvisited : goal.unvisited-anchor_in_place-loop-child l;
       told : walked_behind (nodes_view (take i l.nodes))
-          (walk x (nodes_view (drop i l.nodes)) (walk_view l.state))
-          ≡ walk x (nodes_view l.initial.nodes) (walk_view l.initial.state);
+          (walk x (nodes_view (drop i l.nodes)) (state_view l.state))
+          ≡ walk x (nodes_view l.initial.nodes) (state_view l.initial.state);
       no_end : has_end (drop i l.nodes) ≡ false;
     }
 
@@ -26,8 +26,8 @@ invariant-with_spans-loop-child l =
     let x = targets_view l.sought in
     let left = reverse l.nodes.items in
     record {
-      told : walked_behind (nodes_view l.made.items) (walk x (nodes_view left) (walk_view l.state))
-          ≡ walk x (nodes_view l.fn.nodes.items) (walk_view l.fn.state);
+      told : walked_behind (nodes_view l.made.items) (walk x (nodes_view left) (state_view l.state))
+          ≡ walk x (nodes_view l.fn.nodes.items) (state_view l.fn.state);
       deep : most the_size l.nodes.items ≤ most the_size l.fn.nodes.items;
     }
 

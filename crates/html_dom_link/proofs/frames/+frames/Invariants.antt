@@ -1,7 +1,7 @@
 use Rattle.std.proofs.Common.{◌≡◌, drop}
 use Rattle.html_dom_tree.specs.FrameViews.{anchors_view}
 use Rattle.html_dom_link.specs.Joined.{with_starts}
-use Rattle.html_dom_link.specs.WalkViews.{walk_view, targets_view}
+use Rattle.html_dom_link.specs.WalkViews.{state_view, targets_view}
 use Rattle.html_dom_link.proofs.InFrames.{starts_from}
 use Rattle.html_dom_link.proofs.frames.+frames.Given as goal
 
@@ -9,6 +9,6 @@ abbrev pub invariant-name_frame-loop-content : goal.invariant-name_frame-loop-co
 invariant-name_frame-loop-content l =
     let x = targets_view l.sought in
     with_starts (starts_from x (drop l.content-index l.content-items))
-    (walk_view l.walk, anchors_view l.anchors.items)
+    (state_view l.state, anchors_view l.anchors.items)
     ≡ with_starts (starts_from x l.content-items)
-    (walk_view l.initial.walk, anchors_view l.initial.anchors.items)
+    (state_view l.initial.state, anchors_view l.initial.anchors.items)

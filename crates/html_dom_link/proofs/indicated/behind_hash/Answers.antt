@@ -2,7 +2,7 @@ use Rattle.std.proofs.Common.{◌≡◌, ◌==◌, Some, true, false, chars, sym
 use Rattle.std.specs.Str.Iter.{chars_rest}
 use Rattle.std.proofs.lemmas.List.{nil_from_length}
 use Rattle.std.proofs.lemmas.Str.{IsUtf8-past_char}
-use Rattle.html_dom_link.specs.Indicated.{is_blank}
+use Rattle.html_dom_link.specs.Indicated.{is_control_or_space}
 use Rattle.html_dom_link.proofs.TakenFragments.{at_blank, at_hash, at_no_hash, at_other}
 use Rattle.html_dom_link.proofs.indicated.behind_hash.Goals as goal
 
@@ -15,11 +15,11 @@ returns-then-c-eq35 c =
     ∙ (sym (at_hash (chars_rest at.left) later c.in-Some.c at.invariant.utf8 c.in-Some.ensures.steps.0 is)
     ∙ at.invariant.told)
 
-pub returns-then-not-is_blank : goal.returns-then-not-is_blank
-returns-then-not-is_blank c =
+pub returns-then-not-is_control_or_space : goal.returns-then-not-is_control_or_space
+returns-then-not-is_control_or_space c =
     let at = c.loop-c in
     let other : (c.in-Some.c == 35) ≡ false = search rules in
-    let shown : is_blank c.in-Some.c ≡ false = search rules in
+    let shown : is_control_or_space c.in-Some.c ≡ false = search rules in
     sym (at_other (chars_rest at.left) (chars_rest c.next.new.self) c.in-Some.c at.invariant.utf8
     c.in-Some.ensures.steps.0 other shown)
     ∙ at.invariant.told
@@ -30,7 +30,7 @@ loop-c-preserved c =
     let rest = chars_rest at.left in
     let later = chars_rest c.next.new.self in
     let other : (c.in-Some.c == 35) ≡ false = search rules in
-    let blank : is_blank c.in-Some.c ≡ true = search rules in
+    let blank : is_control_or_space c.in-Some.c ≡ true = search rules in
     record {
       utf8 = IsUtf8-past_char rest later c.in-Some.c at.invariant.utf8 c.in-Some.ensures.steps.0;
       told = sym (at_blank rest later c.in-Some.c at.invariant.utf8 c.in-Some.ensures.steps.0 other blank)

@@ -2,7 +2,7 @@ use Rattle.std.proofs.Common.{◌≡◌, ◌++◌, [], ◌∷◌, true, false, c
 use Rattle.std.specs.Str.Iter.{chars_rest}
 use Rattle.std.proofs.lemmas.List.{nil_from_length}
 use Rattle.std.proofs.lemmas.Str.{IsUtf8-past_char}
-use Rattle.html_dom_link.specs.Indicated.{is_blank, is_dropped}
+use Rattle.html_dom_link.specs.Indicated.{is_control_or_space, is_dropped}
 use Rattle.html_dom_link.proofs.TakenFragments.{IsTaken, all_taken, dropped, held, written}
 use Rattle.html_dom_link.proofs.indicated.url_end.Goals as goal
 
@@ -23,7 +23,7 @@ loop-c-preserved-in-Continue-1 c =
     let later = chars_rest c.next.new.self in
     let parts = c.in-Some.ensures.steps.0 in
     let kept : is_dropped c.in-Some.c ≡ false = search rules in
-    let blank : is_blank c.in-Some.c ≡ true = search rules in
+    let blank : is_control_or_space c.in-Some.c ≡ true = search rules in
     subst (λ blanks. IsTaken at.end blanks later (chars c.args.text.now)) (sym c.in_ok-push.ensures.added)
     (held at.end at.blanks rest later (chars c.args.text.now) c.in-Some.c at.invariant parts
     (IsUtf8-past_char rest later c.in-Some.c at.invariant.utf8 parts) kept blank)
@@ -34,14 +34,15 @@ loop-c-preserved c =
     let rest = chars_rest at.c-iterator in
     let later = chars_rest c.next.new.self in
     let parts = c.in-Some.ensures.steps.0 in
-    let shown : is_blank c.in-Some.c ≡ false = search rules in
-    let end : c.push-else-is_blank.new.self ≡ (at.end ++ at.blanks) ++ c.in-Some.c ∷ [] =
+    let shown : is_control_or_space c.in-Some.c ≡ false = search rules in
+    let end : c.push-else-is_control_or_space.new.self ≡ (at.end ++ at.blanks) ++ c.in-Some.c ∷ [] =
     c.in_ok-push-2.ensures.added
     ∙ ap (λ l. l ++ c.in-Some.c ∷ [])
     (c.in_ok-push_str.ensures.added ∙ ap (λ l. at.end ++ l) c.as_str.ensures) in
-    subst (λ l. IsTaken l c.new-blanks-else-is_blank.result later (chars c.args.text.now)) (sym end)
+    subst (λ l. IsTaken l c.new-blanks-else-is_control_or_space.result later
+    (chars c.args.text.now)) (sym end)
     (subst (λ l. IsTaken ((at.end ++ at.blanks) ++ c.in-Some.c ∷ []) l later (chars c.args.text.now))
-    (sym c.new-blanks-else-is_blank.ensures)
+    (sym c.new-blanks-else-is_control_or_space.ensures)
     (written at.end at.blanks rest later (chars c.args.text.now) c.in-Some.c at.invariant parts
     (IsUtf8-past_char rest later c.in-Some.c at.invariant.utf8 parts) shown))
 

@@ -9,7 +9,8 @@ returns-then-not-is_used c =
     let used = used_in c.args.used.now in
     let n = c.loop-number.number in
     sym (free_here stem used c.args.limit n (search rules)
-    (sym (ap used c.in_ok-numbered.ensures) ∙ (sym c.is_used.ensures ∙ c.if-not-is_used.true)))
+    (sym (ap used c.in_ok-name_with_number.ensures)
+    ∙ (sym c.is_used.ensures ∙ c.if-not-is_used.true)))
     ∙ c.loop-number.invariant
 
 pub loop-number-preserved : goal.loop-number-preserved
@@ -18,7 +19,8 @@ loop-number-preserved c =
     let used = used_in c.args.used.now in
     let n = c.loop-number.number in
     sym (taken_here stem used c.args.limit n (search rules)
-    (sym (ap used c.in_ok-numbered.ensures) ∙ (sym c.is_used.ensures ∙ c.if-not-is_used.false)))
+    (sym (ap used c.in_ok-name_with_number.ensures)
+    ∙ (sym c.is_used.ensures ∙ c.if-not-is_used.false)))
     ∙ c.loop-number.invariant
 
 pub returns : goal.returns

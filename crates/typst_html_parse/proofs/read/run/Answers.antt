@@ -1,14 +1,15 @@
-use Rattle.std.proofs.Common.{◌≡◌, ◌++◌, chars, length, sym, ap, ◌∙◌, subst, arith, length-append}
+use Rattle.std.proofs.Common.{◌≡◌, ◌++◌, chars, sym, ap, ◌∙◌, subst, arith}
 use Rattle.std.specs.Str.Iter.{chars_rest}
 use Rattle.std.proofs.StrCases.{chars_of_empty}
 use Rattle.std.proofs.lemmas.Result.{err_from_is_err_and}
-use Rattle.std.proofs.lemmas.Str.{chars_past_char, length-encode, len_utf8_bounds}
+use Rattle.std.proofs.lemmas.Str.{chars_past_char}
 use lib.Utf8.{encode}
 use Rattle.typst_html_parse_open.specs.Endings.{IsHalt}
 use Rattle.typst_html_parse_open.specs.Pages.{◌next◌}
 use Rattle.typst_html_parse.specs.PageReading.{run}
 use Rattle.typst_html_parse.specs.PageTokens.{step}
 use Rattle.typst_html_parse.specs.PageReaderViews.{reader_of}
+use Rattle.typst_html_read.proofs.Places.{first_long}
 use Rattle.typst_html_parse.proofs.Halts.{halt_next}
 use Rattle.typst_html_parse.proofs.read.run.Goals as goal
 
@@ -20,20 +21,9 @@ step-requires c =
     let held = c.loop-past.invariant in
     let got = c.in_ok-past.ensures.read in
     let past = c.in_ok-past.past.now in
-    let d = c.in-Some.c in
-    let later = chars_rest c.next.new.self in
-    let parts : past ≡ encode d ++ later =
-    sym c.chars-left.ensures.rest ∙ c.in-Some.ensures.steps.0 in
-    omega (
-      arith,
-      held.few,
-      got.place,
-      c.requires,
-      ap length parts,
-      length-append (encode d) later,
-      length-encode d,
-      len_utf8_bounds d,
-    )
+    let long = first_long past (chars_rest c.next.new.self) c.in-Some.c
+    (sym c.chars-left.ensures.rest ∙ c.in-Some.ensures.steps.0) in
+    omega (arith, held.few, got.place, c.requires, long.0, long.1)
 
 pub returns-in_err-step : goal.returns-in_err-step
 returns-in_err-step c =
@@ -64,14 +54,8 @@ loop-past-smaller c =
     let parts : past ≡ encode d ++ later =
     sym c.chars-left.ensures.rest ∙ (c.in-Some.ensures.steps.0
     ∙ ap (λ l. encode d ++ l) (sym c.as_str-rest.ensures)) in
-    omega (
-      arith,
-      got.fewer,
-      ap length parts,
-      length-append (encode d) later,
-      length-encode d,
-      len_utf8_bounds d,
-    )
+    let long = first_long past later d parts in
+    omega (arith, got.fewer, long.0, long.1)
 
 pub loop-past-preserved : goal.loop-past-preserved
 loop-past-preserved c =
@@ -84,22 +68,14 @@ loop-past-preserved c =
     let parts : past ≡ encode d ++ later =
     sym c.chars-left.ensures.rest ∙ (c.in-Some.ensures.steps.0
     ∙ ap (λ l. encode d ++ l) (sym c.as_str-rest.ensures)) in
+    let long = first_long past later d parts in
     let left = chars_past_char past later d got.rest_utf8 parts in
     record {
       is_text = c.as_str-rest.utf8;
       same = sym (ap (λ cs. run q cs) left
           ∙ ap (λ x. x next (λ p. run p (chars later))) c.in_ok-step.ensures.moves.made)
           ∙ (sym got.same ∙ held.same);
-      few = omega (
-        arith,
-        held.few,
-        got.place,
-        c.in_ok-step.ensures.place,
-        ap length parts,
-        length-append (encode d) later,
-        length-encode d,
-        len_utf8_bounds d,
-      );
+      few = omega (arith, held.few, got.place, c.in_ok-step.ensures.place, long.0, long.1);
     }
 
 pub returns-in_default : goal.returns-in_default

@@ -1,6 +1,6 @@
-use Rattle.std.proofs.Common.{◌≡◌, ◌&&◌, ◌+◌, ◌-◌, ◌≤◌, inl, inr, chars, sym, ap, ◌∙◌, length, arith, bytes_eq, drop, map, subst}
+use Rattle.std.proofs.Common.{◌≡◌, ◌&&◌, ◌+◌, ◌-◌, ◌≤◌, chars, sym, ap, ◌∙◌, length, arith, bytes_eq, drop, map, subst}
 use Rattle.std.specs.Char.{to_ascii_lowercase}
-use Rattle.std.proofs.lemmas.Bool.{cases_Bool, false≢true, and_right}
+use Rattle.std.proofs.lemmas.Bool.{false≢true, false_from_ne_true, and_right}
 use Rattle.typst_html_encode.specs.ClosingTags as ending
 use Rattle.typst_html_read.specs.RawEnds.{EndsAt}
 use Rattle.typst_html_read.proofs.Closings.{by_characters, by_bytes, name_is, end_is}
@@ -13,15 +13,10 @@ returns-then-not-is_tag_end c =
 
 pub returns-then-text-closing : goal.returns-then-text-closing
 returns-then-text-closing c =
-    let name = chars c.args.name.now in
     let same = ap length (name_is c.args.name.now c.utf8.name c.requires) in
-    and_right (ending.is_tag_end c.args.c) _
-    (elim (cases_Bool (ending.ends_closing name (chars c.args.text.now))) [
-      | inl e ↦
-          let long = (by_characters name c.args.text.now c.requires c.utf8.text e).0 in
-          absurd (omega (arith, same, long))
-      | inr e ↦ e
-    ])
+    and_right (ending.is_tag_end c.args.c) _ (false_from_ne_true _ (λ e.
+    let long = (by_characters (chars c.args.name.now) c.args.text.now c.requires c.utf8.text e).0 in
+    omega (arith, same, long)))
 
 pub returns-then-not-is_closing : goal.returns-then-not-is_closing
 returns-then-not-is_closing c =
@@ -31,18 +26,13 @@ returns-then-not-is_closing c =
     let name = chars bytes in
     let begin = length text - (length bytes + 2) in
     let end = end_is text c.as_bytes.result.now begin c.as_bytes.ensures.value in
-    and_right (ending.is_tag_end c.args.c) _
-    (elim (cases_Bool (ending.ends_closing name (chars text))) [
-      | inl e ↦
-          let found = (by_characters name text c.requires c.utf8.text e).1 in
-          let same : begin ≡ length text - (length name + 2) =
-          ap (λ n. length text - (length n + 2)) own in
-          absurd (false≢true (sym c.if-not-is_closing.true ∙ c.is_closing.ensures.1
-          (ap (map to_ascii_lowercase) end
-          ∙ (ap (λ k. map to_ascii_lowercase (drop k text)) same
-          ∙ (found ∙ sym (ap ending.closing (c.as_bytes-2.ensures.value ∙ own)))))))
-      | inr e ↦ e
-    ])
+    let same : begin ≡ length text - (length name + 2) =
+    ap (λ n. length text - (length n + 2)) own in
+    and_right (ending.is_tag_end c.args.c) _ (false_from_ne_true _ (λ e.
+    let found = (by_characters name text c.requires c.utf8.text e).1 in
+    false≢true (sym c.if-not-is_closing.true ∙ c.is_closing.ensures.1
+    (ap (map to_ascii_lowercase) end ∙ (ap (λ k. map to_ascii_lowercase (drop k text)) same
+    ∙ (found ∙ sym (ap ending.closing (c.as_bytes-2.ensures.value ∙ own))))))))
 
 pub returns : goal.returns
 returns c =

@@ -21,9 +21,10 @@ returns-then-word-text c =
     omega (arith, long, ap length c.as_bytes-text.ensures.value) in
     let small = ap (map to_ascii_lowercase) c.as_bytes-word.ensures.value ∙ c.requires.small in
     same_tests c.eq_ignore_ascii_case.result (ends_in word (chars text))
-    (λ e. word_by_bytes word text (length word) ascii c.utf8.text c.requires.some refl fits
+    (λ e. (word_by_bytes word text (length word) ascii c.utf8.text c.requires.some refl fits
     (ap (λ k. map to_ascii_lowercase (drop k text)) (sym same)
-    ∙ (sym (ap (map to_ascii_lowercase) end) ∙ (c.eq_ignore_ascii_case.ensures.test.0 e ∙ small))))
+    ∙ (sym (ap (map to_ascii_lowercase) end)
+    ∙ (c.eq_ignore_ascii_case.ensures.test.0 e ∙ small)))).ends)
     (λ e. c.eq_ignore_ascii_case.ensures.test.1 (ap (map to_ascii_lowercase) end
     ∙ (ap (λ k. map to_ascii_lowercase (drop k text)) same
     ∙ ((word_by_characters word text (length word) ascii c.utf8.text c.requires.some refl e).1

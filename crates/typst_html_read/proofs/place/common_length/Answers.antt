@@ -1,10 +1,10 @@
-use Rattle.std.proofs.Common.{◌≡◌, ◌+◌, false, true, chars, eqb, length, refl, sym, ap, arith, length-append}
+use Rattle.std.proofs.Common.{◌≡◌, ◌+◌, false, true, chars, eqb, refl, sym, arith}
 use Rattle.std.specs.List.{common_prefix_len}
 use Rattle.std.specs.Str.Iter.{chars_rest}
 use Rattle.std.proofs.StrCases.{chars_of_empty}
 use Rattle.std.proofs.lemmas.Bool.{ne_eqb, eq-eqb}
-use Rattle.std.proofs.lemmas.Str.{IsUtf8-past_char, chars_past_char, length-encode, len_utf8_bounds}
-use lib.Utf8.{encode}
+use Rattle.std.proofs.lemmas.Str.{IsUtf8-past_char, chars_past_char}
+use Rattle.typst_html_read.proofs.Places.{first_long}
 use Rattle.typst_html_read.proofs.place.common_length.Goals as goal
 
 pub returns-in_default : goal.returns-in_default
@@ -27,17 +27,8 @@ returns-then-c-expected c =
 
 pub overflow_add-count : goal.overflow_add-count
 overflow_add-count c =
-    let held = c.loop-expected.invariant in
-    let d = c.in-Some-next.c in
-    let parts = c.in-Some-next.ensures.steps.0 in
-    omega (
-      arith,
-      held.few,
-      ap length parts,
-      length-append (encode d) (chars_rest c.next-in-loop-expected.new.self),
-      length-encode d,
-      len_utf8_bounds d,
-    )
+    let long = first_long _ _ c.in-Some-next.c c.in-Some-next.ensures.steps.0 in
+    omega (arith, c.loop-expected.invariant.few, long.0, long.1)
 
 pub loop-expected-preserved : goal.loop-expected-preserved
 loop-expected-preserved c =
@@ -45,6 +36,7 @@ loop-expected-preserved c =
     let d = c.in-Some-next.c in
     let word = chars_past_char _ _ c.in-Some.expected held.word_utf8 c.in-Some.ensures.steps.0 in
     let text = chars_past_char _ _ d held.text_utf8 c.in-Some-next.ensures.steps.0 in
+    let long = first_long _ _ d c.in-Some-next.ensures.steps.0 in
     let equal : eqb c.in-Some.expected d ≡ true = eq-eqb _ _ (sym c.if-c-expected.false) in
     let rest = common_prefix_len eqb (chars (chars_rest c.next.new.self))
     (chars (chars_rest c.next-in-loop-expected.new.self)) in
@@ -54,14 +46,7 @@ loop-expected-preserved c =
       word_utf8 = IsUtf8-past_char _ _ c.in-Some.expected held.word_utf8 c.in-Some.ensures.steps.0;
       text_utf8 = IsUtf8-past_char _ _ d held.text_utf8 c.in-Some-next.ensures.steps.0;
       same = omega (arith, one, held.same);
-      few = omega (
-        arith,
-        held.few,
-        ap length c.in-Some-next.ensures.steps.0,
-        length-append (encode d) (chars_rest c.next-in-loop-expected.new.self),
-        length-encode d,
-        len_utf8_bounds d,
-      );
+      few = omega (arith, held.few, long.0, long.1);
     }
 
 pub returns : goal.returns

@@ -1,9 +1,9 @@
-use Rattle.std.proofs.Common.{◌≡◌, ◌+◌, ◌-◌, ◌++◌, [], chars, length, take, sym, ap, ◌∙◌, arith, length-append}
+use Rattle.std.proofs.Common.{◌≡◌, ◌+◌, ◌-◌, ◌++◌, [], chars, take, sym, ap, ◌∙◌, arith}
 use Rattle.std.proofs.StrCases.{chars_of_empty}
-use Rattle.std.proofs.lemmas.Str.{chars_past_char, length-encode, len_utf8_bounds}
+use Rattle.std.proofs.lemmas.Str.{chars_past_char}
 use lib.Utf8.{encode}
 use Rattle.typst_html_read.specs.Places.{beginning, place_at, place_behind}
-use Rattle.typst_html_read.proofs.Places.{one_more, passed, none_more}
+use Rattle.typst_html_read.proofs.Places.{first_long, one_more, passed, none_more}
 use Rattle.typst_html_read.proofs.place.place_at.Goals as goal
 
 pub loop-done-init : goal.loop-done-init
@@ -35,6 +35,7 @@ loop-done-preserved c =
     sym c.chars-left.ensures.rest ∙ (c.in-Some.ensures.steps.0
     ∙ ap (λ l. encode d ++ l) (sym c.as_str-rest.ensures)) in
     let left = chars_past_char at.rest.now later d held.is_text parts in
+    let long = first_long at.rest.now later d parts in
     let one = passed at.place c.next_place-place.result d c.next_place-place.ensures in
     record {
       is_text = c.as_str-rest.utf8;
@@ -43,16 +44,9 @@ loop-done-preserved c =
           ∙ (sym (one_more at.place c.args.count at.done d (chars later) c.loop-done-test.true)
           ∙ (ap (λ cs. place_behind at.place (take (c.args.count - at.done) cs)) (sym left)
           ∙ held.same));
-      room = omega (
-        arith,
-        held.room,
-        one.0,
-        ap length parts,
-        length-append (encode d) later,
-        length-encode d,
-      );
-      line = omega (arith, held.line, one.0, one.1, len_utf8_bounds d);
-      column = omega (arith, held.column, one.0, one.2, len_utf8_bounds d);
+      room = omega (arith, held.room, one.0, long.0);
+      line = omega (arith, held.line, one.0, one.1, long.1);
+      column = omega (arith, held.column, one.0, one.2, long.1);
     }
 
 pub returns : goal.returns

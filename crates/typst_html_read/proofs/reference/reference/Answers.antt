@@ -1,34 +1,33 @@
-use Rattle.std.proofs.Common.{codes, refl, sym, ap, ◌∙◌, ◌∷◌}
+use Rattle.std.proofs.Common.{◌≡◌, ℕ, List, ◌∷◌, true, chars, codes, refl, sym, ap, ◌∙◌}
 use Rattle.std.specs.Fmt.{digits}
+use Rattle.html_names.specs.Names.{is_ascii}
 use Rattle.typst_html_encode.specs.References as definition
 use Rattle.typst_html_read.proofs.References.{by_number, no_reference}
 use Rattle.typst_html_read.proofs.Words.{word_is}
 use Rattle.typst_html_read.proofs.reference.reference.Goals as goal
 
+of_word : (w words : List ℕ) → is_ascii w ≡ true → words ≡ w →
+    definition.reference w ≡ definition.reference (chars words)
+of_word w words ascii is = sym (ap definition.reference (word_is w words ascii is))
+
 pub returns-in-amp : goal.returns-in-amp
-returns-in-amp c =
-    sym (ap definition.reference (word_is (codes "amp") c.args.words.now refl c.in-amp.is))
+returns-in-amp c = of_word (codes "amp") c.args.words.now refl c.in-amp.is
 
 pub returns-in-lt : goal.returns-in-lt
-returns-in-lt c =
-    sym (ap definition.reference (word_is (codes "lt") c.args.words.now refl c.in-lt.is))
+returns-in-lt c = of_word (codes "lt") c.args.words.now refl c.in-lt.is
 
 pub returns-in-gt : goal.returns-in-gt
-returns-in-gt c =
-    sym (ap definition.reference (word_is (codes "gt") c.args.words.now refl c.in-gt.is))
+returns-in-gt c = of_word (codes "gt") c.args.words.now refl c.in-gt.is
 
 pub returns-in-quot : goal.returns-in-quot
-returns-in-quot c =
-    sym (ap definition.reference (word_is (codes "quot") c.args.words.now refl c.in-quot.is))
+returns-in-quot c = of_word (codes "quot") c.args.words.now refl c.in-quot.is
 
 pub returns-in-apos : goal.returns-in-apos
-returns-in-apos c =
-    sym (ap definition.reference (word_is (codes "apos") c.args.words.now refl c.in-apos.is))
+returns-in-apos c = of_word (codes "apos") c.args.words.now refl c.in-apos.is
 
 pub returns-in-text : goal.returns-in-text
 unfolding digits
-returns-in-text c =
-    sym (ap definition.reference (word_is (codes "#x20") c.args.words.now refl c.in-text.is))
+returns-in-text c = of_word (codes "#x20") c.args.words.now refl c.in-text.is
 
 pub returns-in_ok-numbered-in-Some : goal.returns-in_ok-numbered-in-Some
 returns-in_ok-numbered-in-Some c =

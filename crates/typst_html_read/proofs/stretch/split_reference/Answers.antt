@@ -1,54 +1,51 @@
-use Rattle.std.proofs.Common.{◌++◌, [], chars, codes, refl, sym, ap, ◌∙◌}
+use Rattle.std.proofs.Common.{◌≡◌, ℕ, List, [], ◌++◌, true, chars, codes, refl, sym, ap, ◌∙◌}
 use Rattle.std.proofs.lemmas.Str.{chars-nil}
 use Rattle.html_names.proofs.Lists.{chars_ascii}
+use Rattle.html_names.specs.Names.{is_ascii}
 use Rattle.typst_html_read.specs.BegunReferences.{begins_digits, begins_reference}
 use Rattle.typst_html_read.specs.Stretches.{all_grow, continues}
 use Rattle.typst_html_read.proofs.Words.{chars_behind_word}
 use Rattle.typst_html_read.proofs.stretch.split_reference.Goals as goal
 
+-- the word is split off
+record Splits (word text rest : List ℕ) : Type 0 where
+  parts : chars text ≡ chars word ++ chars rest
+  begins : all_grow continues [] (chars word) ≡ true
+
+split : (word text left rest : List ℕ) → is_ascii word ≡ true → all_grow continues [] word ≡ true →
+    text ≡ word ++ left → rest ≡ left → Splits word text rest
+split word text left rest ascii grows is e = record {
+  parts = chars_behind_word word text rest ascii (is ∙ sym (ap (λ l. word ++ l) e));
+  begins = ap (all_grow continues []) (chars_ascii word ascii) ∙ grows;
+}
+
 pub returns-in-Some : goal.returns-in-Some
 unfolding begins_digits begins_reference
 returns-in-Some c =
-    let word = codes "amp" in
     let found = c.in-Some.ensures.cases in
-    record {
-      parts = chars_behind_word word c.args.text.now c.in-Some.rest.now refl
-          (found.1.1 ∙ sym (ap (λ l. word ++ l) found.2));
-      begins = ap (all_grow continues []) (chars_ascii word refl);
-    }
+    let is = split (codes "amp") c.args.text.now _ _ refl refl found.1.1 found.2 in
+    record { parts = is.parts; begins = is.begins }
 
 pub returns-in-Some-strip_prefix : goal.returns-in-Some-strip_prefix
 unfolding begins_digits begins_reference
 returns-in-Some-strip_prefix c =
-    let word = codes "lt" in
     let found = c.in-Some-strip_prefix.ensures.cases in
-    record {
-      parts = chars_behind_word word c.args.text.now c.in-Some-strip_prefix.rest.now refl
-          (found.1.1 ∙ sym (ap (λ l. word ++ l) found.2));
-      begins = ap (all_grow continues []) (chars_ascii word refl);
-    }
+    let is = split (codes "lt") c.args.text.now _ _ refl refl found.1.1 found.2 in
+    record { parts = is.parts; begins = is.begins }
 
 pub returns-in-Some-strip_prefix-2 : goal.returns-in-Some-strip_prefix-2
 unfolding begins_digits begins_reference
 returns-in-Some-strip_prefix-2 c =
-    let word = codes "gt" in
     let found = c.in-Some-strip_prefix-2.ensures.cases in
-    record {
-      parts = chars_behind_word word c.args.text.now c.in-Some-strip_prefix-2.rest.now refl
-          (found.1.1 ∙ sym (ap (λ l. word ++ l) found.2));
-      begins = ap (all_grow continues []) (chars_ascii word refl);
-    }
+    let is = split (codes "gt") c.args.text.now _ _ refl refl found.1.1 found.2 in
+    record { parts = is.parts; begins = is.begins }
 
 pub returns-in-Some-strip_prefix-3 : goal.returns-in-Some-strip_prefix-3
 unfolding begins_digits begins_reference
 returns-in-Some-strip_prefix-3 c =
-    let word = codes "#x20" in
     let found = c.in-Some-strip_prefix-3.ensures.cases in
-    record {
-      parts = chars_behind_word word c.args.text.now c.in-Some-strip_prefix-3.rest.now refl
-          (found.1.1 ∙ sym (ap (λ l. word ++ l) found.2));
-      begins = ap (all_grow continues []) (chars_ascii word refl);
-    }
+    let is = split (codes "#x20") c.args.text.now _ _ refl refl found.1.1 found.2 in
+    record { parts = is.parts; begins = is.begins }
 
 pub returns : goal.returns
 returns c = record {

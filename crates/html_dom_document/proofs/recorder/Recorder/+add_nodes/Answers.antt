@@ -2,7 +2,7 @@ use Rattle.std.proofs.Common.{◌≡◌, ◌+◌, ◌++◌, ◌≤◌, false, re
 use Rattle.html_dom_tree.specs.Tree.{none}
 use Rattle.html_dom_tree.specs.Views.{node_view, nodes_view, element_view}
 use Rattle.html_dom_document.specs.Cursor.{element_index}
-use Rattle.html_dom_document.specs.Places.{is_html, node_places, nodes_places, nodes_links}
+use Rattle.html_dom_document.specs.Places.{is_named_html, node_places, nodes_places, nodes_links}
 use Rattle.html_dom_document.specs.Records.{places_view, locations_view}
 use Rattle.html_dom_document.specs.declared.recorder.Recorder.{Recorder}
 use Rattle.html_dom_document.proofs.Recording.{Recorded, recorded_inside, walk_places, walk_places_is, found_step, found_end, linked_step, linked_end, moves_by_one}
@@ -11,7 +11,7 @@ use Rattle.html_dom_document.proofs.recorder.Recorder.+add_nodes.Goals as goal
 pub add_element-returns : goal.add_element-returns
 add_element-returns t c =
     let e = element_view c.args.element.now in
-    let other : is_html e.0 ≡ false = sym c.is_html.ensures ∙ c.if-is_html.false in
+    let other : is_named_html e.0 ≡ false = sym c.is_named_html.ensures ∙ c.if-is_named_html.false in
     let old = c.args.self.now in
     let pushed : Recorder
     = record { path = c.push.new.self; places = old.places; links = old.links } in

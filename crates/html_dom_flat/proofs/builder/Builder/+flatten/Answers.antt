@@ -4,7 +4,7 @@ use Rattle.std.proofs.lemmas.List.{length-map, reverse-reverse}
 use denote.Param.Weighed.{most, most-append}
 use Rattle.html_dom_tree.proofs.node.HtmlNode.TheLaws.{the_size}
 use Rattle.html_dom_tree.specs.Views.{element_view}
-use Rattle.html_dom_flat.specs.Flat.{flat_element, nodes_count, nodes_flat}
+use Rattle.html_dom_flat.specs.Flat.{nodes_count, nodes_flat}
 use Rattle.html_dom_flat.specs.FlatViews.{flat_node_view}
 use Rattle.html_dom_flat.specs.Builders.{builder_view}
 use Rattle.html_dom_flat.specs.ClosedElements.{closed_at}
@@ -32,16 +32,16 @@ move_element-returns-clause-list t c =
     (old.nodes.ok.0 ∙ sym (length-map old.nodes.items (flat_node_view old.names)))
     c.in_ok-children.ensures.list fills ends closes
 
-pub move_nodes-loop-node-init : goal.move_nodes-loop-node-init
-move_nodes-loop-node-init t c =
+pub move_many-loop-node-init : goal.move_many-loop-node-init
+move_many-loop-node-init t c =
     let all = c.args.nodes.items in
     let again = ap reverse c.reverse_nodes.ensures ∙ reverse-reverse all in
     let same = ap (most the_size) c.reverse_nodes.ensures ∙ most_reversed the_size all in
     record { list = rw again refl; count = rw again refl; deep = omega (arith, same) }
 
-pub move_nodes-loop-node-preserved : goal.move_nodes-loop-node-preserved
+pub move_many-loop-node-preserved : goal.move_many-loop-node-preserved
 unfolding nodes_flat nodes_count
-move_nodes-loop-node-preserved t c =
+move_many-loop-node-preserved t c =
     let held = c.loop-node.invariant in
     let added = c.in_ok-move_node.ensures in
     let left = c.give_back.new.nodes.items in

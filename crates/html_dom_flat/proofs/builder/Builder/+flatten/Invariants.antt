@@ -1,4 +1,5 @@
 use Rattle.std.proofs.Common.{◌≡◌, ◌+◌, ◌≤◌, ◌++◌, reverse, vec_len}
+use Rattle.std.specs.Vec.Iter.{into_iter_items}
 use denote.Param.Weighed.{most}
 use Rattle.html_dom_tree.proofs.node.HtmlNode.TheLaws.{the_size}
 use Rattle.html_dom_tree.specs.Views.{nodes_view}
@@ -6,9 +7,20 @@ use Rattle.html_dom_flat.specs.Flat.{nodes_count, nodes_flat}
 use Rattle.html_dom_flat.specs.Builders.{builder_view}
 use Rattle.html_dom_flat.proofs.builder.Builder.+flatten.Given as goal
 
+abbrev pub invariant-move_few-loop-node : goal.invariant-move_few-loop-node
+invariant-move_few-loop-node l =
+    let left = nodes_view (into_iter_items l.node-iterator) in
+    let all = nodes_view l.fn.nodes.items in
+    record {
+      list : builder_view l.self ++ nodes_flat (vec_len l.self.nodes) left
+          ≡ builder_view l.initial.self ++ nodes_flat (vec_len l.initial.self.nodes) all;
+      count : vec_len l.self.nodes + nodes_count left
+          ≡ vec_len l.initial.self.nodes + nodes_count all;
+    }
+
 -- those that are left stand in reverse, none deeper than those that were there
-abbrev pub invariant-move_nodes-loop-node : goal.invariant-move_nodes-loop-node
-invariant-move_nodes-loop-node l =
+abbrev pub invariant-move_many-loop-node : goal.invariant-move_many-loop-node
+invariant-move_many-loop-node l =
     let left = nodes_view (reverse l.nodes.items) in
     let all = nodes_view l.fn.nodes.items in
     record {
@@ -19,5 +31,5 @@ invariant-move_nodes-loop-node l =
       deep : most the_size l.nodes.items ≤ most the_size l.fn.nodes.items;
     }
 
-abbrev pub decreases-move_nodes-loop-node : goal.decreases-move_nodes-loop-node
-decreases-move_nodes-loop-node l = vec_len l.nodes
+abbrev pub decreases-move_many-loop-node : goal.decreases-move_many-loop-node
+decreases-move_many-loop-node l = vec_len l.nodes

@@ -1,4 +1,4 @@
-use Rattle.std.proofs.Common.{◌≡◌, [], ◌∷◌, ◌++◌, refl, ◌∙◌}
+use Rattle.std.proofs.Common.{refl, ◌∙◌}
 use Rattle.html_dom_flat.proofs.builder.Builder.open_element.Goals as goal
 
 pub returns-clause-list : goal.returns-clause-list

@@ -10,7 +10,7 @@ invariant_of-result c =
     let ns = nodes_view c.args.nodes.now in
     let list : builder_view c.push_nodes.new.self ≡ nodes_flat 0 ns
     = c.in_ok-push_nodes.ensures.list
-    ∙ rw (c.new-builder.ensures.list, c.new-builder.ensures.count) refl in
+    ∙ rw (c.in_ok-builder.ensures.list, c.in_ok-builder.ensures.count) refl in
     record { given = c.push_nodes.new.self.given; spells = list_spells _ ns list }
 
 pub returns : goal.returns
@@ -18,5 +18,5 @@ returns c =
     let ns = nodes_view c.args.nodes.now in
     let list : builder_view c.push_nodes.new.self ≡ nodes_flat 0 ns
     = c.in_ok-push_nodes.ensures.list
-    ∙ rw (c.new-builder.ensures.list, c.new-builder.ensures.count) refl in
+    ∙ rw (c.in_ok-builder.ensures.list, c.in_ok-builder.ensures.count) refl in
     list_spelled _ ns list

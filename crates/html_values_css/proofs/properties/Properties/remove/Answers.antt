@@ -1,9 +1,9 @@
 use Rattle.std.proofs.Common.{chars}
-use Rattle.html_values_css.specs.Properties.{list_view}
+use Rattle.html_values_css.specs.Properties.{items_of, list_view}
 use Rattle.html_values_css.proofs.Names.{out_listed}
 use Rattle.html_values_css.proofs.properties.Properties.remove.Goals as goal
 
 pub invariant_of-self : goal.invariant_of-self
-invariant_of-self c = out_listed (list_view c.self.inside.list.items)
-    (list_view c.take_out.new.list.items) (chars c.args.name.now) c.self.invariant
+invariant_of-self c = out_listed (list_view (items_of c.self.inside.list))
+    (list_view (items_of c.take_out.new.self)) (chars c.args.name.now) c.self.invariant
     c.take_out.ensures

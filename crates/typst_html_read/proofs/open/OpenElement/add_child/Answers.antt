@@ -13,8 +13,8 @@ invariant_of-self c =
     record {
       plain = plain_added c.add_node.result e v c.args.self.now.plain
           (on_ok_weaker c.add_node.result (λ (h : v ≡ with_node (node_view c.from.result) e).
-          element_plain e d v c.args.self.now.plain c.args.child.plain
-          (h ∙ ap (λ n. with_node n e) c.from.ensures)) c.add_node.ensures.added)
+          element_plain e d v (h ∙ ap (λ n. with_node n e) c.from.ensures)
+          c.args.self.now.plain c.args.child.plain) c.add_node.ensures.added)
           c.add_node.ensures.kept;
     }
 

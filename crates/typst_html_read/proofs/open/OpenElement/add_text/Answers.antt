@@ -17,8 +17,8 @@ invariant_of-self c =
     record {
       plain = plain_added c.add_node.result e v c.args.self.now.plain
           (on_ok_weaker c.add_node.result (λ (h : v ≡ with_node (node_view c.text.result) e).
-          text_plain e v (text_view c.args.text) c.args.self.now.plain
-          (h ∙ ap (λ n. with_node n e) c.text.ensures)) c.add_node.ensures.added)
+          text_plain e v (text_view c.args.text) (h ∙ ap (λ n. with_node n e) c.text.ensures)
+          c.args.self.now.plain) c.add_node.ensures.added)
           c.add_node.ensures.kept;
     }
 
