@@ -19,6 +19,9 @@ from distributed import Client, LocalCluster, as_completed
 
 T = TypeVar("T")
 
+BATCH = 2000
+"""How many mails or pages are one task: some 0.2 s of work, beside which what the cluster takes for a task is little."""
+
 AHEAD = 3
 """How many batches each worker has at a time, so that none waits for the next and not all stand in memory."""
 
@@ -28,7 +31,7 @@ def parser(said: str | None) -> ArgumentParser:
     words = ArgumentParser(description=said)
     words.add_argument("--workers", type=int, default=os.cpu_count(), help="how many processes of this machine, if not all cores")
     words.add_argument("--scheduler", metavar="ADDRESS", help="a cluster's, as tcp://10.0.0.1:8786, in place of this machine")
-    words.add_argument("--batch", type=int, default=500, help="how many are one task")
+    words.add_argument("--batch", type=int, default=BATCH, help=f"how many are one task, if not {BATCH}")
     words.add_argument("--quiet", action="store_true", help="no progress")
     return words
 
@@ -75,13 +78,13 @@ class Progress:
     def __init__(self, what: str, quiet: bool) -> None:
         self.what, self.quiet = what, quiet
         self.done = self.failed = 0
-        self.begun = self.told = time.monotonic()
+        self.begun = self.reported = time.monotonic()
 
     def add(self, done: int, failed: int) -> None:
         self.done, self.failed = self.done + done, self.failed + failed
-        if not self.quiet and time.monotonic() - self.told >= 1:
-            self.told = time.monotonic()
-            speed = self.done / (self.told - self.begun)
+        if not self.quiet and time.monotonic() - self.reported >= 1:
+            self.reported = time.monotonic()
+            speed = self.done / (self.reported - self.begun)
             print(f"{self.done} {self.what}, {speed:.0f} a second, {self.failed} failed", file=sys.stderr)
 
     def ended(self, client: Client) -> None:

@@ -9,6 +9,7 @@ On a cluster all machines must have these folders, under the same names. The sta
 from __future__ import annotations
 
 import json
+import os
 import sys
 from itertools import islice
 from pathlib import Path
@@ -42,11 +43,12 @@ def check_batch(paths: list[str]) -> list[Row]:
 
 
 def pages_in(folders: list[Path]) -> Iterator[str]:
-    """Returns the pages below these folders."""
+    """Returns the pages below these folders, as they are found."""
     for folder in folders:
-        for path in sorted(folder.resolve().rglob("*")):
-            if path.suffix.lower() in (".html", ".htm") and path.is_file():
-                yield str(path)
+        for within, below, names in os.walk(folder.resolve()):
+            below.sort()
+            paths = (os.path.join(within, name) for name in sorted(names) if name.lower().endswith((".html", ".htm")))
+            yield from filter(os.path.isfile, paths)
 
 
 def batches_of(pages: Iterator[str], size: int) -> Iterator[list[str]]:
@@ -64,8 +66,8 @@ def main() -> int:
         if not folder.is_dir():
             parser.error(f"{folder} is no folder")
     found: list[Row] = []
-    progress = batches.Progress("pages", words.quiet)
     with batches.engine(words) as client:
+        progress = batches.Progress("pages", words.quiet)
         for batch, rows in batches.results(client, check_batch, batches_of(pages_in(words.folders), words.batch)):
             if isinstance(rows, BaseException):
                 rows = [(path, 0, 0, f"not read: {type(rows).__name__}: {rows}") for path in batch]

@@ -14,15 +14,16 @@ import os
 import sys
 from itertools import islice
 from pathlib import Path
-from typing import Iterator
+from typing import Iterator, Sequence, Union
 
 import batches
 from typst_html_proved import Failure, Info, element, write
 
 Failures = list[tuple[int, str]]
 
-Batch = tuple[int, list[bytes], str]
-"""The number of the first record, the records as lines of JSON, and where their mails are to stand."""
+Batch = tuple[int, Sequence[Union[bytes, int]], str]
+"""The number of the first record, the records as lines of JSON, or numbers of those to be made up, and where their
+mails are to stand."""
 
 
 def mail(line: bytes) -> dict[str, str]:
@@ -45,35 +46,37 @@ def write_batch(batch: Batch) -> Failures:
     with open(written, "w", encoding="utf-8") as file:
         for number, line in enumerate(lines, first):
             try:
-                file.write(json.dumps(mail(line), ensure_ascii=False) + "\n")
+                record = line if isinstance(line, bytes) else made_up(line)
+                file.write(json.dumps(mail(record), ensure_ascii=False) + "\n")
             except (Failure, ValueError, TypeError, KeyError, AttributeError) as error:
                 failures.append((number, f"{type(error).__name__}: {error}"))
     os.replace(written, path)
     return failures
 
 
-def made_up(count: int) -> Iterator[bytes]:
-    """Returns that many records. Every thousandth has a character that HTML cannot hold."""
-    for number in range(1, count + 1):
-        name = f"Ada {number}" if number % 1000 else "Ada \0"
-        text = "Salt & vinegar are back.\n\nWrite  to us < soon > about it."
-        record = {"to": f"{number}@example.org", "name": name, "text": text, "link": f"https://example.org/?n={number}"}
-        yield json.dumps(record).encode()
+def made_up(number: int) -> bytes:
+    """Returns the record of that number. Every thousandth has a character that HTML cannot hold."""
+    name = f"Ada {number}" if number % 1000 else "Ada \0"
+    text = "Salt & vinegar are back.\n\nWrite  to us < soon > about it."
+    record = {"to": f"{number}@example.org", "name": name, "text": text, "link": f"https://example.org/?n={number}"}
+    return json.dumps(record).encode()
 
 
-def lines_of(records: str) -> Iterator[bytes]:
-    """Returns the records, a line each."""
+def parts_of(records: str, size: int) -> Iterator[Sequence[Union[bytes, int]]]:
+    """Returns the records in parts of that size: the lines of the file, or the numbers from 1 on."""
     if records.isdigit():
-        yield from made_up(int(records))
+        numbers = range(1, int(records) + 1)
+        yield from (numbers[at : at + size] for at in range(0, len(numbers), size))
     else:
         with open(records, "rb") as file:
-            yield from file
+            while part := list(islice(file, size)):
+                yield part
 
 
-def batches_of(lines: Iterator[bytes], size: int, folder: Path) -> Iterator[Batch]:
-    """Returns the lines in batches."""
+def batches_of(records: str, size: int, folder: Path) -> Iterator[Batch]:
+    """Returns the records in batches."""
     first = 1
-    while part := list(islice(lines, size)):
+    for part in parts_of(records, size):
         yield first, part, str(folder / f"mails-{first:09}.jsonl")
         first += len(part)
 
@@ -86,9 +89,9 @@ def main() -> int:
     words = parser.parse_args()
     folder = words.folder.resolve()
     folder.mkdir(parents=True, exist_ok=True)
-    progress = batches.Progress("mails", words.quiet)
     with batches.engine(words) as client, open(folder / "failures.jsonl", "w", encoding="utf-8") as rows:
-        given = batches_of(lines_of(words.records), words.batch, folder)
+        progress = batches.Progress("mails", words.quiet)
+        given = batches_of(words.records, words.batch, folder)
         for (first, lines, _), found in batches.results(client, write_batch, given):
             if isinstance(found, BaseException):
                 found = [(first + at, f"{type(found).__name__}: {found}") for at in range(len(lines))]
