@@ -1,5 +1,5 @@
-//! The names that take no memory, in ascending order, and what is known of each tag. A known name
-//! is held as its place in these tables.
+//! The known names in ascending order, and the default display and the kinds of each known tag. A
+//! known name takes no memory: its representation is its index in one of these tables.
 
 use crate::property::Display;
 pub(crate) use kinds::*;
@@ -26,7 +26,7 @@ mod kinds {
     pub(crate) const LINE_BREAK: u32 = 1 << 16;
 }
 
-/// Gives the macro `$column` a row for each known tag: its name, its default display and its kinds.
+/// Calls the macro `$column` with a row for each known tag: its name, default display and kinds.
 macro_rules! tag_rows {
     ($column:ident) => {
         $column! {
@@ -199,14 +199,37 @@ pub(crate) static DISPLAYS: [Option<Display>; 142] = tag_rows!(display_column);
 
 pub(crate) static KINDS: [u32; 142] = tag_rows!(kind_column);
 
-/// The places of `TAGS` at which the names with each first letter begin, and the end.
+/// The indices in `TAGS`, each spelled as the constant of its tag.
+#[rattlefmt::skip]
+#[allow(non_camel_case_types)]
+#[repr(u8)]
+pub(crate) enum TagNumber {
+    a, abbr, address, annotation, annotation_xml, area, article, aside, audio, b, base, bdi, bdo,
+    blockquote, body, br, button, canvas, caption, cite, code, col, colgroup, data, datalist, dd,
+    del, details, dfn, dialog, div, dl, dt, em, embed, fieldset, figcaption, figure, footer, form,
+    h1, h2, h3, h4, h5, h6, head, header, hgroup, hr, html, i, iframe, img, input, ins, kbd, label,
+    legend, li, link, maction, main, map, mark, math, menu, merror, meta, meter, mfrac, mi,
+    mmultiscripts, mn, mo, mover, mpadded, mphantom, mprescripts, mroot, mrow, ms, mspace, msqrt,
+    mstyle, msub, msubsup, msup, mtable, mtd, mtext, mtr, munder, munderover, nav, noscript, object,
+    ol, optgroup, option, output, p, picture, pre, progress, q, rp, rt, ruby, s, samp, script,
+    search, section, select, semantics, slot, small, source, span, strong, style, sub, summary, sup,
+    table, tbody, td, template, textarea, tfoot, th, thead, time, title, tr, track, u, ul, var,
+    video, wbr,
+}
+
+/// The index in `TAGS` of the first name with each first letter, and the length.
+#[rattlefmt::skip]
 pub(crate) const TAG_STARTS: [u8; 27] = [
-    0, 9, 17, 23, 33, 35, 40, 40, 51, 56, 56, 57, 61, 94, 96, 101, 105, 106, 109, 125, 137, 139,
-    141, 142, 142, 142, 142,
+    TagNumber::a as u8, TagNumber::b as u8, TagNumber::canvas as u8, TagNumber::data as u8,
+    TagNumber::em as u8, TagNumber::fieldset as u8, TagNumber::h1 as u8, TagNumber::h1 as u8,
+    TagNumber::i as u8, TagNumber::kbd as u8, TagNumber::kbd as u8, TagNumber::label as u8,
+    TagNumber::maction as u8, TagNumber::nav as u8, TagNumber::object as u8, TagNumber::p as u8,
+    TagNumber::q as u8, TagNumber::rp as u8, TagNumber::s as u8, TagNumber::table as u8,
+    TagNumber::u as u8, TagNumber::var as u8, TagNumber::wbr as u8, 142, 142, 142, 142,
 ];
 
-/// The place of `annotation-xml`, the only known tag that is a reserved name.
-pub(crate) const RESERVED_TAG: u8 = 4;
+/// The index of `annotation-xml`, the only known tag that is a reserved name.
+pub(crate) const RESERVED_TAG: u8 = TagNumber::annotation_xml as u8;
 
 #[rattlefmt::skip]
 pub(crate) const ATTRS: [&str; 206] = [
@@ -242,8 +265,47 @@ pub(crate) const ATTRS: [&str; 206] = [
     "value", "width", "wrap", "writingsuggestions",
 ];
 
-/// The places of `ATTRS` at which the names with each first letter begin, and the end.
+/// The indices in `ATTRS`, each spelled as the constant of its attribute.
+#[rattlefmt::skip]
+#[allow(non_camel_case_types)]
+#[repr(u8)]
+pub(crate) enum AttrNumber {
+    abbr, accent, accentunder, accept, accept_charset, accesskey, action, allow, allowfullscreen,
+    alpha, alt, aria_activedescendant, aria_atomic, aria_autocomplete, aria_busy, aria_checked,
+    aria_colcount, aria_colindex, aria_colspan, aria_controls, aria_current, aria_describedby,
+    aria_details, aria_disabled, aria_errormessage, aria_expanded, aria_flowto, aria_haspopup,
+    aria_hidden, aria_invalid, aria_keyshortcuts, aria_label, aria_labelledby, aria_level,
+    aria_live, aria_modal, aria_multiline, aria_multiselectable, aria_orientation, aria_owns,
+    aria_placeholder, aria_posinset, aria_pressed, aria_readonly, aria_relevant, aria_required,
+    aria_roledescription, aria_rowcount, aria_rowindex, aria_rowspan, aria_selected, aria_setsize,
+    aria_sort, aria_valuemax, aria_valuemin, aria_valuenow, aria_valuetext, as_, async_,
+    autocapitalize, autocomplete, autocorrect, autofocus, autoplay, blocking, charset, checked,
+    cite, class, closedby, color, colorspace, cols, colspan, columnspan, command, commandfor,
+    content, contenteditable, controls, coords, crossorigin, data, datetime, decoding, default,
+    defer, dir, dirname, disabled, display, displaystyle, download, draggable, enctype,
+    enterkeyhint, fence, fetchpriority, for_, form, formaction, formenctype, formmethod,
+    formnovalidate, formtarget, headers, height, hidden, high, href, hreflang, http_equiv, id,
+    imagesizes, imagesrcset, inert, inputmode, integrity, is, ismap, itemid, itemprop, itemref,
+    itemscope, itemtype, kind, label, lang, largeop, linethickness, list, loading, loop_, low,
+    lspace, mathvariant, max, maxlength, maxsize, media, method, min, minlength, minsize,
+    movablelimits, multiple, muted, name, nomodule, nonce, novalidate, open, optimum, pattern, ping,
+    placeholder, playsinline, popover, popovertarget, popovertargetaction, poster, preload,
+    readonly, referrerpolicy, rel, required, reversed, role, rows, rowspan, rspace, sandbox, scope,
+    scriptlevel, selected, separator, shadowrootclonable, shadowrootcustomelementregistry,
+    shadowrootdelegatesfocus, shadowrootmode, shadowrootserializable, shape, size, sizes, slot,
+    span, spellcheck, src, srcdoc, srclang, srcset, start, step, stretchy, style, symmetric,
+    tabindex, target, title, translate, type_, usemap, value, width, wrap, writingsuggestions,
+}
+
+/// The index in `ATTRS` of the first name with each first letter, and the length.
+#[rattlefmt::skip]
 pub(crate) const ATTR_STARTS: [u8; 27] = [
-    0, 64, 65, 82, 94, 96, 105, 105, 112, 125, 125, 126, 135, 147, 151, 153, 162, 162, 171, 196,
-    201, 202, 203, 206, 206, 206, 206,
+    AttrNumber::abbr as u8, AttrNumber::blocking as u8, AttrNumber::charset as u8,
+    AttrNumber::data as u8, AttrNumber::enctype as u8, AttrNumber::fence as u8,
+    AttrNumber::headers as u8, AttrNumber::headers as u8, AttrNumber::id as u8,
+    AttrNumber::kind as u8, AttrNumber::kind as u8, AttrNumber::label as u8,
+    AttrNumber::mathvariant as u8, AttrNumber::name as u8, AttrNumber::open as u8,
+    AttrNumber::pattern as u8, AttrNumber::readonly as u8, AttrNumber::readonly as u8,
+    AttrNumber::sandbox as u8, AttrNumber::tabindex as u8, AttrNumber::usemap as u8,
+    AttrNumber::value as u8, AttrNumber::width as u8, 206, 206, 206, 206,
 ];

@@ -6,7 +6,7 @@ use std::alloc::{AllocError, Global};
 use tests_asserts::TestResult;
 use tests_growth::{refuses, refuses_copy, refuses_kept};
 
-/// The number of letters that fill the text of an `TextWriter` that got them one by one.
+/// The number of letters that fill the text of a `TextWriter` that got them one by one.
 const FULL: usize = 32;
 
 const OWN_NAME: &str = "an-own-name";
@@ -39,7 +39,7 @@ fn has_no_more(table: &NameTable) -> bool {
     has_first_names(table) && table.tags() == 1 && table.attrs() == 1
 }
 
-/// A table in which `p` and `class` have numbers.
+/// Returns a table in which `p` and `class` have numbers.
 fn table_of(alloc: Global) -> Result<NameTable, AllocError> {
     let mut table = NameTable::new(alloc);
     table.tag(&tag::p)?;
@@ -51,22 +51,25 @@ fn table_of(alloc: Global) -> Result<NameTable, AllocError> {
 #[derive(Clone, Copy, Debug)]
 enum Call {
     Number,
+    Insert,
     EqualNumbers,
     NumberStays,
     AtNumber,
 }
 
-const CALLS: [Call; 4] = [
+const CALLS: [Call; 5] = [
     Call::Number,
+    Call::Insert,
     Call::EqualNumbers,
     Call::NumberStays,
     Call::AtNumber,
 ];
 
-/// Whether a refused call leaves the numbered names, and one that requests a number adds none.
+/// Returns whether a refused call leaves the numbered names, and one that requests a number adds
+/// none.
 fn is_kept(call: Call, table: &NameTable) -> bool {
     match call {
-        Call::Number => has_no_more(table),
+        Call::Number | Call::Insert => has_no_more(table),
         _ => has_first_names(table),
     }
 }
@@ -80,6 +83,7 @@ fn numbered_tags(rt: HostRuntime) -> TestResult {
         let is_kept = |table: &NameTable| is_kept(call, table);
         refuses_kept(alloc, table_of(alloc)?, is_kept, |table| match call {
             Call::Number => Ok(table.tag(&one)? == 1),
+            Call::Insert => Ok(table.insert_tag(one.try_clone()?)? == 1),
             Call::EqualNumbers => Ok(!laws::equal_tag_numbers(table, &one, &two)?),
             Call::NumberStays => laws::tag_number_stays(table, &one, &two),
             Call::AtNumber => laws::tag_at_number(table, &one),
@@ -97,6 +101,7 @@ fn numbered_attributes(rt: HostRuntime) -> TestResult {
         let is_kept = |table: &NameTable| is_kept(call, table);
         refuses_kept(alloc, table_of(alloc)?, is_kept, |table| match call {
             Call::Number => Ok(table.attr(&one)? == 1),
+            Call::Insert => Ok(table.insert_attr(one.try_clone()?)? == 1),
             Call::EqualNumbers => Ok(!laws::equal_attr_numbers(table, &one, &two)?),
             Call::NumberStays => laws::attr_number_stays(table, &one, &two),
             Call::AtNumber => laws::attr_at_number(table, &one),
@@ -105,7 +110,7 @@ fn numbered_attributes(rt: HostRuntime) -> TestResult {
     Ok(())
 }
 
-/// What is added to a text with room for that many letters.
+/// An addition to a text with room for that many letters.
 #[derive(Clone, Copy, Debug)]
 enum Added {
     Char,
@@ -127,8 +132,8 @@ fn add(out: &mut TextWriter, added: Added) -> Result<(), AllocError> {
     }
 }
 
-/// Asserts that an addition to a text with room for that many letters is refused at first, and leaves
-/// the text as it is.
+/// Asserts that an addition to a text with room for that many letters is refused at first, and
+/// leaves the text as it is.
 fn assert_written(alloc: Global, room: usize, added: Added) -> TestResult {
     let mut out = TextWriter::new(alloc);
     for _ in room..FULL {

@@ -1,4 +1,4 @@
-//! Names made from texts, how they are shown, and what is wrong with a text.
+//! Names made from texts, their formatting, and the faults of texts.
 
 use html_names::{HtmlAttr, HtmlTag, NameFault, Refused, attr, tag};
 use std::alloc::Global;

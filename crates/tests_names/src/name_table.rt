@@ -40,6 +40,25 @@ fn numbered_names(rt: HostRuntime) -> TestResult {
     assert_number(names.attrs(), 5)
 }
 
+#[test]
+fn moved_names(rt: HostRuntime) -> TestResult {
+    let mut names = NameTable::new(rt.alloc());
+    for (text, number) in TAGS.0.split_whitespace().zip(TAGS.1.iter()) {
+        let tag = HtmlTag::intern(rt.alloc(), text)?;
+        assert_number(names.insert_tag(tag)?, *number)?;
+        assert!(rt; *number < names.tags());
+        assert_text(names.tag_at(*number).resolve(), text)?;
+    }
+    for (text, number) in ATTRS.0.split_whitespace().zip(ATTRS.1.iter()) {
+        let attr = HtmlAttr::intern(rt.alloc(), text)?;
+        assert_number(names.insert_attr(attr)?, *number)?;
+        assert!(rt; *number < names.attrs());
+        assert_text(names.attr_at(*number).resolve(), text)?;
+    }
+    assert_number(names.tags(), 6)?;
+    assert_number(names.attrs(), 5)
+}
+
 /// Tags, and whether each is void, raw, escapable raw and foreign self-closing, and its display.
 static KINDS: [(&str, [bool; 4], Option<Display>); 6] = [
     ("br", [true, false, false, false], Some(Display::Inline)),
