@@ -74,8 +74,8 @@ def document(given: bytes) -> bytes | None:
 
 def dead_links(output: str) -> list[dict[str, int]]:
     """Returns the links of a row `dead-links`, which has the span and the destination of each."""
-    told = [map(int, one.split(" to ")) for one in output.split(", ") if one]
-    return [{"destination": destination, "span": span} for span, destination in told]
+    pairs = [map(int, one.split(" to ")) for one in output.split(", ") if one]
+    return [{"destination": destination, "span": span} for span, destination in pairs]
 
 
 def rows(most: int | None = None) -> list[Row]:

@@ -1,18 +1,19 @@
 /*
- * HTML text of documents and trees that JSON spells, and what is wrong with the links of a page, by a
- * library of proved code.
+ * A library of proved code that writes the HTML text of documents and trees, which JSON spells, and
+ * reports the faults and the links of a page.
  *
- * Ownership: the library keeps nothing. It reads `input` and writes `output` during the call alone, and
- * frees whatever it allocated before it returns. Both buffers are the caller's.
+ * Ownership: the library keeps no state. It reads `input` and writes `output` only during the call,
+ * and frees whatever it allocated before it returns. The caller owns both buffers.
  *
- * Pointers: neither may be NULL, even to a buffer of length 0, nor may the two buffers overlap, even where
- * nothing is written. No call looks whether that is so: where it is not, what happens is undefined. To ask
- * how long a text is, give any `output` that is no part of `input`, with `room` 0.
+ * Pointers: neither pointer may be NULL, even for a buffer of length 0, and the two buffers must
+ * not overlap, even if nothing is written. No call checks this: otherwise the behaviour is
+ * undefined. To get the length of a text, pass any `output` that is no part of `input`, and the
+ * `room` 0.
  *
- * Threads: calls share nothing, so any number may run at once, each with an `output` of its own. A call
- * takes memory by `malloc`, `realloc` and `free`, so it is not for signal handlers, nor for a forked
- * child of a process with threads. It wants 256 KB of stack, whatever the input and the limit are. Where
- * there is less, a deep input ends the process.
+ * Threads: calls share nothing, so any number of them may run at once, each with an `output` of its
+ * own. A call allocates with `malloc`, `realloc` and `free`, so do not make one in a signal handler
+ * or in a forked child of a process with threads. It needs 256 KB of stack, whatever the input and
+ * the limit are. With less, a deep input ends the process.
  *
  * Linux on x86-64 (x86-64-v2 and later).
  */
@@ -30,38 +31,40 @@ extern "C" {
 /* The version of these calls: compare it with typst_html_version(). */
 #define TYPST_HTML_VERSION 7
 
-/* How a call ended. In all but TYPST_HTML_DONE and TYPST_HTML_DEAD_LINKS `output` is as it was. */
+/* The outcome of a call. `output` is unchanged after all but TYPST_HTML_DONE and
+   TYPST_HTML_DEAD_LINKS. */
 enum typst_html_status {
     TYPST_HTML_DONE = 0,          /* the first `length` bytes of `output` are the text, in UTF-8 */
-    TYPST_HTML_REFUSED = 1,       /* the input is refused: `number` says why, `span` where, of a page
-                                     `line` and `column` too */
-    TYPST_HTML_BAD_INPUT = 2,     /* the input is no JSON (`line` and `column` say where) or spells nothing
-                                     (`span` says where), the page is no UTF-8 (all three say where), or
-                                     a number is none below */
+    TYPST_HTML_REFUSED = 1,       /* the input is refused: `number` says why, `span` where, and for
+                                     a page `line` and `column` too */
+    TYPST_HTML_BAD_INPUT = 2,     /* the input is not JSON (`line` and `column` say where) or spells
+                                     nothing (`span` says where), the page is not UTF-8 (all three
+                                     say where), or a number is not one of those below */
     TYPST_HTML_OUT_OF_MEMORY = 3, /* an allocation failed */
-    TYPST_HTML_TOO_SHORT = 4,     /* `output` is too short: the text takes `length` bytes */
-    TYPST_HTML_DEAD_LINKS = 5,    /* as TYPST_HTML_DONE, and links in the text lead nowhere: `span` says
-                                     where the first is, typst_html_dead_links lists them */
+    TYPST_HTML_TOO_SHORT = 4,     /* `output` is too short: the text needs `length` bytes */
+    TYPST_HTML_DEAD_LINKS = 5,    /* as TYPST_HTML_DONE, but links in the text lead nowhere: `span`
+                                     says where the first is; typst_html_dead_links lists them */
 };
 
 struct typst_html_reply {
-    size_t length;  /* statuses 0, 4 and 5: how many bytes the text has; else 0 */
-    uint64_t span;  /* status 1: the number of the list of a node or item in the JSON, counted from 1 by
-                       their opening brackets, where the refusal is; 0 where it has no place. Status 5:
-                       the number of the list of the first `a` without a place to lead to. Of a
-                       page, statuses 1 and 2: how many bytes of it stand before the place. Of JSON,
-                       status 2: how many of these lists are opened up to the first value that is not
-                       what the form wants */
-    size_t line;    /* status 2, where the input is no JSON, and of a page, statuses 1 and 2: the line of
-                       the place, from 1 on; else 0. A line ends with a line feed, of a page with LF,
-                       CR LF or CR */
-    size_t column;  /* the column there, from 1 on: of JSON in bytes, and where it ends too soon, how long
-                       its last line is; of a page in characters, of which a byte order mark is none */
+    size_t length;  /* statuses 0, 4 and 5: the length of the text in bytes; otherwise 0 */
+    uint64_t span;  /* status 1: the number of the list of the node or item in the JSON that is
+                       refused, counted from 1 by their opening brackets; 0 if the refusal has no
+                       place. Status 5: the number of the list of the first `a` that leads nowhere.
+                       For a page, statuses 1 and 2: how many bytes of it stand before the place.
+                       For JSON, status 2: how many of these lists are opened up to the first value
+                       that does not fit the form */
+    size_t line;    /* status 2, if the input is not JSON, and for a page, statuses 1 and 2: the
+                       line of the place, counted from 1; otherwise 0. A line ends with a line feed,
+                       in a page with LF, CR LF or CR */
+    size_t column;  /* the column there, counted from 1: for JSON in bytes, or the length of the
+                       last line if the text ends too soon; for a page in characters, without a byte
+                       order mark */
     uint8_t status; /* enum typst_html_status */
-    uint8_t number; /* status 1: enum typst_html_refusal; else 0 */
+    uint8_t number; /* status 1: enum typst_html_refusal; otherwise 0 */
 };
 
-/* The refusals: typst_html_words() has what each says. Those of a page that is checked are 8 and those
+/* The refusals, whose words typst_html_words() returns. A page is refused with 8 or with a number
    from 26 on. */
 enum typst_html_refusal {
     TYPST_HTML_REFUSAL_EMPTY_TAG = 1,
@@ -95,7 +98,7 @@ enum typst_html_refusal {
     TYPST_HTML_REFUSAL_UNSETTLED = 39,
 };
 
-/* What is wrong, in English, by the number of a refusal; "refused" for a number that is none. */
+/* Returns the English words of the refusal with that number; "refused" for any other number. */
 static inline const char *typst_html_words(uint8_t number) {
     switch (number) {
     case TYPST_HTML_REFUSAL_EMPTY_TAG:
@@ -161,134 +164,141 @@ static inline const char *typst_html_words(uint8_t number) {
     }
 }
 
-/* What the input of typst_html_write spells. */
+/* The kind of input of typst_html_write. */
 enum typst_html_kind {
     TYPST_HTML_TREE = 0,  /* ["el", tag, [[name, value], ..], [node, ..]] */
     TYPST_HTML_ITEMS = 1, /* [item, ..] */
 };
 
-/* How the text is laid out. */
+/* The layout of the text. */
 enum typst_html_layout {
     TYPST_HTML_PLAIN = 0,
-    TYPST_HTML_PRETTY = 1, /* indented, where that can't be seen */
+    TYPST_HTML_PRETTY = 1, /* indented where that is not visible on the page */
 };
 
-/* Where the text of typst_html_fragment is put. */
+/* The place where the caller puts the text of typst_html_fragment. */
 enum typst_html_level {
-    TYPST_HTML_BLOCK = 0,  /* on lines of its own: in a `div`, say */
-    TYPST_HTML_INLINE = 1, /* in a line: in a `p`, say */
+    TYPST_HTML_BLOCK = 0,  /* on lines of its own, for example in a `div` */
+    TYPST_HTML_INLINE = 1, /* in a line, for example in a `p` */
 };
 
-/* typst_html_version() of the library that is linked. */
+/* Returns the TYPST_HTML_VERSION of the library that is linked. */
 uint32_t typst_html_version(void);
 
 /*
- * The text of a tree, or of the document of a list of items, of which nothing else is known: bodies may
- * stand 50 deep. A node is one of
+ * Writes the text of a tree, or of the document of a list of items without information about it.
+ * Bodies may be nested 50 deep. A node is one of
  *     ["text", t]   ["el", tag, [[name, value], ..], [node, ..]]
  *     ["start", n]   ["start", n, dest]   ["end", n]
- * and an item one of these, with items in the `el`, or one of
+ * and an item is one of these, with items in the `el`, or one of
  *     ["space"]   ["break"]   ["hole"]   ["block", [item, ..]]   ["box", [item, ..]]
- * JSON is read 127 levels deep, which are 63 elements in one another.
+ * JSON is read 127 levels deep, which is 63 elements within one another.
  */
 struct typst_html_reply typst_html_write(uint8_t kind, uint8_t layout, const uint8_t *input,
                                          size_t length, uint8_t *output, size_t room);
 
 /*
- * The text of a document with what is known of it, with footnotes and with nodes for its head. The input
- * spells an object:
+ * Writes the text of a document with information about it, footnotes and nodes for its head. The
+ * input is an object:
  *     {"title": t, "description": t, "authors": [t, ..], "keywords": [t, ..], "lang": t, "region": t,
  *      "items": [item, ..], "footnotes": [item, ..], "head": [node, ..]}
- * Each member may be left out, but for the "lang" of a "region"; another is bad input. Nodes and items are
- * those of typst_html_write; an item may also be one of
+ * Each member may be left out, except the "lang" of a "region"; any other member is bad input.
+ * Nodes and items are those of typst_html_write; an item may also be one of
  *     ["el", tag, [[name, value], ..], [[property, value], ..], [item, ..]]   ["start", n, dest, label]
  *     ["place", name]   ["link", name]   ["role", role, item]
- * where dest and role may be null. What stands behind a place is the place of that name, and an `a` right
- * behind a link leads there. A document has names or numbers of locations, not both.
+ * where dest and role may be null. What stands after a place is the place of that name, and an `a`
+ * right after a link leads there. A document has names or numbers of locations, not both.
  *
- * With links = 1 each `a` without `href` behind a link, or behind a start with a destination, gets the
- * `href` of that place; with links = 0 none does. Where the document has no such place, the `a` stays as it
- * is, and the status is TYPST_HTML_DEAD_LINKS in place of TYPST_HTML_DONE: the text is there all the same.
- * Bodies may stand `limit` deep, from 1 to 10,000. The lists are numbered through the items, then the
- * footnotes, then the head.
+ * With links = 1 each `a` without `href` after a link, or after a start with a destination, gets
+ * the `href` of that place; with links = 0 none does. If the document has no such place, the `a`
+ * stays as it is, and the status is TYPST_HTML_DEAD_LINKS instead of TYPST_HTML_DONE; the text is
+ * written all the same. Bodies may be nested `limit` deep, from 1 to 10,000. The lists are numbered
+ * through the items, then the footnotes, then the head.
  */
 struct typst_html_reply typst_html_document(uint8_t layout, uint8_t links, uint32_t limit,
                                             const uint8_t *input, size_t length, uint8_t *output,
                                             size_t room);
 
 /*
- * The text of items by themselves, with no document type, head and body: a piece of a page that another
- * program makes. The input spells a list of items, which are those of typst_html_document:
+ * Writes the text of items without document type, head and body: a piece of a page that another
+ * program makes. The input is a list of items, which are those of typst_html_document:
  *     [item, ..]
- * Put into a `div`, the text is read as the nodes of these items, and at the level of blocks the spaces of
- * items in plain flow stay. At the level of a line, a space at either end of the text is left as it is. Links get
- * neither anchors nor an `href`, since both depend on the ids of the whole page. Bodies may stand `limit` deep,
- * from 1 to 10,000.
+ * A browser reads the text in a `div` as the nodes of these items. At the level of blocks, the
+ * spaces of items in plain flow stay. At the level of a line, a space at either end of the text is
+ * left as it is. Links get neither anchors nor an `href`, since both depend on the ids of the whole
+ * page. Bodies may be nested `limit` deep, from 1 to 10,000.
  */
 struct typst_html_reply typst_html_fragment(uint8_t level, uint32_t limit, const uint8_t *input,
                                             size_t length, uint8_t *output, size_t room);
 
 /*
- * The links that lead nowhere in that document with links = 1, as JSON, in document order:
+ * Writes as JSON the links that lead nowhere in the document that typst_html_document makes with
+ * links = 1, in document order:
  *     {"dead_links":[{"destination":n,"span":n},..]}
- * A destination is the number behind the start, or which of the document's names the link has, as they are
- * first told, counted from 1; and a span the number of the list of the `a`. Input, limit
- * and refusals are those of typst_html_document; where all links lead the list is empty, with status 0.
+ * A destination is the `dest` of a start, or the number of the name of a link; the names of the
+ * document are counted from 1, in the order in which they first occur. A span is the number of the
+ * list of the `a`. Input, limit and refusals are those of typst_html_document. If every link
+ * has a destination in the document, the list is empty and the status is 0.
  */
 struct typst_html_reply typst_html_dead_links(uint32_t limit, const uint8_t *input, size_t length,
                                               uint8_t *output, size_t room);
 
 /*
- * The members that tell what the text of that document does not show, as JSON: all that tell something, where
- * the items have an `html` of their own, whose head is theirs too, and else none.
+ * Writes as JSON the members whose information the text of the document does not show. If the items
+ * have an `html` of their own, whose head is theirs too, these are all members that hold any
+ * information; otherwise there are none.
  *     {"unused":["title","lang"]}
- * They stand in the order of the form above, "head" last; an empty list tells nothing. Input and limit are those of
- * typst_html_document, which refuses whatever is refused here.
+ * The members are in the order of the form above, with "head" last; an empty list holds no
+ * information. Input and limit are those of typst_html_document, which refuses whatever is refused
+ * here.
  */
 struct typst_html_reply typst_html_unused(uint32_t limit, const uint8_t *input, size_t length,
                                           uint8_t *output, size_t room);
 
 /*
- * What is wrong in a page, as JSON: the links to fragments of the page itself that lead nowhere, the ids
- * that stand in it before, and the nodes that a browser would not leave where they are if the tree that is
- * read were written, each with its place.
+ * Writes as JSON what is wrong in a page: the links to fragments of the page itself that lead
+ * nowhere, the ids that an earlier element has too, and the nodes that a browser would not leave
+ * where they are if the tree of the page were written, each with its place.
  *     {"dead_fragments":[{"fragment":t,"keeps":n,"path":[n,..],"offset":n,"line":n,"column":n},..],
  *      "repeated_ids":[{"id":t,"keeps":n,"path":[n,..],"offset":n,"line":n,"column":n},..],
  *      "misnested":[{"rule":t,"why":t,"keeps":n,"path":[n,..],"offset":n,"line":n,"column":n},..]}
- * The path of each is the index of each child on the way from the root, texts counted. It begins with the
- * first `keeps` indices of the path of the finding before it in its list, and goes on with those of
- * `path`; the first keeps none. So the text is no longer where findings stand deep. The place is that of
- * the `<` of the start tag, of a text that of the element in which it stands: how many bytes of the page
- * stand before, and the line and the column, as of a reply. `rule` names what a misnested node breaks, and
- * `why` says in English what becomes of it. Read members by their names: there may be more.
+ * A path has the index of each child on the way from the root, texts counted. It begins with the
+ * first `keeps` indices of the path of the previous finding in the list, and goes on with those of
+ * `path`; the first finding keeps none. So the text does not grow with the depth of the findings.
+ * The place is that of the `<` of the start tag, or, for a text, that of the element in which it
+ * stands: how many bytes of the page stand before it, and the line and the column, as in a reply.
+ * `rule` names the rule that a misnested node breaks, and `why` says in English what a browser does
+ * with it. Read the members by their names: there may be more.
  *
- * Any page is read, as a browser reads it whose scripting is disabled: what may be left out is implied, and
- * errors are gone over. But where a browser would move nodes or make them a second time, it is refused, with
- * the place of the tag or the character; so it is where an element would stand deeper than `limit`, which is
- * from 1 to 1,000: `html` stands at 1. A page that is no UTF-8 is bad input, with the place of the first
- * byte that is none.
+ * The page is read as a browser with scripting disabled reads it: tags that may be left out are
+ * implied, and errors are recovered from. But a page in which a browser would move nodes or make
+ * them a second time is refused, with the place of the tag or the character, and so is one in which
+ * an element would stand deeper than `limit`, which is from 1 to 1,000; `html` stands at 1. A page
+ * that is not UTF-8 is bad input, with the place of the first byte that is invalid.
  */
 struct typst_html_reply typst_html_check(uint32_t limit, const uint8_t *page, size_t length,
                                          uint8_t *output, size_t room);
 
 /*
- * What links between pages need to know of a page, as JSON, each list in document order:
+ * Writes as JSON what a check of links between pages needs from a page, each list in document
+ * order:
  *     {"ids":[{"id":t,"keeps":n,"path":[n,..],"offset":n,"line":n,"column":n},..],
  *      "names":[{"name":t,"keeps":n,"path":[n,..],"offset":n,"line":n,"column":n},..],
  *      "links":[{"href":t,"keeps":n,"path":[n,..],"offset":n,"line":n,"column":n},..]}
- * A link with a fragment may lead to each `id` of an element, and to each `name` of an `a`; empty ones are
- * left out. The links are the addresses of `a` and `area`, as they are written, an empty one too. Paths and
- * places, pages, limits and refusals are those of typst_html_check.
+ * A link with a fragment may lead to each `id` of an element and to each `name` of an `a`; empty
+ * ones are left out. The links are the addresses of `a` and `area`, as they are written, including
+ * empty ones. Paths, places, pages, limits and refusals are those of typst_html_check.
  */
 struct typst_html_reply typst_html_links(uint32_t limit, const uint8_t *page, size_t length,
                                          uint8_t *output, size_t room);
 
 /*
- * The same calls for strings of C: `input` and `page` end with a NUL, and so does what is written. `room`
- * counts that NUL, `length` does not: where `output` is too short, `length` + 1 is enough.
+ * The same calls for C strings: `input` and `page` end with a NUL, and so does the text that is
+ * written. `room` counts that NUL, `length` does not: if `output` is too short, `length` + 1 bytes
+ * are enough.
  */
 
-/* The reply, behind whose text there is now a NUL. */
+/* Writes a NUL after the text of the reply, if there is one, and returns the reply. */
 static inline struct typst_html_reply typst_html_ended(struct typst_html_reply reply, char *output) {
     if (reply.status == TYPST_HTML_DONE || reply.status == TYPST_HTML_DEAD_LINKS)
         output[reply.length] = '\0';

@@ -1,9 +1,10 @@
 /*
- * example tree|items|document [--pretty] [--links]: JSON from standard input becomes HTML on standard
- * output. example fragment: items by themselves do. example dead-links: the links that lead nowhere in a document are told in JSON. example check:
- * a page from standard input is checked, and what is wrong in it is told in JSON. example links: its ids and
- * its links are. It ends with the status of the call, and tells of a refusal, or of links that lead nowhere,
- * on standard error.
+ * example tree|items|document [--pretty] [--links]: writes the HTML of JSON from standard input to standard output.
+ * example fragment: writes items by themselves.
+ * example dead-links: reports in JSON the links of a document that lead nowhere.
+ * example check: reports in JSON what is wrong in a page from standard input.
+ * example links: reports its ids and its links.
+ * It ends with the status of the call, and reports a refusal, or links that lead nowhere, on standard error.
  */
 #include "typst_html.h"
 

@@ -82,7 +82,7 @@ static const struct row *first_text(void) {
     return row;
 }
 
-static void a_short_buffer_stays_and_its_length_is_told(void) {
+static void a_short_buffer_stays_and_its_length_is_returned(void) {
     const struct row *row = first_text();
     uint8_t output[4096];
     bool all = row->text_length <= sizeof output;
@@ -127,7 +127,7 @@ static void wrong_numbers_are_bad_input(void) {
     expect("no input", document_status(0, 0, 50, "") == TYPST_HTML_BAD_INPUT);
 }
 
-static void dead_links_are_told(void) {
+static void dead_links_are_reported(void) {
     const char *input = "{\"items\":[[\"start\",1,9],[\"el\",\"a\",[],[[\"text\",\"x\"]]]]}";
     const char *end = "<body><a>x</a></body></html>";
     const char *found = "{\"dead_links\":[{\"destination\":9,\"span\":2}]}";
@@ -140,7 +140,7 @@ static void dead_links_are_told(void) {
            reply.status == TYPST_HTML_TOO_SHORT && reply.span == 0 && output[0] == '.');
     size_t wanted = reply.length;
     reply = typst_html_document(0, 1, 50, json, length, output, sizeof output);
-    expect("a dead link is told", reply.status == TYPST_HTML_DEAD_LINKS && reply.span == 2 &&
+    expect("a dead link is reported", reply.status == TYPST_HTML_DEAD_LINKS && reply.span == 2 &&
                                       reply.length == wanted &&
                                       !memcmp(output + wanted - tail, end, tail));
     memset(output, '.', sizeof output);
@@ -226,7 +226,7 @@ static void pages_are_checked(void) {
 }
 
 /* A table stays in a p where no document type stands, and would not in the text of that tree. */
-static void misnested_nodes_are_told(void) {
+static void misnested_nodes_are_reported(void) {
     const char *found = "{\"dead_fragments\":[],\"repeated_ids\":[],\"misnested\":["
                         "{\"rule\":\"ClosesParagraph\",\"why\":\"closes the p that it stands in\","
                         "\"keeps\":0,\"path\":[1,0,0],\"offset\":3,\"line\":1,\"column\":4}]}";
@@ -240,7 +240,7 @@ static struct typst_html_reply linked(uint32_t limit, const char *page, uint8_t 
     return typst_html_links(limit, (const uint8_t *)page, strlen(page), output, room);
 }
 
-static void pages_tell_their_links(void) {
+static void links_of_pages_are_reported(void) {
     const char *page = "<!DOCTYPE html><h1 id=a>x</h1><a name=b href=\"c.html#d\">y</a>";
     const char *found = "{\"ids\":[{\"id\":\"a\",\"keeps\":0,\"path\":[1,0],"
                         "\"offset\":15,\"line\":1,\"column\":16}],"
@@ -303,7 +303,7 @@ static void pages_are_refused(void) {
 }
 
 /* Links to nowhere 990 deep: the text is no longer than that of as many at the top. Browsers go 511 deep, so one
-   node is told that stands deeper. */
+   node is reported that stands deeper. */
 static void deep_findings_are_short(void) {
     enum { DEEP = 990, COUNT = 10000, ROOM = 1 << 20 };
     const char *link = "<a href=\"#x\"></a>";
@@ -457,14 +457,14 @@ int main(int count, char **words) {
     bool is_short = count > 1 && !strcmp(words[1], "--short");
     expect("the version", typst_html_version() == TYPST_HTML_VERSION);
     rows_are_as_the_program_writes_them();
-    a_short_buffer_stays_and_its_length_is_told();
+    a_short_buffer_stays_and_its_length_is_returned();
     wrong_numbers_are_bad_input();
-    dead_links_are_told();
+    dead_links_are_reported();
     unused_members_are_listed();
     fragments_have_a_level_and_a_limit();
     pages_are_checked();
-    misnested_nodes_are_told();
-    pages_tell_their_links();
+    misnested_nodes_are_reported();
+    links_of_pages_are_reported();
     pages_are_read_as_browsers_read_them();
     pages_are_refused();
     deep_findings_are_short();

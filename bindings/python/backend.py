@@ -175,12 +175,12 @@ def build_wheel(wheel_directory: str, config_settings: object = None, metadata_d
     project, path = _project(), _library()
     library = path.read_bytes()
     tag, stem = tag_of(library), f"{PACKAGE}-{project['version']}"
-    told = f"Wheel-Version: 1.0\nGenerator: {PACKAGE}\nRoot-Is-Purelib: false\nTag: {tag}\n"
+    wheel = f"Wheel-Version: 1.0\nGenerator: {PACKAGE}\nRoot-Is-Purelib: false\nTag: {tag}\n"
     files = dict(sorted({**_sources(), f"{PACKAGE}/{path.name}": library}.items()))
     files |= {
         f"{stem}.dist-info/LICENSE": _licence(),
         f"{stem}.dist-info/METADATA": _metadata(project),
-        f"{stem}.dist-info/WHEEL": told.encode(),
+        f"{stem}.dist-info/WHEEL": wheel.encode(),
     }
     record = f"{stem}.dist-info/RECORD"
     files[record] = _record(files, record)

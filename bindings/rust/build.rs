@@ -1,6 +1,6 @@
-//! Finds the static library: in the folder that TYPST_HTML_LIB names, or else where bindings/build puts it, or
-//! where pkg-config knows it, or where the linker looks by itself. It need not be there before a program is
-//! linked, so that documentation and packages are made without it.
+//! Finds the static library: in the folder that TYPST_HTML_LIB names, or else in that of
+//! bindings/build, in that of pkg-config, or where the linker looks by itself. Nothing needs it
+//! before a program is linked, so documentation and packages are made without it.
 
 use std::env::var;
 use std::path::Path;
@@ -8,19 +8,19 @@ use std::process::Command;
 
 const FOLDER: &str = "TYPST_HTML_LIB";
 
-/// The folder of a library that is installed.
+/// Returns the folder of an installed library, as pkg-config reports it.
 fn installed() -> Option<String> {
     let words = ["--variable=libdir", "typst_html"];
-    let told = Command::new("pkg-config").args(words).output().ok()?;
-    let folder = String::from_utf8(told.stdout).ok()?.trim().to_owned();
-    Some(folder).filter(|folder| told.status.success() && !folder.is_empty())
+    let output = Command::new("pkg-config").args(words).output().ok()?;
+    let folder = String::from_utf8(output.stdout).ok()?.trim().to_owned();
+    Some(folder).filter(|folder| output.status.success() && !folder.is_empty())
 }
 
 fn main() {
     println!("cargo:rerun-if-env-changed={FOLDER}");
     println!("cargo:rerun-if-env-changed=PKG_CONFIG_PATH");
     println!("cargo:rerun-if-changed=build.rs");
-    // (not bundled, a library is first wanted where a program is linked)
+    // (a library that is not bundled is needed only when a program is linked)
     println!("cargo:rustc-link-lib=static:-bundle=typst_html");
     let built = format!("{}/../out/lib", env!("CARGO_MANIFEST_DIR"));
     let is_built = Path::new(&built).join("libtypst_html.a").exists();

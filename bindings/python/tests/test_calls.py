@@ -321,7 +321,7 @@ class Calls(unittest.TestCase):
         self.assertEqual(caught.exception.path, ("items", 1))
         self.assertIs(caught.exception.item, paragraph)
 
-    def test_where_the_library_tells(self):
+    def test_where_the_library_reports(self):
         left = "a value is not what the form wants"
         for where, what, call in (
             ("write_json(data[1])", left, lambda: html.write_json('[["space"],["text",1]]')),
@@ -469,12 +469,12 @@ class Calls(unittest.TestCase):
     def test_links_of_a_page(self):
         page = '<html id=r><p id="">é<a id=s name=t href="b.html#c">x</a><map><area href></map>'
         root, a, area = ((), html.Place(0, 1, 1)), ((1, 0, 1), html.Place(22, 1, 22)), ((1, 0, 2, 0), html.Place(63, 1, 63))
-        told = html.links(page)
-        self.assertEqual(told.ids, tuple(html.PageId(path, id, place) for id, (path, place) in (("r", root), ("s", a))))
-        self.assertEqual(told.names, (html.PageName(a[0], "t", a[1]),))
+        listed = html.links(page)
+        self.assertEqual(listed.ids, tuple(html.PageId(path, id, place) for id, (path, place) in (("r", root), ("s", a))))
+        self.assertEqual(listed.names, (html.PageName(a[0], "t", a[1]),))
         links = tuple(html.PageLink(path, href, place) for href, (path, place) in (("b.html#c", a), ("", area)))
-        self.assertEqual(told.links, links)
-        self.assertEqual(html.links(page.encode()), told)
+        self.assertEqual(listed.links, links)
+        self.assertEqual(html.links(page.encode()), listed)
         for bad, limit, failure in (("<table>a", 50, Refused), ("", 0, html.BadInput), (b"\xff", 50, html.BadInput)):
             with self.subTest(bad), self.assertRaises(failure):
                 html.links(bad, limit=limit)
@@ -534,11 +534,11 @@ class Calls(unittest.TestCase):
             for limit in (4, 50, 500, 999, 1000):
                 deep = limit - 3
                 found = html.check('<div id="a"><a href="#b"></a>' * deep, limit=limit)
-                told.append((len(found.dead_fragments), len(found.repeated_ids) + 1) == (deep, deep))
+                checked.append((len(found.dead_fragments), len(found.repeated_ids) + 1) == (deep, deep))
                 page = html.links('<div id="a"><a href="#b"></a>' * deep, limit=limit)
-                told.append((len(page.ids), len(page.links)) == (deep, deep))
+                checked.append((len(page.ids), len(page.links)) == (deep, deep))
 
-        told: list[bool] = []
+        checked: list[bool] = []
         before = threading.stack_size(256 << 10)
         try:
             thread = threading.Thread(target=checks)
@@ -546,7 +546,7 @@ class Calls(unittest.TestCase):
         finally:
             threading.stack_size(before)
         thread.join()
-        self.assertEqual(told, [True] * 10)
+        self.assertEqual(checked, [True] * 10)
 
     def test_findings_deep_in_their_page_have_whole_paths(self):
         link = '<a href="#x" id="i"></a>'

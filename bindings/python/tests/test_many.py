@@ -64,8 +64,8 @@ class Many(unittest.TestCase):
         with tempfile.TemporaryDirectory() as folder:
             records, mails = Path(folder, "records"), Path(folder, "mails")
             records.write_text("".join(f"{line}\n" for line, _ in RECORDS))
-            status, _, told = run("write_mails.py", "--batch", "3", records, mails)
-            self.assertEqual((status, told.splitlines()[-1].split(":")[0]), (1, "2 mails, 6 failed"))
+            status, _, report = run("write_mails.py", "--batch", "3", records, mails)
+            self.assertEqual((status, report.splitlines()[-1].split(":")[0]), (1, "2 mails, 6 failed"))
             names = ("mails-000000001.jsonl", "mails-000000004.jsonl", "mails-000000007.jsonl", "failures.jsonl")
             self.assertEqual({path.name for path in mails.iterdir()}, set(names))
             written = [json.loads(line) for name in names[:3] for line in (mails / name).read_text().splitlines()]
@@ -80,8 +80,8 @@ class Many(unittest.TestCase):
 
     def test_records_that_are_made_up(self):
         with tempfile.TemporaryDirectory() as folder:
-            status, _, told = run("write_mails.py", "1100", folder)
-            self.assertEqual((status, told.splitlines()[-1].split(":")[0]), (1, "1099 mails, 1 failed"))
+            status, _, report = run("write_mails.py", "1100", folder)
+            self.assertEqual((status, report.splitlines()[-1].split(":")[0]), (1, "1099 mails, 1 failed"))
 
     def test_pages(self):
         with tempfile.TemporaryDirectory() as folder:
@@ -90,15 +90,15 @@ class Many(unittest.TestCase):
                 path.parent.mkdir(exist_ok=True)
                 path.write_bytes(page)
             Path(folder, "h.html").symlink_to("h.html")
-            status, output, told = run("check_pages.py", "--batch", "2", folder)
+            status, output, report = run("check_pages.py", "--batch", "2", folder)
             found = [tuple(json.loads(line).values()) for line in output.splitlines()]
             top = Path(folder).resolve()
             self.assertEqual(found, [(str(top / name), *row) for name, _, rows in PAGES for row in rows or ()])
-            self.assertEqual((status, told.splitlines()[-1].split(":")[0]), (1, "1 pages, 4 failed"))
+            self.assertEqual((status, report.splitlines()[-1].split(":")[0]), (1, "1 pages, 4 failed"))
             Path(folder, "i").mkdir()
             self.assertEqual(run("check_pages.py", Path(folder, "i"))[:2], (0, ""))
-            status, output, told = run("check_pages.py", Path(folder, "none"))
-            self.assertEqual((status, output, told.endswith("none is no folder\n")), (2, "", True))
+            status, output, report = run("check_pages.py", Path(folder, "none"))
+            self.assertEqual((status, output, report.endswith("none is no folder\n")), (2, "", True))
 
     def test_batches_that_fail(self):
         words = batches.parser(None).parse_args(["--workers", "2"])

@@ -31,8 +31,8 @@ def only(pattern):
 
 def glibc(library):
     """Returns the newest glibc whose symbols a library uses, as objdump reports it."""
-    told = subprocess.run(["objdump", "-T", library], stdout=subprocess.PIPE, check=True, text=True).stdout
-    return max(int(found) for found in re.findall(r"GLIBC_2\.(\d+)", told))
+    symbols = subprocess.run(["objdump", "-T", library], stdout=subprocess.PIPE, check=True, text=True).stdout
+    return max(int(found) for found in re.findall(r"GLIBC_2\.(\d+)", symbols))
 
 
 def made_of_the_sdist(folder, **more):
@@ -100,7 +100,7 @@ class Sdist(unittest.TestCase):
         self.assertLessEqual({"PKG-INFO", "LICENSE", "pyproject.toml", "backend.py", "__init__.py", "py.typed"}, names)
         self.assertNotIn("libtypst_html.so", names)
 
-    def test_it_tells_that_the_library_is_missing(self):
+    def test_it_reports_that_the_library_is_missing(self):
         with tempfile.TemporaryDirectory() as folder:
             done = made_of_the_sdist(folder)
             self.assertNotEqual(done.returncode, 0)

@@ -1,4 +1,4 @@
-"""HTML text of documents, written by a library of proved code.
+"""Writes HTML text of documents with a library of proved code.
 
 >>> write([element("p", "Salt & vinegar")])[-45:]
 '<body><p>Salt &amp; vinegar</p></body></html>'
@@ -8,20 +8,20 @@
 ...     print(refused, refused.item)
 a void element has a child (refusal 12 at 2, items[1]) ['el', 'br', [], [['text', 'no']]]
 
-A document is a list of items. They are made by the functions `text`, `element`, `block`, `box`, `place`, `link`,
-`role`, `start` and `end` and the constants `SPACE`, `BREAK` and `HOLE`; a `str` where an item may stand is a text. Items are lists
-that JSON can hold, so others may make them, and `Node(["text", "a"])` is one for a checker of types. What is no item
-is refused where it is given, by `BadInput`, which has what is wrong and where:
+A document is a list of items. The functions `text`, `element`, `block`, `box`, `place`, `link`, `role`, `start` and
+`end` make items, and `SPACE`, `BREAK` and `HOLE` are items; a `str` in place of an item is a text. Items are lists that
+JSON can hold, so other code may make them, and a checker of types accepts `Node(["text", "a"])` as one. The call that
+gets a value that is no item raises `BadInput`, which has what is wrong and where:
 
 >>> element("p", "a", [element("b")])
 Traceback (most recent call last):
     ...
 typst_html_proved.BadInput: bad input at element(body[1]): an item is a list of items: give each of them
 
-`mypy --strict` refuses what is refused for its type.
+`mypy --strict` refuses each argument that is refused for its type.
 
-Links get the `href` of their destination where `write` is told so. What they lead to may be missing: then what
-is raised has the list of these links, and the text.
+With `links=True`, `write` gives links the `href` of their destination. If a destination is missing, it raises an
+error that has the list of these links, and the text.
 
 >>> try:
 ...     page = write([start(1, 7), element("a", "there"), end(1)], links=True)  # nothing starts 7
@@ -30,11 +30,10 @@ is raised has the list of these links, and the text.
 ...     page = dead.text
 links lead nowhere (1, the first at 2) (DeadLink(span=2, destination=7, path=('items', 1)),)
 
-A page, written here or elsewhere, can be checked: `check` tells of links within it that lead nowhere, of ids that
-come twice, and of nodes that browsers would move. `links` lists its ids and its links, so that links between pages can
-be checked.
+`check` reports what is wrong in a page, written here or elsewhere: links within it that lead nowhere, repeated ids, and
+nodes that browsers would move. `links` lists the ids and the links of a page, to check links between pages.
 
-Calls may be made from any number of threads, and run at once.
+Any number of threads may make calls, and these run at the same time.
 """
 
 from __future__ import annotations
@@ -59,7 +58,7 @@ __all__ = [
 ]  # fmt: skip
 
 __version__: Final = "0.1.0"
-"""The version of this package. `VERSION` is that of the library's calls."""
+"""The version of this package. `VERSION` is the version of the library's calls."""
 
 for _kind in (DeadFragment, Findings, Misnested, PageId, PageLink, PageLinks, PageName, Place, RepeatedId):
     _kind.__module__ = __name__
@@ -74,7 +73,7 @@ class Node(list[object]):
 
 
 class Mark(tuple[object, ...]):
-    """An item without a body, which nothing changes: `SPACE`, `BREAK` or `HOLE`.
+    """An item without a body that can't be changed: `SPACE`, `BREAK` or `HOLE`.
 
     >>> element("p", "a", BREAK, "b")
     ['el', 'p', [], [['text', 'a'], ('break',), ['text', 'b']]]
@@ -84,7 +83,7 @@ class Mark(tuple[object, ...]):
 
 
 Item = Union[str, Node, Mark]
-"""An item: a text, or what spells one."""
+"""An item: a text, or a list that spells an item."""
 
 Items = Union[Sequence[Item], Iterator[Item], ValuesView[Item]]
 """Items in their order. A `str` is one text."""
@@ -96,12 +95,12 @@ Attrs = Union[Mapping[str, str], Iterable[tuple[str, str]]]
 """Names and values, in their order."""
 
 Level = Literal["block", "inline"]
-"""Where the text of `write_fragment` is put: on lines of its own, or in a line."""
+"""The position of the text of `write_fragment` in a page: on lines of its own, or in a line."""
 
 LEVELS: Final[Mapping[str, int]] = MappingProxyType({"block": 0, "inline": 1})
 
 Kind = Literal["tree", "items", "document"]
-"""What JSON spells."""
+"""The kind of value that JSON spells."""
 
 SPACE: Final = Mark(["space"])
 """A space, as between two words."""
@@ -110,11 +109,11 @@ BREAK: Final = Mark(["break"])
 """A line break."""
 
 HOLE: Final = Mark(["hole"])
-"""Something that has no place in HTML, and is left out."""
+"""Something that has no place in HTML and is left out."""
 
 
 class Failure(Exception):
-    """There is no text, or none without dead links. What the calls raise is one of these.
+    """There is no text, or none without dead links. Each error that a call raises is one of these.
 
     >>> try:
     ...     write([element("p q")])
@@ -124,21 +123,21 @@ class Failure(Exception):
     """
 
     place: Place | None = None
-    """Where, if a page that is checked is the reason."""
+    """The place, if the reason is in a page that is checked."""
 
     path: ItemPath | None = None
-    """Where, if an item is the reason, or what stands in the place of one: the names and indices that lead to it in the
-    JSON that was given, or as the items of `write` and the root of `write_tree` spell it. So `("items", 2, 3, 0)` is the
-    first item in the body of an element, which is the third item."""
+    """The path, if the reason is an item or a value in place of one: the names and indices that lead to it in the caller's
+    JSON, or in the JSON that spells the items of `write` or the root of `write_tree`. So `("items", 2, 3, 0)` is the first
+    item in the body of an element, which is the third item."""
 
     item: Any = None
-    """What stands there."""
+    """The item or value at that path."""
 
 
 class Refused(Failure):
-    """What is to be written breaks a rule of HTML, or stands where it may not; or a page that is checked is not
-    read: a browser would move nodes of it or make them a second time, it holds what no element can have here, or its
-    elements stand deeper than the limit.
+    """The input breaks a rule of HTML, or holds something where it may not stand. Or a page that is checked is not read: a
+    browser would move nodes of it or make them a second time, it holds what no element of this project can have, or its
+    elements are deeper than the limit.
 
     >>> try:
     ...     write([block("a", element("br", "no"))])
@@ -153,12 +152,11 @@ class Refused(Failure):
     """
 
     number: int
-    """Which rule: a key of `WORDS`."""
+    """The number of the rule: a key of `WORDS`."""
 
     span: int
-    """Where: the number of the list of an item, counted from 1 by their opening brackets as they stand in
-    JSON, those of footnotes after those of items; 0 where it has no place. Of a page that is checked: how many
-    bytes of it stand before."""
+    """The number of the list of the item, counted from 1 by their opening brackets in JSON, those of footnotes after those
+    of items; 0 if the refusal has no place. For a page that is checked, the number of bytes before the place."""
 
     def __init__(
         self, number: int, span: int, place: Place | None = None, path: ItemPath | None = None, item: Any = None
@@ -168,7 +166,7 @@ class Refused(Failure):
 
     @property
     def words(self) -> str:
-        """What is wrong."""
+        """Returns words for what is wrong."""
         return WORDS.get(self.number, "refused")
 
     def __str__(self) -> str:
@@ -177,8 +175,8 @@ class Refused(Failure):
 
 
 class BadInput(Failure, ValueError):
-    """An argument is wrong: it has another type or value than the call takes, or spells nothing that can be written,
-    or nests more than 127 lists; or a page that is checked is no UTF-8.
+    """An argument is wrong: the call does not take its type or value, or it spells nothing that can be written, or it nests
+    more than 127 lists; or a page that is checked is no UTF-8.
 
     >>> try:
     ...     write(["a", None])
@@ -193,18 +191,18 @@ class BadInput(Failure, ValueError):
     """
 
     where: str
-    """Where: the call and its argument, or a part of it, as `write(items[1])`. Of what is no JSON the line and the
-    column, and of a page that is no UTF-8 the place in it."""
+    """The call and its argument, or a part of it, such as `write(items[1])`. For input that is no JSON, the line and the
+    column; for a page that is no UTF-8, the place in it."""
 
     span: int
-    """Where the form is left: how many lists of items are opened in the JSON up to the first value that is not
-    what the form wants, counted as those of a refusal; 0 before the first, and where there is no such place."""
+    """The number of lists of items that are opened in the JSON up to the first value that does not have the form, counted
+    as those of a refusal; 0 before the first, or if there is no such value."""
 
     line: int
-    """The line in the JSON, from 1 on, where it is none; else 0."""
+    """The line where the input is no JSON, counted from 1; otherwise 0."""
 
     column: int
-    """The column there, in bytes from 1 on; where the JSON ends too soon, how long its last line is."""
+    """The column there, counted from 1 in bytes; if the JSON ends too soon, the length of its last line."""
 
     def __init__(
         self,
@@ -224,9 +222,9 @@ class BadInput(Failure, ValueError):
 
     @property
     def what(self) -> str:
-        """What is wrong."""
-        told = "it is no JSON" if self.line else "a value is not what the form wants"
-        return ": ".join(map(str, self.args)) or told
+        """Returns words for what is wrong."""
+        words = "it is no JSON" if self.line else "a value is not what the form wants"
+        return ": ".join(map(str, self.args)) or words
 
     def __str__(self) -> str:
         if self.place:
@@ -247,20 +245,21 @@ class DeadLink:
     """
 
     span: int
-    """The number of its list in the JSON, counted as that of a refusal."""
+    """The number of its list in the JSON, counted as for a refusal."""
     destination: int
-    """The location that it would lead to: its number, or that of its name among those of the document, from 1 on."""
+    """The location that it would lead to: its number, or the number of its name among those of the document, counted from
+    1."""
     name: str | None = field(default=None, compare=False, repr=False)
-    """The name of the place, where it has one."""
+    """The name of the place that it would lead to, if it has one."""
     path: ItemPath = field(default=(), compare=False)
-    """Where its `a` stands, as of a refusal."""
+    """The path of its `a`, as for a refusal."""
     item: Any = field(default=None, compare=False, repr=False)
     """Its `a`."""
 
 
 class DeadLinks(Failure):
-    """Links were to get the `href` of their destination, and for some no place of the document is one. The text
-    is there all the same.
+    """Links were to get the `href` of their destination, and some have a destination that is no place of the document. The
+    error has the text all the same.
 
     >>> try:
     ...     page = write([start(1, 7), element("a", "there")], links=True)
@@ -271,7 +270,7 @@ class DeadLinks(Failure):
     """
 
     text: str
-    """The text, in which these links stand without an `href`."""
+    """The text, in which these links have no `href`."""
 
     links: tuple[DeadLink, ...]
     """The links, in document order: at least one."""
@@ -282,7 +281,7 @@ class DeadLinks(Failure):
 
     @property
     def span(self) -> int:
-        """Where the first of them is: the number of its list."""
+        """Returns the span of the first link: the number of its list."""
         return self.links[0].span if self.links else 0
 
     def __str__(self) -> str:
@@ -290,7 +289,7 @@ class DeadLinks(Failure):
 
 
 class OutOfMemory(Failure, MemoryError):
-    """An allocation failed. It is Python's `MemoryError` too.
+    """An allocation failed. The error is Python's `MemoryError` too.
 
     >>> issubclass(OutOfMemory, MemoryError)
     True
@@ -301,7 +300,7 @@ class OutOfMemory(Failure, MemoryError):
 
 
 class OtherLibrary(Failure):
-    """The library replies as none of this version does. (One that tells another version is not imported.)
+    """The library replies as no library of this version does. (One that reports another version is not imported.)
 
     >>> str(OtherLibrary())
     'the library replies as none of version 7 does'
@@ -313,7 +312,7 @@ class OtherLibrary(Failure):
 
 @dataclass(frozen=True)
 class Info:
-    """What is known of a document, for its head.
+    """The information about a document, for its head.
 
     >>> info = Info(title="Tides", authors=["Reed"], lang="de", region="AT")
     >>> "<title>Tides</title>" in write([], info=info)
@@ -325,12 +324,12 @@ class Info:
     authors: Texts = ()
     keywords: Texts = ()
     lang: str | None = None
-    """The language, as `de`."""
+    """The language, such as `de`."""
     region: str | None = None
-    """The region in which the language is spoken, as `AT`. Without a language it is left out."""
+    """The region in which the language is spoken, such as `AT`. It is left out if there is no language."""
 
     def members(self) -> dict[str, Any]:
-        """What is known as the library reads it."""
+        """Returns the information in the form that the library reads."""
         given = {
             "title": _known("a title", self.title, "Info(title)"),
             "description": _known("a description", self.description, "Info(description)"),
@@ -343,17 +342,17 @@ class Info:
 
 
 
-# Checks of arguments. `where` is a place as `BadInput` tells it, in which `at` stands for `{}`.
+# Checks of arguments. `where` is the place that `BadInput` reports; `at` replaces `{}` in it.
 
 
-def _told(value: object) -> str:
-    """How a value is told of that is refused."""
+def _kind_of(value: object) -> str:
+    """Returns the words for a refused value."""
     return "None" if value is None else f"of type {type(value).__name__}"
 
 
 def _str(what: str, value: object, where: str, at: int = 0) -> str:
     if not isinstance(value, str):
-        raise BadInput(f"{what} is {_told(value)}, not a str", where=where.format(at))
+        raise BadInput(f"{what} is {_kind_of(value)}, not a str", where=where.format(at))
     return value
 
 
@@ -363,7 +362,7 @@ def _known(what: str, value: str | None, where: str) -> str | None:
 
 def _number(what: str, value: object, least: int, most: int, where: str) -> int:
     if not isinstance(value, int) or isinstance(value, bool):
-        raise BadInput(f"{what} is {_told(value)}, not an int", where=where)
+        raise BadInput(f"{what} is {_kind_of(value)}, not an int", where=where)
     if not least <= value <= most:
         raise BadInput(f"{what} is {value}, not from {least} to {most}", where=where)
     return value
@@ -377,11 +376,11 @@ def _iterated(what: str, value: Any, where: str) -> Iterator[Any]:
     try:
         return iter(value)
     except TypeError:
-        raise BadInput(f"{what} are {_told(value)}", where=where) from None
+        raise BadInput(f"{what} are {_kind_of(value)}", where=where) from None
 
 
 def _texts(what: str, texts: Texts) -> list[str]:
-    """A list of texts of an `Info`; one text alone is none, though its characters are texts."""
+    """Returns the list of texts of an `Info`. Refuses a single text, though its characters are texts."""
     where = f"Info({what})"
     if isinstance(texts, str):
         raise BadInput(f"{what} are one str, not a list of them", where=where)
@@ -390,13 +389,13 @@ def _texts(what: str, texts: Texts) -> list[str]:
 
 
 def _item(item: object, where: str, at: int = 0) -> Sequence[object]:
-    """The item as JSON can hold it."""
+    """Returns the item as a list that JSON can hold."""
     if isinstance(item, str):
         return text(item)
     if isinstance(item, (Node, Mark)):
         return item
     if not isinstance(item, (list, tuple)):
-        raise BadInput(f"an item is {_told(item)}", where=where.format(at))
+        raise BadInput(f"an item is {_kind_of(item)}", where=where.format(at))
     if not item or not isinstance(item[0], str):
         raise BadInput("an item is a list of items: give each of them", where=where.format(at))
     if item[0] not in ITEMS_OF_DOCUMENTS:
@@ -410,35 +409,35 @@ def _items(items: Iterable[object], where: str) -> list[Sequence[object]]:
 
 
 def _listed(call: str, what: str, items: Items) -> list[Sequence[object]]:
-    """The items or the footnotes of a document that is given to that call."""
+    """Returns the items, the footnotes or the nodes of the head of a document that is an argument of that call."""
     where = f"{call}({what})"
     if isinstance(items, str):
         return [text(items)]
     if isinstance(items, (Node, Mark)):
         raise BadInput(f"{what} are one item, not a list of them", where=where)
     if isinstance(items, Mapping):
-        raise BadInput(f"{what} are {_told(items)}", where=where)
+        raise BadInput(f"{what} are {_kind_of(items)}", where=where)
     return _items(_iterated(what, items, where), f"{call}({what}[{{}}])")
 
 
 def _pair(what: str, argument: str, pair: object, at: int) -> list[str]:
-    """An attribute or a property of an element."""
+    """Returns an attribute or a property of an element."""
     where = f"element({argument}[{at}])"
     if not isinstance(pair, (list, tuple)) or len(pair) != 2:
-        raise BadInput(f"{what} is {_told(pair)}, not a pair of a name and a value", where=where)
+        raise BadInput(f"{what} is {_kind_of(pair)}, not a pair of a name and a value", where=where)
     name, value = pair
     one = what.split()[-1]
     return [_str(f"the name of {what}", name, where), _str(f"the value of the {one} {name!r}", value, where)]
 
 
 def _pairs(what: str, listed: str, argument: str, pairs: Attrs) -> list[list[str]]:
-    """The attributes or the properties of an element."""
+    """Returns the attributes or the properties of an element."""
     each = pairs.items() if isinstance(pairs, Mapping) else _iterated(listed, pairs, f"element({argument})")
     return [_pair(what, argument, pair, at) for at, pair in enumerate(each)]
 
 
 def text(of: str) -> Node:
-    """A text, whatever is in it.
+    """Returns a text, which may hold any characters.
 
     >>> write_tree(element("p", text("a < b")))
     '<!DOCTYPE html><p>a &lt; b</p>'
@@ -447,8 +446,8 @@ def text(of: str) -> Node:
 
 
 def element(tag: str, *body: Item, attrs: Attrs = (), css: Attrs = ()) -> Node:
-    """An element with that body. Attributes are a mapping, or pairs of a name and a value; so are css properties, which
-    go into its `style`, and of which the last of a name counts. What `write_tree` writes has no css.
+    """Returns an element with that body. Attributes are a mapping, or pairs of a name and a value, and so are css properties,
+    which go into its `style`. If the name of a property is repeated, the last one counts. Trees of `write_tree` have no css.
 
     >>> element("a", "Home", attrs={"href": "/"})
     ['el', 'a', [['href', '/']], [['text', 'Home']]]
@@ -466,7 +465,7 @@ def element(tag: str, *body: Item, attrs: Attrs = (), css: Attrs = ()) -> Node:
 
 
 def block(*body: Item) -> Node:
-    """What stands in a block of its own.
+    """Returns a block of its own with that body.
 
     >>> write([block("a"), block("b")]).split("<body>")[1]
     '<div>a</div><div>b</div></body></html>'
@@ -475,7 +474,7 @@ def block(*body: Item) -> Node:
 
 
 def box(*body: Item) -> Node:
-    """What stands in a box within a line.
+    """Returns a box within a line with that body.
 
     >>> write(["a", box("b")]).split("<body>")[1]
     'a<span style="display: inline-block">b</span></body></html>'
@@ -484,7 +483,7 @@ def box(*body: Item) -> Node:
 
 
 def role(of: str | None, item: Item) -> Node:
-    """The item with that role, or with `None` without one; of two around an item the outer counts.
+    """Returns the item with that role, or without a role if it is `None`. If an item has two around it, the outer one counts.
 
     >>> write([role("note", element("aside", "a"))]).split("<body>")[1]
     '<aside role="note">a</aside></body></html>'
@@ -494,7 +493,7 @@ def role(of: str | None, item: Item) -> Node:
 
 
 def place(name: str) -> Node:
-    """What stands next is the place of that name, to which links lead.
+    """Returns a mark that makes the next item the place of that name, to which links lead.
 
     A document has places by name or locations by number (`start`, `end`), not both.
 
@@ -506,7 +505,7 @@ def place(name: str) -> Node:
 
 
 def link(name: str) -> Node:
-    """The `a` that stands next leads to the place of that name, wherever that is: see `place`.
+    """Returns a mark that makes the next `a` a link to the place of that name, wherever that is: see `place`.
 
     >>> try:
     ...     page = write([link("moon"), element("a", "there")], links=True)
@@ -518,8 +517,8 @@ def link(name: str) -> Node:
 
 
 def start(location: int, destination: int | None = None, label: str | None = None) -> Node:
-    """A location begins, and perhaps leads to another: links get its `href` where `write` resolves them. What stands
-    there gets the label as its `id`, if links lead to it and it has none.
+    """Returns the start of a location. If it has a destination, links in it get the `href` of that if `write` resolves
+    links. The element there gets the label as its `id`, if links lead to it and it has none.
 
     >>> there = [start(1, 7), element("a", "there"), end(1)]
     >>> write([*there, start(7), element("h2", "Here"), end(7)], links=True).split("<body>")[1]
@@ -536,7 +535,7 @@ def start(location: int, destination: int | None = None, label: str | None = Non
 
 
 def end(location: int) -> Node:
-    """The location ends.
+    """Returns the end of a location.
 
     >>> end(7)
     ['end', 7]
@@ -545,15 +544,15 @@ def end(location: int) -> Node:
 
 
 def _json(value: Any) -> bytes:
-    """The value in JSON. A text with half of a surrogate pair has no UTF-8, so JSON cannot hold it."""
+    """Returns the value in JSON. Fails for a text with half of a surrogate pair, which has no UTF-8."""
     return json.dumps(value, ensure_ascii=False, separators=(",", ":")).encode()
 
 
 class _Given:
-    """What a call is to write: JSON that is given, or a value that JSON can hold."""
+    """The input of a call that writes: JSON of the caller, or a value that JSON can hold."""
 
     OUTSIDE: Final[Mapping[str, int]] = {"tree": 0, "items": 1, "fragment": 1, "document": 2}
-    """How long the paths are, at the least, that lead to items."""
+    """The least length of paths that lead to items."""
 
     def __init__(self, call: str, argument: ItemPath, kind: Kind | Literal["fragment"], *, data: bytes = b"", value: Any = None) -> None:
         self.call, self.argument, self.kind, self.is_json = call, argument, kind, value is None
@@ -566,19 +565,19 @@ class _Given:
 
     @property
     def value(self) -> Any:
-        """What the JSON spells."""
+        """Returns the value that the JSON spells."""
         if self._value is None:
             self._value = value_of(self.data)
         return self._value
 
     def _where(self, path: ItemPath) -> str:
-        """How a place is told."""
+        """Returns the place that an error reports for a path."""
         if self.kind == "document" and not self.is_json and path and path[0] not in LISTS:
             return f"Info({shown(path)})"
         return f"{self.call}({shown(self.argument + path)})"
 
     def _without_json(self) -> tuple[ItemPath, Any]:
-        """The first part of a value that JSON cannot hold, though the form is right, and where it stands."""
+        """Returns the path of the first part that JSON cannot hold though it has the right form, and that part."""
         parts: Any = self.value.items() if self.kind == "document" else ()
         for name, part in parts:
             each = enumerate(part) if isinstance(part, list) else ()
@@ -590,7 +589,7 @@ class _Given:
         return (), self.value
 
     def _bad_input(self, span: int, *words: object) -> BadInput:
-        """Where the form is left, or else what JSON cannot hold."""
+        """Returns the error for the first value that does not have the form, or else for what JSON cannot hold."""
         outside = self.OUTSIDE[self.kind]
         spot = left(self.kind, self.value)
         if spot is None:
@@ -603,7 +602,7 @@ class _Given:
         return BadInput(*words, where=self._where(spot.path), span=spot.number, path=spot.path, item=item)
 
     def failure(self, reply: Reply) -> Failure:
-        """Why there is no text."""
+        """Returns the error for a reply without a text."""
         if reply.status == Status.REFUSED:
             spot = numbered(self.kind, self.value, [reply.span]).get(reply.span)
             path, item = (spot.path, spot.value) if spot else (None, None)
@@ -614,14 +613,14 @@ class _Given:
         return OutOfMemory() if reply.status == Status.OUT_OF_MEMORY else OtherLibrary()
 
     def dead_links(self, text: str, listed: list[dict[str, int]]) -> DeadLinks:
-        """The links that lead nowhere in a text, which the library lists."""
+        """Returns the error for a text with the dead links that the library lists."""
         spots = numbered(self.kind, self.value, (it["span"] for it in listed))
         named = dict(enumerate(names(self.value), 1))
         found = ((it, spots[it["span"]], named.get(it["destination"])) for it in listed)
         return DeadLinks(text, tuple(DeadLink(**it, name=name, path=spot.path, item=spot.value) for it, spot, name in found))
 
     def text(self, call: str, **numbers: int) -> str:
-        """The text that a call of the library makes of it."""
+        """Returns the text that a call of the library makes of it."""
         reply, output = called(call, self.data, **numbers)
         if reply.status == Status.DONE:
             return output.decode()
@@ -639,10 +638,10 @@ def _bytes(data: bytes | str, where: str) -> bytes:
 
 
 def _document(call: str, items: Items, footnotes: Items, head: Items, info: Info, limit: int) -> _Given:
-    """A document that is given to that call."""
+    """Returns the input of that call for a document."""
     _number("the limit", limit, 1, 10_000, f"{call}(limit)")
     if not isinstance(info, Info):
-        raise BadInput(f"info is {_told(info)}, not an Info", where=f"{call}(info)")
+        raise BadInput(f"info is {_kind_of(info)}, not an Info", where=f"{call}(info)")
     given = {"items": items, "footnotes": footnotes, "head": head}
     listed = {name: _listed(call, name, of) for name, of in given.items()}
     return _Given(call, (), "document", value={**info.members(), **listed})
@@ -652,12 +651,13 @@ def write(
     items: Items, *, info: Info = Info(), footnotes: Items = (), head: Items = (), pretty: bool = False, links: bool = False,
     limit: int = 50,
 ) -> str:  # fmt: skip
-    """The text of a document of these items.
+    """Returns the text of a document of these items.
 
-    `head` has what stands at the end of its head: texts and elements, which hold such alone. `pretty` lays it out in indented lines, where that can't be seen. `links` gives each `a` without `href`
-    behind a `link`, or a `start` with a destination, the `href` of that place, and raises `DeadLinks`, which has the
-    text, where the document has no such place. Bodies may stand `limit` deep, from 1 to 10,000; JSON is read
-    127 levels deep, which are 63 elements in one another.
+    `head` has the nodes at the end of its head: texts, and elements that hold only such. `pretty` lays the text out in
+    indented lines, wherever that does not change what is visible. `links` gives each `a` without `href` behind a `link`, or
+    a `start` with a destination, the `href` of that place; if the document has no such place, it raises `DeadLinks`, which
+    has the text. `limit` is the greatest depth of bodies, from 1 to 10,000; JSON is read 127 levels deep, which is 63
+    nested elements.
 
     >>> write(["a  b"], info=Info(title="T", lang="de", region="AT"))[:42]
     '<!DOCTYPE html><html lang="de-AT"><head><m'
@@ -672,8 +672,9 @@ def write(
 
 
 def unused(items: Items, *, info: Info = Info(), head: Items = (), limit: int = 50) -> tuple[str, ...]:
-    """The names of what is known of a document of these items that its text does not show: of all that is known, and
-    `head`, where the items have an `html` of their own, whose head is theirs too, and else of nothing.
+    """Returns the names of the information about a document of these items that its text does not show. If the items have an
+    `html` of their own, their head is used, and these are the names of all that is known, and `head`. Otherwise there are
+    none.
 
     >>> unused([element("html")], info=Info(title="T", lang="de"))
     ('title', 'lang')
@@ -687,7 +688,7 @@ def unused(items: Items, *, info: Info = Info(), head: Items = (), limit: int = 
 
 
 def _fragment(given: _Given, level: Level, limit: int) -> str:
-    """The text of items by themselves."""
+    """Returns the text of items by themselves."""
     if level not in LEVELS:
         raise BadInput(f"{level!r} is no level: block or inline", where=f"{given.call}(level)")
     _number("the limit", limit, 1, 10_000, f"{given.call}(limit)")
@@ -695,12 +696,12 @@ def _fragment(given: _Given, level: Level, limit: int) -> str:
 
 
 def write_fragment(items: Items, *, level: Level = "block", limit: int = 50) -> str:
-    """The text of items by themselves, with no document type, head and body: a piece of a page that another program makes,
-    such as a template engine.
+    """Returns the text of items by themselves, without document type, head and body: a piece of a page that another program
+    makes, such as a template engine.
 
-    Put into a `div`, the text is read as the nodes of these items. At the level `block` the spaces of items in plain flow
-    stay; at the level `inline` a space at either end of the text is left as it is. Links get neither anchors nor an
-    `href`, since both depend on the ids of the whole page. Bodies may stand `limit` deep, from 1 to 10,000.
+    In a `div`, the text is read as the nodes of these items. At the level `block` the spaces of items in plain flow stay;
+    at the level `inline` a space at either end of the text is left as it is. Links get neither anchors nor an `href`,
+    since both depend on the ids of the whole page. `limit` is the greatest depth of bodies, from 1 to 10,000.
 
     >>> write_fragment([element("p", "Salt & vinegar", css={"color": "red"})])
     '<p style="color: red">Salt &amp; vinegar</p>'
@@ -712,7 +713,8 @@ def write_fragment(items: Items, *, level: Level = "block", limit: int = 50) -> 
 
 
 def write_fragment_json(data: bytes | str, *, level: Level = "block", limit: int = 50) -> str:
-    """The text of items by themselves, which a JSON list spells: the items are those of a `document` of `write_json`.
+    """Returns the text of items by themselves, which a JSON list spells. The items have the form of those of a `document` of
+    `write_json`.
 
     >>> write_fragment_json('[["text","a < b"]]', level="inline")
     'a &lt; b'
@@ -724,8 +726,8 @@ def write_fragment_json(data: bytes | str, *, level: Level = "block", limit: int
 
 
 def write_tree(root: Item, *, pretty: bool = False) -> str:
-    """The text of a tree, given by its root, of which only texts, elements without css, starts and ends without labels may
-    be part.
+    """Returns the text of the tree with that root. It may hold only texts, elements without css, starts without labels, and
+    ends.
 
     >>> write_tree(element("p", "a < b"))
     '<!DOCTYPE html><p>a &lt; b</p>'
@@ -749,12 +751,12 @@ def write_json(data: bytes | str, *, kind: Kind = ..., pretty: bool = ...) -> st
 def write_json(
     data: bytes | str, *, kind: Kind = "items", pretty: bool = False, links: bool = False, limit: int = 50
 ) -> str:
-    """The text of what JSON spells: a `tree`, the `items` of a document, or a `document`, which is an object
-    with the members `title`, `description`, `authors`, `keywords`, `lang`, `region`, `items`, `footnotes` and `head`, of
-    which each may be left out, but for the `lang` of a `region`.
+    """Returns the text of what JSON spells: a `tree`, the `items` of a document, or a `document`. That is an object with the
+    members `title`, `description`, `authors`, `keywords`, `lang`, `region`, `items`, `footnotes` and `head`. Each may be
+    left out, but a `region` requires a `lang`.
 
-    `links` and `limit` are for a `document`, and mean what they do for `write`. The bodies of `items` may stand 50 deep.
-    What is refused or bad is read once more, by Python, for its path.
+    `links` and `limit` are for a `document`, and mean what they do for `write`. Bodies of `items` may be 50 deep. If the
+    input is refused or bad, Python reads it once more for the path.
 
     >>> write_json('["el","br",[],[]]', kind="tree")
     '<!DOCTYPE html><br>'
@@ -786,7 +788,7 @@ def write_json(
 
 
 def _unread(reply: Reply) -> Failure:
-    """Why a page is not read."""
+    """Returns the error for a page that is not read."""
     place = Place(reply.span, reply.line, reply.column)
     if reply.status == Status.REFUSED:
         return Refused(reply.number, reply.span, place)
@@ -795,24 +797,24 @@ def _unread(reply: Reply) -> Failure:
     return OutOfMemory() if reply.status == Status.OUT_OF_MEMORY else OtherLibrary()
 
 
-def _told_by(call: str, page: bytes | str, limit: int, where: str) -> dict[str, list[dict[str, Any]]]:
-    """What a call tells of a page."""
+def _reported_by(call: str, page: bytes | str, limit: int, where: str) -> dict[str, list[dict[str, Any]]]:
+    """Returns what a call reports of a page."""
     _number("the limit", limit, 1, 1_000, f"{where}(limit)")
     reply, output = called(call, _bytes(page, f"{where}(page)"), limit=limit)
     if reply.status != Status.DONE:
         raise _unread(reply)
-    told: dict[str, list[dict[str, Any]]] = json.loads(output.decode())
-    return told
+    report: dict[str, list[dict[str, Any]]] = json.loads(output.decode())
+    return report
 
 
 def check(page: bytes | str, *, limit: int = 50) -> Findings:
-    """What is wrong in a page: links to fragments of the page itself that lead nowhere, ids that stand in it before,
-    and nodes that a browser would not leave where they are if the tree of the page were written.
+    """Returns what is wrong in a page: links to fragments of the page itself that lead nowhere, ids that an earlier element
+    has, and nodes that a browser would not leave where they are if the tree of the page were written.
 
-    Any page is read, as a browser reads it whose scripting is disabled: what may be left out is implied, and errors
-    are gone over. But where a browser would move nodes or make them a second time, the page is `Refused`; so is one
-    with an element that would stand deeper than `limit`, which is from 1 to 1,000: `html` stands at 1. One that is no
-    UTF-8 is `BadInput`. Of both it is told where: in `place` of what is raised.
+    Reads any page, as a browser without scripting does: what may be left out is implied, and errors are recovered from.
+    But if a browser would move nodes or make them a second time, the page is `Refused`. So is a page with an element that
+    is deeper than `limit`, which is from 1 to 1,000: `html` has depth 1. A page that is no UTF-8 is `BadInput`. Both errors
+    have the place in `place`.
 
     >>> check("<title>Pie</title>\\n<p>Salt & <a href=#pepper>pepper</a>").dead_fragments
     (DeadFragment(path=(1, 0, 1), fragment='pepper', place=Place(offset=29, line=2, column=11)),)
@@ -823,15 +825,15 @@ def check(page: bytes | str, *, limit: int = 50) -> Findings:
 
     Raises `Refused`, `BadInput` or `OutOfMemory`.
     """
-    return findings_of(_told_by("typst_html_check", page, limit, "check"))
+    return findings_of(_reported_by("typst_html_check", page, limit, "check"))
 
 
 def links(page: bytes | str, *, limit: int = 50) -> PageLinks:
-    """What links between pages need to know of a page: the ids and names in it to which a link with a fragment may
+    """Returns what a check of links between pages needs of a page: the ids and names to which a link with a fragment may
     lead, and its own links.
 
-    Pages are read, limited and refused as by `check`. Where an address leads is for the caller to find out: it is told
-    as it is written.
+    Pages are read, limited and refused as by `check`. Addresses are returned as they are written: the caller finds out
+    where they lead.
 
     >>> page = links("<h1 id=salt>Salt</h1>\\n<a href=pepper.html#black>pepper</a>")
     >>> [it.id for it in page.ids], [it.href for it in page.links], str(page.links[0].place)
@@ -839,4 +841,4 @@ def links(page: bytes | str, *, limit: int = 50) -> PageLinks:
 
     Raises `Refused`, `BadInput` or `OutOfMemory`.
     """
-    return links_of(_told_by("typst_html_links", page, limit, "links"))
+    return links_of(_reported_by("typst_html_links", page, limit, "links"))

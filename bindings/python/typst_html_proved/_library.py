@@ -1,4 +1,4 @@
-"""The calls of the shared library, as typst_html.h has them."""
+"""The calls of the shared library, as typst_html.h declares them."""
 
 from __future__ import annotations
 
@@ -16,7 +16,7 @@ VERSION: Final = 7
 
 
 class Status(IntEnum):
-    """How a call ended."""
+    """The status of a reply."""
 
     DONE = 0
     REFUSED = 1
@@ -27,7 +27,7 @@ class Status(IntEnum):
 
 
 class Reply(ctypes.Structure):
-    """What a call tells: its status, which may be none of `Status` where the library is another, and where."""
+    """The reply of a call: its status, and the place. The status of another library may be none of `Status`."""
 
     _fields_ = [
         ("length", ctypes.c_size_t),
@@ -70,11 +70,12 @@ DECLARED: Final[Mapping[str, tuple[Any, dict[str, Any]]]] = MappingProxyType({
         "output": ctypes.c_void_p, "room": ctypes.c_size_t,
     }),
 })  # fmt: skip
-"""What each call gives, and what it takes, by name and in order."""
+"""The result of each call, and its arguments, by name and in order."""
 
 
 def library_path() -> Path:
-    """The library in the folder that TYPST_HTML_LIB names, else beside this file, else as it is built."""
+    """Returns the path of the library: in the folder that TYPST_HTML_LIB names, or else beside this file, or else as it is
+    built."""
     here = Path(__file__).resolve().parent
     if "TYPST_HTML_LIB" in os.environ:
         return Path(os.environ["TYPST_HTML_LIB"]) / NAME
@@ -83,7 +84,7 @@ def library_path() -> Path:
 
 
 def _loaded() -> ctypes.CDLL:
-    """The library, with its calls declared. Where it is missing or another, this package is not imported."""
+    """Returns the library, with its calls declared. Raises `ImportError` if it is missing or has another version."""
     path = library_path()
     try:
         library = ctypes.CDLL(str(path))
@@ -101,7 +102,7 @@ LIBRARY: Final = _loaded()
 
 
 def called(name: str, data: bytes, **numbers: int) -> tuple[Reply, bytes]:
-    """The reply of a call, whose numbers are given by name, and the text. The other threads of Python run meanwhile."""
+    """Makes a call with these numbers, and returns its reply and the text. The other threads of Python run meanwhile."""
     call, (_, takes) = getattr(LIBRARY, name), DECLARED[name]
     room = 4 * len(data) + 1024
     while True:

@@ -1,4 +1,4 @@
-"""What the library tells of pages."""
+"""The findings, ids and links that the library reports of pages."""
 
 from __future__ import annotations
 
@@ -10,18 +10,18 @@ Found = TypeVar("Found")
 
 @dataclass(frozen=True)
 class Place:
-    """A place in a page. As text it is `line:column`.
+    """A place in a page. Its text is `line:column`.
 
     >>> str(Place(offset=29, line=2, column=11))
     '2:11'
     """
 
     offset: int
-    """How many bytes of the page, in UTF-8, stand before it."""
+    """The number of bytes of the page, in UTF-8, before it."""
     line: int
-    """Its line, counted from 1. A line ends with a line feed, a carriage return or both, in that order."""
+    """Its line, counted from 1. A line ends with a line feed, a carriage return, or both in the order CR LF."""
     column: int
-    """Its column, in characters, counted from 1. A byte order mark at the beginning of the page is none."""
+    """Its column, counted from 1 in characters. A byte order mark at the beginning of the page does not count."""
 
     def __str__(self) -> str:
         return f"{self.line}:{self.column}"
@@ -36,51 +36,51 @@ class DeadFragment:
     """
 
     path: tuple[int, ...]
-    """The index of each child on the way to the link, from the root on, texts counted."""
+    """The index of each child on the path from the root to the link. Texts count."""
     fragment: str
-    """What stands behind `#`, as it is written."""
+    """The text behind `#`, as it is written."""
     place: Place
-    """Where the start tag of the link begins."""
+    """The place where the link's start tag begins."""
 
 
 @dataclass(frozen=True)
 class RepeatedId:
-    """An id that stands before in its page.
+    """An id that an earlier element of its page has.
 
     >>> check("<p id=a></p>\\n<p id=a></p>").repeated_ids[0]
     RepeatedId(path=(1, 2), id='a', place=Place(offset=13, line=2, column=1))
     """
 
     path: tuple[int, ...]
-    """The index of each child on the way to the element, from the root on, texts counted."""
+    """The index of each child on the path from the root to the element. Texts count."""
     id: str
     """The id."""
     place: Place
-    """Where the start tag of the element begins."""
+    """The place where the element's start tag begins."""
 
 
 @dataclass(frozen=True)
 class Misnested:
-    """A node of a page that a browser would not leave where it is, if the tree of the page were written: its parser
-    closes elements where others begin, moves what has no place in a table, and more.
+    """A node of a page that a browser would not leave where it is if the tree of the page were written. The browser's
+    parser closes elements where others begin, moves what has no place in a table, and more.
 
     >>> check("<p><table></table>").misnested[0].why  # without a document type a table stays in a p
     'closes the p that it stands in'
     """
 
     path: tuple[int, ...]
-    """The index of each child on the way to the node, from the root on, texts counted."""
+    """The index of each child on the path from the root to the node. Texts count."""
     rule: str
-    """The name of the first rule that it breaks, as `ClosesParagraph`."""
+    """The name of the first rule that it breaks, such as `ClosesParagraph`."""
     why: str
     """What becomes of it."""
     place: Place
-    """Where the start tag of the element begins; of a text, that of the element in which it stands."""
+    """The place where the element's start tag begins, or for a text that of the element that holds it."""
 
 
 @dataclass(frozen=True)
 class Findings:
-    """What is wrong in a page, in order. It is false where nothing is.
+    """What is wrong in a page, in order. It is false if nothing is.
 
     >>> bool(check("<p id=a><a href=#a>up</a>")), bool(check("<a href=#b>up</a>"))
     (False, True)
@@ -103,11 +103,11 @@ class PageId:
     """
 
     path: tuple[int, ...]
-    """The index of each child on the way to the element, from the root on, texts counted."""
+    """The index of each child on the path from the root to the element. Texts count."""
     id: str
     """The id."""
     place: Place
-    """Where the start tag of the element begins."""
+    """The place where the element's start tag begins."""
 
 
 @dataclass(frozen=True)
@@ -119,11 +119,11 @@ class PageName:
     """
 
     path: tuple[int, ...]
-    """The index of each child on the way to the element, from the root on, texts counted."""
+    """The index of each child on the path from the root to the element. Texts count."""
     name: str
     """The name."""
     place: Place
-    """Where the start tag of the element begins."""
+    """The place where the element's start tag begins."""
 
 
 @dataclass(frozen=True)
@@ -135,31 +135,31 @@ class PageLink:
     """
 
     path: tuple[int, ...]
-    """The index of each child on the way to the element, from the root on, texts counted."""
+    """The index of each child on the path from the root to the element. Texts count."""
     href: str
     """Its address, as it is written."""
     place: Place
-    """Where the start tag of the element begins."""
+    """The place where the element's start tag begins."""
 
 
 @dataclass(frozen=True)
 class PageLinks:
-    """What links between pages need to know of a page, each in order.
+    """The parts of a page that a check of links between pages needs, each in order.
 
     >>> links("<p>Salt</p>") == PageLinks()
     True
     """
 
     ids: Sequence[PageId] = ()
-    """The ids of its elements, but for empty ones."""
+    """The ids of its elements except empty ones."""
     names: Sequence[PageName] = ()
-    """The names of its `a` elements, but for empty ones."""
+    """The names of its `a` elements except empty ones."""
     links: Sequence[PageLink] = ()
 
 
 def _all(listed: list[dict[str, Any]], found: Callable[[tuple[int, ...], dict[str, Any], Place], Found]) -> tuple[Found, ...]:
-    """What stands in a list, with whole paths, of which each is told by how much it keeps of the one before, and what
-    follows."""
+    """Returns the findings of a list with whole paths. The library reports for each path how many indices it keeps of the
+    one before, and the rest."""
     path: list[int] = []
     made = []
     for it in listed:
@@ -168,19 +168,19 @@ def _all(listed: list[dict[str, Any]], found: Callable[[tuple[int, ...], dict[st
     return tuple(made)
 
 
-def findings_of(told: dict[str, list[dict[str, Any]]]) -> Findings:
-    """The findings as the library tells them."""
+def findings_of(report: dict[str, list[dict[str, Any]]]) -> Findings:
+    """Returns the findings that the library reports."""
     return Findings(
-        _all(told["dead_fragments"], lambda path, it, place: DeadFragment(path, it["fragment"], place)),
-        _all(told["repeated_ids"], lambda path, it, place: RepeatedId(path, it["id"], place)),
-        _all(told["misnested"], lambda path, it, place: Misnested(path, it["rule"], it["why"], place)),
+        _all(report["dead_fragments"], lambda path, it, place: DeadFragment(path, it["fragment"], place)),
+        _all(report["repeated_ids"], lambda path, it, place: RepeatedId(path, it["id"], place)),
+        _all(report["misnested"], lambda path, it, place: Misnested(path, it["rule"], it["why"], place)),
     )
 
 
-def links_of(told: dict[str, list[dict[str, Any]]]) -> PageLinks:
-    """The ids, the names and the links as the library tells them."""
+def links_of(report: dict[str, list[dict[str, Any]]]) -> PageLinks:
+    """Returns the ids, the names and the links that the library reports."""
     return PageLinks(
-        _all(told["ids"], lambda path, it, place: PageId(path, it["id"], place)),
-        _all(told["names"], lambda path, it, place: PageName(path, it["name"], place)),
-        _all(told["links"], lambda path, it, place: PageLink(path, it["href"], place)),
+        _all(report["ids"], lambda path, it, place: PageId(path, it["id"], place)),
+        _all(report["names"], lambda path, it, place: PageName(path, it["name"], place)),
+        _all(report["links"], lambda path, it, place: PageLink(path, it["href"], place)),
     )

@@ -1,6 +1,6 @@
-"""Where in JSON an item stands: by the number of its list, or as the first value that leaves the form of items.
+"""Paths of items in JSON, found by the number of their list, or as the first value that does not have the form.
 
-A path has the names and the indices on the way to a value, from the outside in: `("items", 2, 3, 0)` leads to
+A path has the names and the indices that lead to a value, from the outside in: `("items", 2, 3, 0)` leads to
 `document["items"][2][3][0]`.
 """
 
@@ -11,26 +11,26 @@ from itertools import chain
 from typing import Any, Callable, Final, Iterable, Iterator, Mapping, NamedTuple, Sequence, Union
 
 ItemPath = tuple[Union[str, int], ...]
-"""The names and the indices on the way to a value in JSON, from the outside in."""
+"""The names and the indices that lead to a value in JSON, from the outside in."""
 
 DEEPEST: Final = 127
-"""How many lists and objects of JSON may stand in one another."""
+"""The greatest number of nested lists and objects in JSON."""
 
 LISTS: Final = ("items", "footnotes", "head")
 """The members of a document that hold items or nodes, in the order in which they are read."""
 
 
 class Spot(NamedTuple):
-    """A value that stands where an item may, or a list of items: where, and which."""
+    """A value in the position of an item or of a list of items, with its path."""
 
     path: ItemPath
     value: Any
     number: int
-    """The number of its list; of what is no list, that of the last list before."""
+    """The number of its list; for a value that is no list, that of the last list before."""
 
 
 def shown(path: ItemPath) -> str:
-    """A path as it is written in Python.
+    """Returns a path as it is written in Python.
 
     >>> shown(("items", 2, 3, 0))
     'items[2][3][0]'
@@ -59,7 +59,7 @@ def _or_null(fits: Callable[[Any], bool]) -> Callable[[Any], bool]:
 
 
 Forms = Mapping[str, Sequence[Sequence[Callable[[Any], bool]]]]
-"""What the fields behind an item's kind may be."""
+"""The forms of the fields behind an item's kind."""
 
 ITEMS: Final[Forms] = {
     "text": [[_is_text]], "space": [[]], "break": [[]], "hole": [[]], "start": [[_is_location], [_is_location] * 2],
@@ -76,7 +76,7 @@ ITEMS_OF_DOCUMENTS: Final[Forms] = {
 
 
 def _is_item(value: Any, forms: Forms) -> bool:
-    """Whether a value is an item of one of these forms, whatever stands in it."""
+    """Returns whether a value is an item of one of these forms, whatever its body holds."""
     if not _is_list(value) or not value or not _is_text(value[0]) or value[0] not in forms:
         return False
     fields = value[1:]
@@ -84,12 +84,12 @@ def _is_item(value: Any, forms: Forms) -> bool:
 
 
 def _inside(path: ItemPath, values: Sequence[Any]) -> Iterator[tuple[ItemPath, Any]]:
-    """The values of a list, each with its path."""
+    """Returns the values of a list, each with its path."""
     return ((path + (at,), value) for at, value in enumerate(values))
 
 
 def _body(path: ItemPath, value: Any) -> Iterator[tuple[ItemPath, Any]]:
-    """What stands in an item, each with its path."""
+    """Returns the items in an item, each with its path."""
     kind = value[0] if _is_list(value) and value and _is_text(value[0]) else ""
     last = len(value) - 1 if kind else 0
     if kind == "role" and last == 2:
@@ -100,12 +100,12 @@ def _body(path: ItemPath, value: Any) -> Iterator[tuple[ItemPath, Any]]:
 
 
 def _listed(path: ItemPath, items: Any) -> Iterator[tuple[ItemPath, Any]]:
-    """The items of a list; of what is none, itself."""
+    """Returns the items of a list, or the value itself if it is no list, each with its path."""
     return _inside(path, items) if _is_list(items) else iter([(path, items)])
 
 
 def _outermost(kind: str, given: Any) -> Iterator[tuple[ItemPath, Any]]:
-    """What stands in no other item."""
+    """Returns the outermost items, each with its path."""
     if kind == "tree":
         return iter([((), given)])
     if kind in ("items", "fragment"):
@@ -114,7 +114,7 @@ def _outermost(kind: str, given: Any) -> Iterator[tuple[ItemPath, Any]]:
 
 
 def _spots(kind: str, given: Any) -> Iterator[Spot]:
-    """All that stands where items may, in the order of the opening brackets."""
+    """Returns each value in the position of an item, in the order of the opening brackets."""
     number, levels = 0, [_outermost(kind, given)]
     while levels:
         for path, value in levels[-1]:
@@ -127,7 +127,7 @@ def _spots(kind: str, given: Any) -> Iterator[Spot]:
 
 
 def numbered(kind: str, given: Any, numbers: Iterable[int]) -> dict[int, Spot]:
-    """The items whose lists have these numbers."""
+    """Returns the items whose lists have these numbers."""
     wanted, found = set(numbers) - {0}, {}
     for spot in _spots(kind, given) if wanted else ():
         if spot.number in wanted:
@@ -139,17 +139,17 @@ def numbered(kind: str, given: Any, numbers: Iterable[int]) -> dict[int, Spot]:
 
 
 def _levels(value: Any) -> int:
-    """How many lists stand in one another in an item, apart from what its body holds."""
+    """Returns the number of nested lists in an item, apart from those in its body."""
     return 3 if value[0] == "el" and any(value[2:-1]) else 2 if value[0] in ("el", "block", "box") else 1
 
 
 def is_too_deep(spot: Spot) -> bool:
-    """Whether an item stands deeper than JSON is read, itself or its attributes or its body."""
+    """Returns whether an item, its attributes or its body are deeper than JSON is read."""
     return _is_item(spot.value, ITEMS_OF_DOCUMENTS) and len(spot.path) + _levels(spot.value) > DEEPEST
 
 
 def _fits(name: str, document: Mapping[str, Any]) -> bool:
-    """Whether a document may have that member. Lists of items and nodes are looked at later."""
+    """Returns whether a document may have that member. Lists of items and nodes are checked later."""
     value = document[name]
     if name in ("authors", "keywords"):
         return _is_list(value) and all(map(_is_text, value))
@@ -159,7 +159,7 @@ def _fits(name: str, document: Mapping[str, Any]) -> bool:
 
 
 def names(given: Any) -> list[str]:
-    """The names of places in a document, in the order of their locations, which are counted from 1.
+    """Returns the names of places in a document, in the order of their locations, which are counted from 1.
 
     >>> names({"items": [["link", "b"], ["block", [["place", "a"], ["place", "b"]]]]})
     ['b', 'a']
@@ -169,7 +169,7 @@ def names(given: Any) -> list[str]:
 
 
 def _forms(kind: str, path: ItemPath) -> Forms:
-    """The forms of what stands there."""
+    """Returns the forms of items at that path."""
     if kind == "tree":
         return NODES if path else {"el": NODES["el"]}
     if kind == "items":
@@ -178,7 +178,7 @@ def _forms(kind: str, path: ItemPath) -> Forms:
 
 
 def left(kind: str, given: Any) -> Spot | None:
-    """The first value that is not what the form wants, or that is too deep; nothing where all is as it should be.
+    """Returns the first value that does not have the form or is too deep, or `None` if there is none.
 
     >>> left("items", [["space"], ["text", 1]])
     Spot(path=(1,), value=['text', 1], number=2)
@@ -193,7 +193,7 @@ def left(kind: str, given: Any) -> Spot | None:
     for spot in _spots(kind, given):
         if not _is_item(spot.value, _forms(kind, spot.path)) or is_too_deep(spot):
             return spot
-        # (tags have names or numbers, never both)
+        # (the tags of an input have names or numbers, never both)
         tags = {"start": "numbers", "end": "numbers", "place": "names", "link": "names"}.get(spot.value[0], tagged)
         if tagged not in ("", tags):
             return spot
@@ -202,6 +202,7 @@ def left(kind: str, given: Any) -> Spot | None:
 
 
 def value_of(data: bytes) -> Any:
-    """The value that JSON spells. What the library reads as no whole number is a float: -0, and what is far too large."""
+    """Returns the value that JSON spells. Numbers that the library reads as no whole numbers are floats: -0, and those that
+    are far too large."""
     whole = lambda digits: float(digits) if digits == "-0" or len(digits) > 20 else int(digits)
     return json.loads(data.decode(), parse_int=whole)

@@ -1,4 +1,4 @@
-"""What the refusals say."""
+"""The words of the refusals."""
 
 from __future__ import annotations
 
@@ -36,4 +36,4 @@ WORDS: Final[Mapping[int, str]] = MappingProxyType({
     38: "a table hangs on a document type that is not known",
     39: "a token finds no place",
 })
-"""What is wrong, by the number of the refusal. Those of a page that is checked are 8 and those from 26 on."""
+"""The words for what is wrong, by the number of the refusal. A page that is checked has refusals 8 and from 26 on."""

@@ -1,5 +1,5 @@
-//! page json|typed FILE: a document of the items in a file of JSON, by `write_json`, or of as many
-//! paragraphs as the file has lines, by `write`. It prints how long the text is.
+//! page json|typed FILE: writes a document of the items in a file of JSON with `write_json`, or of
+//! a paragraph for each line of the file with `write`. Prints the length of the text.
 
 use typst_html_proved::{write, write_json, Document, Element, Kind, Options};
 

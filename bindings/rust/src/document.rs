@@ -1,26 +1,27 @@
-//! A document: what is known of it, its items, its footnotes and nodes for its head.
+//! A document: the information about it, its items, its footnotes, and nodes for its head.
 
 use crate::{IntoItems, Item};
 
-/// What is known of a document, for its head.
+/// The information about a document, for its head.
 #[derive(Clone, Debug, Default, PartialEq, Eq)]
 #[non_exhaustive]
 pub struct Info {
     /// The title.
     pub title: Option<String>,
-    /// What the document is about.
+    /// The description.
     pub description: Option<String>,
-    /// Who wrote it.
+    /// The authors.
     pub authors: Vec<String>,
-    /// The words by which it is found.
+    /// The keywords.
     pub keywords: Vec<String>,
-    /// The language, as `de`.
+    /// The language, such as `de`.
     pub lang: Option<String>,
-    /// The region in which the language is spoken, as `AT`. Without a language it is left out.
+    /// The region in which the language is spoken, such as `AT`. It is left out if there is no
+    /// language.
     pub region: Option<String>,
 }
 
-/// A document: what is known of it, its items, its footnotes and nodes for its head.
+/// A document: the information about it, its items, its footnotes, and nodes for its head.
 ///
 /// ```
 /// use typst_html_proved::{write, Document, Element, Options};
@@ -37,7 +38,7 @@ pub struct Info {
 /// # Ok::<(), typst_html_proved::Refusal>(())
 /// ```
 ///
-/// What an iterator gives is collected as its items:
+/// An iterator can be collected into a document, as its items:
 ///
 /// ```
 /// use typst_html_proved::{Document, Element};
@@ -49,51 +50,51 @@ pub struct Info {
 #[derive(Clone, Debug, Default, PartialEq, Eq)]
 #[non_exhaustive]
 pub struct Document {
-    /// What is known of it.
+    /// The information about it.
     pub info: Info,
-    /// What it holds.
+    /// Its items.
     pub items: Vec<Item>,
     /// Its footnotes, which stand at the end of the body.
     pub footnotes: Vec<Item>,
-    /// What stands at the end of its head: texts and elements, which hold such alone.
+    /// The nodes at the end of its head: texts, and elements that hold only such.
     pub head: Vec<Item>,
 }
 
 impl Document {
-    /// A document of which nothing is known and that holds nothing.
+    /// Creates a document without information, items, footnotes and nodes for the head.
     pub fn new() -> Document {
         Document::default()
     }
 
-    /// The document with that title.
+    /// Sets the title.
     #[must_use]
     pub fn title(mut self, title: impl Into<String>) -> Document {
         self.info.title = Some(title.into());
         self
     }
 
-    /// The document with that description.
+    /// Sets the description.
     #[must_use]
     pub fn description(mut self, description: impl Into<String>) -> Document {
         self.info.description = Some(description.into());
         self
     }
 
-    /// The document with one author more.
+    /// Appends an author.
     #[must_use]
     pub fn author(mut self, author: impl Into<String>) -> Document {
         self.info.authors.push(author.into());
         self
     }
 
-    /// The document with one keyword more.
+    /// Appends a keyword.
     #[must_use]
     pub fn keyword(mut self, keyword: impl Into<String>) -> Document {
         self.info.keywords.push(keyword.into());
         self
     }
 
-    /// The document in that language, as it is spoken in that region; an empty region is none.
+    /// Sets the language, and the region in which it is spoken. An empty region is none.
     #[must_use]
     pub fn lang(mut self, lang: impl Into<String>, region: impl Into<String>) -> Document {
         self.info.lang = Some(lang.into());
@@ -101,21 +102,21 @@ impl Document {
         self
     }
 
-    /// The document with a text, an element or other items more.
+    /// Appends a text, an element or other items.
     #[must_use]
     pub fn item(mut self, items: impl IntoItems) -> Document {
         items.add_to(&mut self.items);
         self
     }
 
-    /// The document with one footnote more, or several.
+    /// Appends one or several footnotes.
     #[must_use]
     pub fn footnote(mut self, items: impl IntoItems) -> Document {
         items.add_to(&mut self.footnotes);
         self
     }
 
-    /// The document with an element, a text or other nodes more at the end of its head.
+    /// Appends an element, a text or other nodes to the head.
     ///
     /// ```
     /// use typst_html_proved::{write, Document, Element, Options};
@@ -133,7 +134,7 @@ impl Document {
 }
 
 impl<T: IntoItems> Extend<T> for Document {
-    /// Adds to its items.
+    /// Appends items.
     fn extend<I: IntoIterator<Item = T>>(&mut self, items: I) {
         items
             .into_iter()
@@ -142,7 +143,7 @@ impl<T: IntoItems> Extend<T> for Document {
 }
 
 impl<T: IntoItems> FromIterator<T> for Document {
-    /// The document of these items, of which nothing is known.
+    /// Creates a document of these items, without information.
     fn from_iter<I: IntoIterator<Item = T>>(items: I) -> Document {
         let mut document = Document::new();
         document.extend(items);

@@ -10,18 +10,18 @@ use std::fmt;
 pub struct DeadLink {
     /// The number of its list in the JSON, counted as in [`Refusal::Refused`](crate::Refusal::Refused).
     pub span: u64,
-    /// The location that it would lead to: its number, or that of its name among those of the document,
-    /// from 1 on.
+    /// The location that it would lead to: its number, or the number of its name among those of the
+    /// document, counted from 1.
     pub destination: u64,
-    /// The name of the place that it would lead to, where that has one.
+    /// The name of the place that it would lead to, if it has one.
     #[serde(default, skip_serializing_if = "Option::is_none")]
     pub name: Option<String>,
-    /// Where its `a` stands.
+    /// The path of its `a`.
     pub path: ItemPath,
 }
 
 impl fmt::Display for DeadLink {
-    /// In a line: `items[1]: a link to location 7 leads nowhere`, or `a link to "moon"`.
+    /// Writes a line: `items[1]: a link to location 7 leads nowhere`, or `a link to "moon"`.
     fn fmt(&self, f: &mut fmt::Formatter<'_>) -> fmt::Result {
         write!(f, "{}: a link to ", self.path)?;
         match &self.name {
@@ -32,21 +32,21 @@ impl fmt::Display for DeadLink {
     }
 }
 
-/// The dead links of a document, as the library tells them.
+/// The dead links of a document, in the form of the library's JSON.
 #[derive(Deserialize)]
-pub(crate) struct ToldLinks {
-    pub(crate) dead_links: Vec<ToldLink>,
+pub(crate) struct LinksJson {
+    pub(crate) dead_links: Vec<LinkJson>,
 }
 
 #[derive(Deserialize)]
-pub(crate) struct ToldLink {
+pub(crate) struct LinkJson {
     pub(crate) span: u64,
     pub(crate) destination: u64,
 }
 
-/// The names of what a document leaves unused, as the library tells them.
+/// The names of what a document leaves unused, in the form of the library's JSON.
 #[derive(Deserialize)]
-pub(crate) struct ToldUnused {
+pub(crate) struct UnusedJson {
     pub(crate) unused: Vec<String>,
 }
 
@@ -56,23 +56,23 @@ pub(crate) struct ToldUnused {
 pub struct Findings {
     /// The links to fragments of the page itself that lead nowhere, in order.
     pub dead_fragments: Vec<DeadFragment>,
-    /// The ids that stand in the page before, in order.
+    /// The ids that an earlier element has, in order.
     pub repeated_ids: Vec<RepeatedId>,
-    /// The nodes that a browser would not leave where they are, if the tree of the page were written, in
-    /// order.
+    /// The nodes that a browser would not leave where they are if the tree of the page were
+    /// written, in order.
     #[serde(default)] // JSON of earlier findings has none
     pub misnested: Vec<Misnested>,
 }
 
 impl Findings {
-    /// Whether nothing is wrong.
+    /// Returns whether nothing is wrong.
     pub fn is_empty(&self) -> bool {
         self.dead_fragments.is_empty() && self.repeated_ids.is_empty() && self.misnested.is_empty()
     }
 }
 
 impl fmt::Display for Findings {
-    /// A line for each, without a line end behind the last.
+    /// Writes a line for each, without a line end behind the last.
     fn fmt(&self, f: &mut fmt::Formatter<'_>) -> fmt::Result {
         let dead = self
             .dead_fragments
@@ -93,35 +93,35 @@ impl fmt::Display for Findings {
 #[derive(Clone, Debug, PartialEq, Eq, Serialize, Deserialize)]
 #[non_exhaustive]
 pub struct DeadFragment {
-    /// The index of each child on the way to the link, from the root on, texts counted.
+    /// The index of each child on the path from the root to the link. Texts count.
     pub path: Vec<usize>,
-    /// What stands behind `#`, as it is written.
+    /// The text behind `#`, as it is written.
     pub fragment: String,
-    /// Where the start tag of the link begins.
+    /// The place where the link's start tag begins.
     pub place: Place,
 }
 
 impl fmt::Display for DeadFragment {
-    /// In a line: `2:11: "#pepper" leads nowhere`.
+    /// Writes a line: `2:11: "#pepper" leads nowhere`.
     fn fmt(&self, f: &mut fmt::Formatter<'_>) -> fmt::Result {
         write!(f, "{}: \"#{}\" leads nowhere", self.place, self.fragment)
     }
 }
 
-/// An id that stands before in its page.
+/// An id that an earlier element of its page has.
 #[derive(Clone, Debug, PartialEq, Eq, Serialize, Deserialize)]
 #[non_exhaustive]
 pub struct RepeatedId {
-    /// The index of each child on the way to the element, from the root on, texts counted.
+    /// The index of each child on the path from the root to the element. Texts count.
     pub path: Vec<usize>,
     /// The id.
     pub id: String,
-    /// Where the start tag of the element begins.
+    /// The place where the element's start tag begins.
     pub place: Place,
 }
 
 impl fmt::Display for RepeatedId {
-    /// In a line: `2:1: an element before has the id "a"`.
+    /// Writes a line: `2:1: an element before has the id "a"`.
     fn fmt(&self, f: &mut fmt::Formatter<'_>) -> fmt::Result {
         write!(
             f,
@@ -131,41 +131,43 @@ impl fmt::Display for RepeatedId {
     }
 }
 
-/// A node of a page that a browser would not leave where it is, if the tree of the page were written: its
-/// parser closes elements where others begin, moves what has no place in a table, and more.
+/// A node of a page that a browser would not leave where it is if the tree of the page were
+/// written. The browser's parser closes elements where others begin, moves what has no place in a
+/// table, and more.
 #[derive(Clone, Debug, PartialEq, Eq, Serialize, Deserialize)]
 #[non_exhaustive]
 pub struct Misnested {
-    /// The index of each child on the way to the node, from the root on, texts counted.
+    /// The index of each child on the path from the root to the node. Texts count.
     pub path: Vec<usize>,
-    /// The name of the first rule that it breaks, as `ClosesParagraph`.
+    /// The name of the first rule that it breaks, such as `ClosesParagraph`.
     pub rule: String,
-    /// What becomes of it, as `closes the p that it stands in`.
+    /// What becomes of it, such as `closes the p that it stands in`.
     pub why: String,
-    /// Where the start tag of the element begins; of a text, that of the element in which it stands.
+    /// The place where the element's start tag begins, or for a text that of the element that holds
+    /// it.
     pub place: Place,
 }
 
 impl fmt::Display for Misnested {
-    /// In a line: `1:4: a node closes the p that it stands in`.
+    /// Writes a line: `1:4: a node closes the p that it stands in`.
     fn fmt(&self, f: &mut fmt::Formatter<'_>) -> fmt::Result {
         write!(f, "{}: a node {}", self.place, self.why)
     }
 }
 
-/// The findings as the library tells them.
+/// The findings, in the form of the library's JSON.
 #[derive(Deserialize)]
-pub(crate) struct ToldFindings {
-    dead_fragments: Vec<Told<ToldFragment>>,
-    repeated_ids: Vec<Told<ToldId>>,
-    misnested: Vec<Told<ToldRule>>,
+pub(crate) struct FindingsJson {
+    dead_fragments: Vec<Located<FragmentJson>>,
+    repeated_ids: Vec<Located<IdJson>>,
+    misnested: Vec<Located<RuleJson>>,
 }
 
-/// What stands in a page, at a path that begins with as many indices of the path before as it keeps.
+/// A value in a page. Its path begins with the first `keeps` indices of the path before.
 #[derive(Deserialize)]
-pub(crate) struct Told<T> {
+pub(crate) struct Located<T> {
     #[serde(flatten)]
-    told: T,
+    value: T,
     keeps: usize,
     path: Vec<usize>,
     #[serde(flatten)]
@@ -173,47 +175,47 @@ pub(crate) struct Told<T> {
 }
 
 #[derive(Deserialize)]
-struct ToldFragment {
+struct FragmentJson {
     fragment: String,
 }
 
 #[derive(Deserialize)]
-pub(crate) struct ToldId {
+pub(crate) struct IdJson {
     pub(crate) id: String,
 }
 
 #[derive(Deserialize)]
-struct ToldRule {
+struct RuleJson {
     rule: String,
     why: String,
 }
 
-impl From<ToldFindings> for Findings {
-    fn from(told: ToldFindings) -> Findings {
+impl From<FindingsJson> for Findings {
+    fn from(json: FindingsJson) -> Findings {
         Findings {
-            dead_fragments: with_paths(told.dead_fragments, |path, told, place| DeadFragment {
+            dead_fragments: with_paths(json.dead_fragments, |path, found, place| DeadFragment {
                 path,
-                fragment: told.fragment,
+                fragment: found.fragment,
                 place,
             }),
-            repeated_ids: with_paths(told.repeated_ids, |path, told, place| RepeatedId {
+            repeated_ids: with_paths(json.repeated_ids, |path, found, place| RepeatedId {
                 path,
-                id: told.id,
+                id: found.id,
                 place,
             }),
-            misnested: with_paths(told.misnested, |path, told, place| Misnested {
+            misnested: with_paths(json.misnested, |path, found, place| Misnested {
                 path,
-                rule: told.rule,
-                why: told.why,
+                rule: found.rule,
+                why: found.why,
                 place,
             }),
         }
     }
 }
 
-/// What one list tells, with whole paths.
+/// Returns the findings of a list, with whole paths.
 pub(crate) fn with_paths<T, U>(
-    listed: Vec<Told<T>>,
+    listed: Vec<Located<T>>,
     finding: impl Fn(Vec<usize>, T, Place) -> U,
 ) -> Vec<U> {
     let mut path = Vec::new();
@@ -221,7 +223,7 @@ pub(crate) fn with_paths<T, U>(
     for one in listed {
         path.truncate(one.keeps);
         path.extend(one.path);
-        findings.push(finding(path.clone(), one.told, one.place));
+        findings.push(finding(path.clone(), one.value, one.place));
     }
     findings
 }

@@ -1,14 +1,14 @@
-//! What stands in a document: items and elements.
+//! The content of documents: items and elements.
 
 use std::borrow::Cow;
 use std::fmt;
 use std::mem;
 
-/// Something in a document or in an element.
+/// An item of a document or of an element.
 ///
-/// Items stand in one another to any depth: those that are deeper than JSON is read are refused where
-/// they are spelled, and all are dropped, without more of the stack. `Clone`, `==` and `Debug` take
-/// stack for each level.
+/// Items nest to any depth. Items that are deeper than JSON is read are refused when they are
+/// serialized, and all items are dropped, without more stack. `Clone`, `==` and `Debug` take stack
+/// for each level.
 #[derive(Clone, Debug, PartialEq, Eq)]
 #[non_exhaustive]
 pub enum Item {
@@ -20,25 +20,25 @@ pub enum Item {
     Break,
     /// An element.
     Element(Element),
-    /// What stands in a block of its own.
+    /// Items in a block of their own.
     Block(Vec<Item>),
-    /// What stands in a box within a line.
+    /// Items in a box within a line.
     Box(Vec<Item>),
-    /// Something has no place in HTML, and is left out.
+    /// Something that has no place in HTML and is left out.
     Hole,
-    /// A location begins: what stands up to its [`Item::End`]. Links that lead to it have it as their
+    /// The start of a location, which reaches up to its [`Item::End`]. Links to it have it as their
     /// destination.
     Start {
         /// The location.
         location: u64,
-        /// Where what stands here leads to.
+        /// The location to which links in this one lead.
         destination: Option<u64>,
-        /// What stands here gets it as its `id`, if links lead to it and it has none.
+        /// The `id` that the element here gets, if links lead to it and it has none.
         label: Option<String>,
     },
-    /// The location ends.
+    /// The end of a location.
     End(u64),
-    /// What stands next is the place of that name, to which links lead.
+    /// A mark that makes the next item the place of that name, to which links lead.
     ///
     /// A document has places by name or locations by number, not both.
     ///
@@ -55,19 +55,19 @@ pub enum Item {
     /// # Ok::<(), typst_html_proved::Refusal>(())
     /// ```
     Place(String),
-    /// The `a` that stands next leads to the place of that name, wherever that is.
+    /// A mark that makes the next `a` a link to the place of that name, wherever that is.
     Link(String),
     /// An item with a role of its own, or without one.
     Role {
-        /// The role. Of two around an item the outer counts.
+        /// The role. If an item has two around it, the outer one counts.
         role: Option<String>,
-        /// What has it.
+        /// The item that has it.
         item: std::boxed::Box<Item>,
     },
 }
 
 impl Item {
-    /// The item with that role.
+    /// Creates an item with that role.
     ///
     /// ```
     /// use typst_html_proved::{write, Document, Element, Item, Options};
@@ -84,7 +84,7 @@ impl Item {
         }
     }
 
-    /// The items that stand in it, which it then has no more.
+    /// Takes the items out of it, and returns them.
     fn take_body(&mut self) -> Vec<Item> {
         match self {
             Item::Element(Element { body, .. }) | Item::Block(body) | Item::Box(body) => {
@@ -97,7 +97,7 @@ impl Item {
 }
 
 impl Drop for Item {
-    /// Drops what stands in it one after the other.
+    /// Drops the items in it one after the other, without recursion.
     fn drop(&mut self) {
         let mut waiting = self.take_body();
         while let Some(mut item) = waiting.pop() {
@@ -107,7 +107,8 @@ impl Drop for Item {
 }
 
 impl fmt::Display for Item {
-    /// What it is, in a line, without what stands in it: `"a < b"`, `<p class="lead">`, `a block`.
+    /// Writes what it is in a line, without the items in it: `"a < b"`, `<p class="lead">`, `a
+    /// block`.
     fn fmt(&self, f: &mut fmt::Formatter<'_>) -> fmt::Result {
         match self {
             Item::Text(text) => write!(f, "{text:?}"),
@@ -177,8 +178,8 @@ impl From<Element> for Item {
     }
 }
 
-/// What may be given where items are wanted: whatever is one item, an `Option` of such, or a `Vec` or an
-/// array of them.
+/// Types that can be turned into items: one item, an `Option` of such, or a `Vec` or an array of
+/// them.
 ///
 /// ```
 /// use typst_html_proved::{write_tree, Element};
@@ -192,7 +193,7 @@ impl From<Element> for Item {
 /// # Ok::<(), typst_html_proved::Refusal>(())
 /// ```
 pub trait IntoItems {
-    /// Adds these items behind others.
+    /// Appends these items to others.
     fn add_to(self, items: &mut Vec<Item>);
 }
 
@@ -221,7 +222,7 @@ impl<T: IntoItems, const N: usize> IntoItems for [T; N] {
     }
 }
 
-/// An element: a tag, attributes, css, and what stands in it.
+/// An element: a tag, attributes, css, and a body.
 ///
 /// ```
 /// use typst_html_proved::{write_tree, Element};
@@ -236,16 +237,17 @@ impl<T: IntoItems, const N: usize> IntoItems for [T; N] {
 pub struct Element {
     /// The tag name.
     pub tag: String,
-    /// Names and values, in order.
+    /// The names and values of its attributes, in order.
     pub attrs: Vec<(String, String)>,
-    /// Css properties, which go into its `style`; of one name the last counts. In a tree there are none.
+    /// The css properties, which go into its `style`. If a name is repeated, the last one counts.
+    /// In a tree there are none.
     pub css: Vec<(String, String)>,
-    /// What stands in it.
+    /// The items in it.
     pub body: Vec<Item>,
 }
 
 impl Element {
-    /// An element without attributes, in which nothing stands.
+    /// Creates an element without attributes, css and items.
     pub fn new(tag: impl Into<String>) -> Element {
         Element {
             tag: tag.into(),
@@ -255,14 +257,14 @@ impl Element {
         }
     }
 
-    /// The element with one attribute more.
+    /// Appends an attribute.
     #[must_use]
     pub fn attr(mut self, name: impl Into<String>, value: impl Into<String>) -> Element {
         self.attrs.push((name.into(), value.into()));
         self
     }
 
-    /// The element with one css property more.
+    /// Appends a css property.
     ///
     /// ```
     /// use typst_html_proved::{write, Document, Element, Options};
@@ -278,14 +280,14 @@ impl Element {
         self
     }
 
-    /// The element with a text, an element or other items more in it.
+    /// Appends a text, an element or other items to its body.
     #[must_use]
     pub fn child(mut self, items: impl IntoItems) -> Element {
         items.add_to(&mut self.body);
         self
     }
 
-    /// The element with all that an iterator gives more in it.
+    /// Appends all items of an iterator to its body.
     ///
     /// ```
     /// use typst_html_proved::Element;
@@ -312,7 +314,7 @@ impl<T: IntoItems> Extend<T> for Element {
 }
 
 impl fmt::Display for Element {
-    /// Its start tag, to be read by people: it is not escaped.
+    /// Writes its start tag for people: it is not escaped.
     fn fmt(&self, f: &mut fmt::Formatter<'_>) -> fmt::Result {
         write!(f, "<{}", self.tag)?;
         for (name, value) in &self.attrs {

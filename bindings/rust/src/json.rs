@@ -1,4 +1,5 @@
-//! The JSON that spells documents, items and elements: as the library reads it, and read here as it is there.
+//! The JSON that spells documents, items and elements. It is written in the form that the library
+//! reads, and read as the library reads it.
 
 use crate::{Document, Element, Info, Item};
 use serde::de::{self, Deserialize, Deserializer, SeqAccess, Visitor};
@@ -6,7 +7,7 @@ use serde::ser::{self, Serialize, SerializeMap, Serializer};
 use std::fmt;
 use std::mem;
 
-/// How many lists may stand in one another, as JSON is read.
+/// The greatest number of nested lists in JSON that is read.
 const DEEPEST: usize = 127;
 
 /// The first words of the lists that spell items.
@@ -14,14 +15,15 @@ const KINDS: &[&str] = &[
     "text", "space", "break", "hole", "el", "block", "box", "start", "end", "place", "link", "role",
 ];
 
-/// A part of a document, in which so many lists may stand in one another.
+/// A part of a document, and the number of nested lists for which it has room.
 struct Within<'a, T: ?Sized> {
     part: &'a T,
     room: usize,
 }
 
 impl<T: ?Sized> Within<'_, T> {
-    /// What stands in this part, which takes so many lists, if it may hold something.
+    /// Returns the content of this part, which takes that many lists itself. Fails if they do not
+    /// fit.
     fn inside<'a, P: ?Sized, E>(&self, lists: usize, part: &'a P) -> Result<Within<'a, P>, E>
     where
         E: ser::Error,
@@ -34,7 +36,7 @@ impl<T: ?Sized> Within<'_, T> {
         }
     }
 
-    /// The body of this part, which is a list too, if it may have one.
+    /// Returns the body of this part, which is a list too. Fails if it does not fit.
     fn body<'a, E: ser::Error>(&self, body: &'a [Item]) -> Result<Within<'a, [Item]>, E> {
         self.inside(2, body)
     }
@@ -110,8 +112,11 @@ impl Serialize for Element {
     }
 }
 
-/// The texts that are there, each under its name.
-fn told<S: SerializeMap>(to: &mut S, texts: &[(&str, &Option<String>)]) -> Result<(), S::Error> {
+/// Writes the texts that are set, each under its name.
+fn put_texts<S: SerializeMap>(
+    to: &mut S,
+    texts: &[(&str, &Option<String>)],
+) -> Result<(), S::Error> {
     for (name, text) in texts {
         if let Some(text) = text {
             to.serialize_entry(name, text)?;
@@ -120,9 +125,9 @@ fn told<S: SerializeMap>(to: &mut S, texts: &[(&str, &Option<String>)]) -> Resul
     Ok(())
 }
 
-/// The members of what is known.
-fn tell<S: SerializeMap>(info: &Info, to: &mut S) -> Result<(), S::Error> {
-    told(
+/// Writes the members of the information about a document.
+fn put_info<S: SerializeMap>(info: &Info, to: &mut S) -> Result<(), S::Error> {
+    put_texts(
         to,
         &[("title", &info.title), ("description", &info.description)],
     )?;
@@ -130,14 +135,14 @@ fn tell<S: SerializeMap>(info: &Info, to: &mut S) -> Result<(), S::Error> {
     to.serialize_entry("keywords", &info.keywords)?;
     match info.lang {
         None => Ok(()),
-        Some(_) => told(to, &[("lang", &info.lang), ("region", &info.region)]),
+        Some(_) => put_texts(to, &[("lang", &info.lang), ("region", &info.region)]),
     }
 }
 
 impl Serialize for Document {
     fn serialize<S: Serializer>(&self, to: S) -> Result<S::Ok, S::Error> {
         let mut document = to.serialize_map(None)?;
-        tell(&self.info, &mut document)?;
+        put_info(&self.info, &mut document)?;
         document.serialize_entry("items", &self.items)?;
         document.serialize_entry("footnotes", &self.footnotes)?;
         if !self.head.is_empty() {
@@ -147,7 +152,7 @@ impl Serialize for Document {
     }
 }
 
-/// What stands in the list of an item. (What it is shows only by how many fields the list has.)
+/// A value in the list of an item. (Its meaning depends on the number of values in the list.)
 enum Field {
     Null,
     Number(u64),
@@ -221,7 +226,7 @@ impl Field {
         }
     }
 
-    /// What is made of it, or nothing of null.
+    /// Returns what the function makes of it, or `None` for null.
     fn or_null<T, E>(self, made: impl FnOnce(Field) -> Result<T, E>) -> Result<Option<T>, E> {
         match self {
             Field::Null => Ok(None),
@@ -260,7 +265,7 @@ impl Field {
     }
 }
 
-/// The item of that kind with these fields.
+/// Returns the item of that kind with these fields.
 fn item_of<E: de::Error>(kind: &str, fields: Vec<Field>) -> Result<Item, E> {
     let count = fields.len();
     let mut fields = fields.into_iter();
@@ -304,8 +309,8 @@ fn item_of<E: de::Error>(kind: &str, fields: Vec<Field>) -> Result<Item, E> {
             item: Box::new(next().item()?),
         },
         _ => {
-            let told = format!("the list of an item of kind {kind} has {count} fields");
-            return Err(E::custom(told));
+            let report = format!("the list of an item of kind {kind} has {count} fields");
+            return Err(E::custom(report));
         }
     })
 }
@@ -325,7 +330,7 @@ impl<'de> Deserialize<'de> for Element {
     }
 }
 
-/// The members of a document. (An `Option` would take `null` for a text that is not there.)
+/// The members of a document. (An `Option` alone would accept `null` as a missing text.)
 #[derive(Default, serde::Deserialize)]
 #[serde(default, deny_unknown_fields)]
 struct Members {
@@ -344,29 +349,29 @@ struct Members {
     head: Vec<Item>,
 }
 
-/// A member that is there.
+/// Reads a member that is present.
 fn present<'de, D: Deserializer<'de>>(from: D) -> Result<Option<String>, D::Error> {
     String::deserialize(from).map(Some)
 }
 
 impl<'de> Deserialize<'de> for Document {
     fn deserialize<D: Deserializer<'de>>(from: D) -> Result<Document, D::Error> {
-        let told = Members::deserialize(from)?;
-        if told.region.is_some() && told.lang.is_none() {
+        let members = Members::deserialize(from)?;
+        if members.region.is_some() && members.lang.is_none() {
             return Err(de::Error::custom("a region without a language"));
         }
         Ok(Document {
             info: Info {
-                title: told.title,
-                description: told.description,
-                authors: told.authors,
-                keywords: told.keywords,
-                lang: told.lang,
-                region: told.region,
+                title: members.title,
+                description: members.description,
+                authors: members.authors,
+                keywords: members.keywords,
+                lang: members.lang,
+                region: members.region,
             },
-            items: told.items,
-            footnotes: told.footnotes,
-            head: told.head,
+            items: members.items,
+            footnotes: members.footnotes,
+            head: members.head,
         })
     }
 }

@@ -1,5 +1,5 @@
-//! HTML text of documents, written by a library of proved code: texts arrive escaped, spaces that are
-//! wanted stay, and what HTML cannot hold is refused with a number and a place.
+//! Writes HTML text of documents with a library of proved code: texts are escaped, spaces that
+//! are wanted stay, and what HTML cannot hold is refused with a number and a place.
 //!
 //! ```
 //! use typst_html_proved::{write, Document, Element, Options};
@@ -12,7 +12,7 @@
 //! # Ok::<(), typst_html_proved::Refusal>(())
 //! ```
 //!
-//! What is refused is told by a number, with the item:
+//! A refusal has a number, and the path of the item:
 //!
 //! ```
 //! use typst_html_proved::{write, Document, Element, Options};
@@ -24,8 +24,8 @@
 //! assert_eq!((refusal.number(), item), (12, &wrong.items[1]));
 //! ```
 //!
-//! Links get the `href` of their destination where [`Options::links`] says so. What they lead to may be
-//! missing: then the text comes with the list of these links.
+//! If [`Options::links`] is set, links get the `href` of their destination. If a destination is
+//! missing, the error holds the text and the list of these links.
 //!
 //! ```
 //! use typst_html_proved::{write, Document, Element, Item, Options, Refusal};
@@ -36,8 +36,8 @@
 //! match write(&document, Options::new().links(true)) {
 //!     Ok(text) => print!("{text}"),
 //!     Err(Refusal::DeadLinks(dead)) => {
-//!         let told = dead.links[0].to_string();
-//!         assert_eq!(told, r#"items[1]: a link to "moon" leads nowhere"#);
+//!         let line = dead.links[0].to_string();
+//!         assert_eq!(line, r#"items[1]: a link to "moon" leads nowhere"#);
 //!         assert!(dead.text.ends_with("<body><a>there</a></body></html>"));
 //!     }
 //!     Err(refusal) => return Err(refusal),
@@ -45,14 +45,15 @@
 //! # Ok::<(), Refusal>(())
 //! ```
 //!
-//! A page, written here or elsewhere, can be checked: links within it that lead nowhere, ids that come
-//! twice, and nodes that browsers would move ([`check`]). [`links`] lists its ids and its links, so that
-//! links between pages can be checked.
+//! [`check`] finds what is wrong in a page, written here or elsewhere: links within it that lead
+//! nowhere, repeated ids, and nodes that browsers would move. [`links`] lists the ids and the
+//! links of a page, to check links between pages.
 //!
-//! Calls share nothing, so any number of threads may make them. Each wants 256 KB of stack,
-//! whatever the input and the limit are. Where there is less, a deep input ends the process.
+//! Calls share nothing, so any number of threads may make them. Each needs 256 KB of stack,
+//! whatever the input and the limit are. With less, a deep input ends the process.
 
-//! Documents and items are JSON for `serde`, in the form that the library reads, and findings are too.
+//! Documents, items and findings implement the traits of `serde`. The JSON of documents and items
+//! has the form that the library reads.
 
 #![deny(missing_docs)]
 
@@ -67,9 +68,9 @@ mod refusal;
 
 pub use document::{Document, Info};
 pub use findings::{DeadFragment, DeadLink, Findings, Misnested, RepeatedId};
-use findings::{ToldFindings, ToldLinks, ToldUnused};
+use findings::{FindingsJson, LinksJson, UnusedJson};
 pub use item::{Element, IntoItems, Item};
-use links::ToldPageLinks;
+use links::PageLinksJson;
 pub use links::{PageId, PageLink, PageLinks, PageName};
 use path::{Form, Given};
 pub use path::{ItemPath, Step};
@@ -83,10 +84,10 @@ pub struct FirstPage;
 /// The version of the library's calls that this crate was made for.
 pub const VERSION: u32 = 7;
 
-/// Why JSON of the library is what it is read as.
+/// The reason why reading the library's own JSON does not fail.
 const KNOWN_FORM: &str = "the library writes JSON of that form";
 
-/// How a document is written.
+/// The options for writing a document.
 ///
 /// ```
 /// use typst_html_proved::Options;
@@ -97,19 +98,20 @@ const KNOWN_FORM: &str = "the library writes JSON of that form";
 #[derive(Clone, Copy, Debug, PartialEq, Eq)]
 #[non_exhaustive]
 pub struct Options {
-    /// Whether the text is laid out in indented lines, where that can't be seen.
+    /// Whether the text is laid out in indented lines, wherever that does not change what is
+    /// visible.
     pub pretty: bool,
-    /// Whether each `a` without `href` behind an [`Item::Link`], or an [`Item::Start`] with a destination,
-    /// gets the `href` of that place. Where the document has no such place, the text is told as
-    /// [`Refusal::DeadLinks`].
+    /// Whether each `a` without `href` behind an [`Item::Link`], or an [`Item::Start`] with a
+    /// destination, gets the `href` of that place. If the document has no such place, writing fails
+    /// with [`Refusal::DeadLinks`], which holds the text.
     pub links: bool,
-    /// How deep bodies may stand, from 1 to 10,000. JSON is read 127 levels deep, which are 63 elements
-    /// in one another.
+    /// The greatest depth of bodies, from 1 to 10,000. JSON is read 127 levels deep, which is 63
+    /// nested elements.
     pub limit: u32,
 }
 
 impl Options {
-    /// Plain text, links as they are, and bodies 50 deep at most.
+    /// Creates options for plain text, links as they are, and bodies at most 50 deep.
     pub const fn new() -> Options {
         Options {
             pretty: false,
@@ -118,21 +120,21 @@ impl Options {
         }
     }
 
-    /// With that layout.
+    /// Sets whether the text is laid out in indented lines.
     #[must_use]
     pub const fn pretty(mut self, pretty: bool) -> Options {
         self.pretty = pretty;
         self
     }
 
-    /// With links that get the `href` of their destination, or not.
+    /// Sets whether links get the `href` of their destination.
     #[must_use]
     pub const fn links(mut self, links: bool) -> Options {
         self.links = links;
         self
     }
 
-    /// With bodies as deep as that at most.
+    /// Sets the greatest depth of bodies.
     #[must_use]
     pub const fn limit(mut self, limit: u32) -> Options {
         self.limit = limit;
@@ -141,13 +143,13 @@ impl Options {
 }
 
 impl Default for Options {
-    /// Those of [`Options::new`].
+    /// Returns the options of [`Options::new`].
     fn default() -> Options {
         Options::new()
     }
 }
 
-/// What JSON spells that is written by [`write_json`].
+/// The kind of value that the JSON for [`write_json`] spells.
 #[derive(Clone, Copy, Debug, PartialEq, Eq)]
 #[non_exhaustive]
 pub enum Kind {
@@ -157,40 +159,40 @@ pub enum Kind {
     Items,
 }
 
-/// Where the text of a fragment is put.
+/// The position of a fragment's text in a page.
 #[derive(Clone, Copy, Debug, PartialEq, Eq)]
 pub enum Level {
-    /// On lines of its own: in a `div`, say. The spaces of items in plain flow stay.
+    /// On lines of its own, as in a `div`. The spaces of items in plain flow stay.
     Block,
-    /// In a line: in a `p`, say. A space at either end of the text is left as it is.
+    /// In a line, as in a `p`. A space at either end of the text is left as it is.
     Inline,
 }
 
-/// The version of the calls of the library that is linked, to be compared with [`VERSION`].
+/// Returns the version of the linked library's calls, to be compared with [`VERSION`].
 pub fn version() -> u32 {
     raw::version()
 }
 
-/// The text of a document.
+/// Returns the text of a document.
 pub fn write(document: &Document, options: Options) -> Result<String, Refusal> {
     let given = Given::Document(document);
     document_text(options, &spelled(document, given)?, given)
 }
 
-/// The text of a tree, of which only texts, elements without css, starts without labels and ends may be
-/// part: another item is bad input.
+/// Returns the text of a tree. It may hold only texts, elements without css, starts without labels,
+/// and ends: any other item is bad input.
 pub fn write_tree(root: &Element, pretty: bool) -> Result<String, Refusal> {
     let given = Given::Tree(root);
     let json = spelled(root, given)?;
     raw::write(Kind::Tree, pretty, &json).map_err(|refusal| refusal.located(given))
 }
 
-/// The text of items by themselves, with no document type, head and body: a piece of a page that another
-/// program makes, such as a template engine.
+/// Returns the text of items by themselves, without document type, head and body: a piece of a page
+/// that another program makes, such as a template engine.
 ///
-/// Put into a `div`, the text is read as the nodes of these items. Links get neither anchors nor an `href`,
-/// since both depend on the ids of the whole page. Bodies may stand `limit` deep, from 1 to 10,000.
-/// [`ItemPath::item_in`] gives the item of a refusal.
+/// In a `div`, the text is read as the nodes of these items. Links get neither anchors nor an
+/// `href`, since both depend on the ids of the whole page. `limit` is the greatest depth of bodies,
+/// from 1 to 10,000. [`ItemPath::item_in`] returns the item of a refusal.
 ///
 /// ```
 /// use typst_html_proved::{write_fragment, Element, Level, Refusal};
@@ -206,8 +208,8 @@ pub fn write_fragment(items: &[Item], level: Level, limit: u32) -> Result<String
     raw::fragment(level, limit, &json).map_err(|refusal| refusal.located(given))
 }
 
-/// The text of items by themselves, which a JSON list spells: the items are those of
-/// [`write_document_json`].
+/// Returns the text of items by themselves, which a JSON list spells. The items have the form of
+/// those of [`write_document_json`].
 ///
 /// ```
 /// use typst_html_proved::{write_fragment_json, Level, Refusal};
@@ -221,8 +223,8 @@ pub fn write_fragment_json(json: &[u8], level: Level, limit: u32) -> Result<Stri
     raw::fragment(level, limit, json).map_err(|refusal| refusal.located(given))
 }
 
-/// The text of a tree or of the document of a list of items, which JSON spells. Where it is refused or bad,
-/// it is read once more for the path.
+/// Returns the text of a tree, or of the document of a list of items, that JSON spells. If it is
+/// refused or bad, it is read once more for the path.
 ///
 /// ```
 /// use typst_html_proved::{write_json, Kind, Refusal};
@@ -238,13 +240,13 @@ pub fn write_json(kind: Kind, json: &[u8], pretty: bool) -> Result<String, Refus
         Kind::Tree => Form::Tree,
         Kind::Items => Form::Items,
     };
-    let told = |refusal: Refusal| refusal.located(Given::Json(form, json));
-    raw::write(kind, pretty, json).map_err(told)
+    let located = |refusal: Refusal| refusal.located(Given::Json(form, json));
+    raw::write(kind, pretty, json).map_err(located)
 }
 
-/// The text of a document with what is known of it and with footnotes, which a JSON object spells.
-/// Its members are `title`, `description`, `authors`, `keywords`, `lang`, `region`, `items`, `footnotes`
-/// and `head`, and each may be left out, but for the `lang` of a `region`.
+/// Returns the text of the document that a JSON object spells, with information about it and with
+/// footnotes. The members are `title`, `description`, `authors`, `keywords`, `lang`, `region`,
+/// `items`, `footnotes` and `head`. Each may be left out, but a `region` requires a `lang`.
 ///
 /// ```
 /// use typst_html_proved::{write_document_json, Options, Refusal};
@@ -257,15 +259,16 @@ pub fn write_document_json(json: &[u8], options: Options) -> Result<String, Refu
     document_text(options, json, Given::Json(Form::Document, json))
 }
 
-/// The text of the document that JSON spells, if its links lead.
+/// Returns the text of the document that JSON spells. Fails if links are resolved and some lead
+/// nowhere.
 fn document_text(options: Options, json: &[u8], given: Given<'_>) -> Result<String, Refusal> {
-    let told = |refusal: Refusal| refusal.located(given);
-    let (text, lead) = raw::document(options, json).map_err(told)?;
+    let located = |refusal: Refusal| refusal.located(given);
+    let (text, lead) = raw::document(options, json).map_err(located)?;
     if lead {
         return Ok(text);
     }
-    let listed = raw::dead_links(options.limit, json).map_err(told)?;
-    let ToldLinks { dead_links } = serde_json::from_str(&listed).expect(KNOWN_FORM);
+    let listed = raw::dead_links(options.limit, json).map_err(located)?;
+    let LinksJson { dead_links } = serde_json::from_str(&listed).expect(KNOWN_FORM);
     let mut paths = given.paths(dead_links.iter().map(|link| link.span));
     let names = given.names();
     let name = |number: u64| names.get(usize::try_from(number).ok()?.checked_sub(1)?);
@@ -281,9 +284,10 @@ fn document_text(options: Options, json: &[u8], given: Given<'_>) -> Result<Stri
     }))
 }
 
-/// The names of what is known of a document that its text does not show: of all that is known, where its
-/// items have an `html` of their own, whose head is theirs too, and else of nothing. They stand in the order
-/// `title`, `description`, `authors`, `keywords`, `lang`, `region`, `head`.
+/// Returns the names of the information about a document that its text does not show. If the items
+/// have an `html` of their own, their head is used, and these are the names of all that is known.
+/// Otherwise there are none. The order is `title`, `description`, `authors`, `keywords`, `lang`,
+/// `region`, `head`.
 ///
 /// ```
 /// use typst_html_proved::{unused, Document, Element, Refusal};
@@ -296,18 +300,18 @@ pub fn unused(document: &Document, limit: u32) -> Result<Vec<String>, Refusal> {
     let given = Given::Document(document);
     let json = spelled(document, given)?;
     let listed = raw::unused(limit, &json).map_err(|refusal| refusal.located(given))?;
-    let ToldUnused { unused } = serde_json::from_str(&listed).expect(KNOWN_FORM);
+    let UnusedJson { unused } = serde_json::from_str(&listed).expect(KNOWN_FORM);
     Ok(unused)
 }
 
-/// What is wrong in a page: links to fragments of the page itself that lead nowhere, ids that stand in it
-/// before, and nodes that a browser would not leave where they are if the tree of the page were written,
-/// each with its place.
+/// Returns what is wrong in a page, each with its place: links to fragments of the page itself that
+/// lead nowhere, ids that an earlier element has, and nodes that a browser would not leave where
+/// they are if the tree of the page were written.
 ///
-/// Any page is read, as a browser reads it whose scripting is disabled: what may be left out is implied,
-/// and errors are gone over. But where a browser would move nodes or make them a second time, the page is
-/// [`Refusal::PageRefused`]; so is one with an element that would stand deeper than `limit`, which is from
-/// 1 to 1,000: `html` stands at 1.
+/// Reads any page, as a browser without scripting does: what may be left out is implied, and errors
+/// are recovered from. But if a browser would move nodes or make them a second time, the call fails
+/// with [`Refusal::PageRefused`]. It does so too if an element is deeper than `limit`, which is
+/// from 1 to 1,000: `html` has depth 1.
 ///
 /// ```
 /// use typst_html_proved::{check, Place, Refusal};
@@ -329,14 +333,15 @@ pub fn unused(document: &Document, limit: u32) -> Result<Vec<String>, Refusal> {
 /// ```
 pub fn check(page: &str, limit: u32) -> Result<Findings, Refusal> {
     let json = raw::check(limit, page.as_bytes())?;
-    let told: ToldFindings = serde_json::from_str(&json).expect(KNOWN_FORM);
-    Ok(told.into())
+    let findings: FindingsJson = serde_json::from_str(&json).expect(KNOWN_FORM);
+    Ok(findings.into())
 }
 
-/// What links between pages need to know of a page: the ids and names in it to which a link with a fragment
-/// may lead, and its own links, each with its place. Pages, limits and refusals are those of [`check`].
+/// Returns what a check of links between pages needs of a page, each with its place: the ids and
+/// names to which a link with a fragment may lead, and its own links. Pages, limits and refusals
+/// are those of [`check`].
 ///
-/// Where an address leads is for the caller to find out: it is told as it is written.
+/// Addresses are returned as they are written: the caller finds out where they lead.
 ///
 /// ```
 /// use typst_html_proved::{links, Place, Refusal};
@@ -351,12 +356,12 @@ pub fn check(page: &str, limit: u32) -> Result<Findings, Refusal> {
 /// ```
 pub fn links(page: &str, limit: u32) -> Result<PageLinks, Refusal> {
     let json = raw::links(limit, page.as_bytes())?;
-    let told: ToldPageLinks = serde_json::from_str(&json).expect(KNOWN_FORM);
-    Ok(told.into())
+    let links: PageLinksJson = serde_json::from_str(&json).expect(KNOWN_FORM);
+    Ok(links.into())
 }
 
-/// The JSON by which the library is told. Texts, numbers, lists and maps of texts are JSON; only what
-/// is deeper than it is read is not spelled.
+/// Returns the JSON that the library reads. Fails only if a value is deeper than JSON is read:
+/// texts, numbers, lists and maps of texts are always JSON.
 fn spelled(value: &impl serde::Serialize, given: Given<'_>) -> Result<Vec<u8>, Refusal> {
     serde_json::to_vec(value).map_err(|_| Refusal::BAD_INPUT.located(given))
 }

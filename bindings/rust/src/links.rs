@@ -1,24 +1,26 @@
 //! The ids, the names and the links of a page.
 
-use crate::findings::{with_paths, Told, ToldId};
+use crate::findings::{with_paths, IdJson, Located};
 use crate::Place;
 use serde::{Deserialize, Serialize};
 use std::fmt;
 
-/// What links between pages need to know of a page: to what in it they may lead, and its own links.
+/// The parts of a page that a check of links between pages needs: the places to which they may
+/// lead, and its own links.
 #[derive(Clone, Debug, Default, PartialEq, Eq, Serialize, Deserialize)]
 #[non_exhaustive]
 pub struct PageLinks {
-    /// The ids of its elements, but for empty ones, in order.
+    /// The ids of its elements except empty ones, in order.
     pub ids: Vec<PageId>,
-    /// The names of its `a` elements, but for empty ones, in order: a link may lead there as to an id.
+    /// The names of its `a` elements except empty ones, in order. A link may lead to one as to an
+    /// id.
     pub names: Vec<PageName>,
     /// Its links, in order: each `a` and `area` with an `href`.
     pub links: Vec<PageLink>,
 }
 
 impl fmt::Display for PageLinks {
-    /// A line for each, without a line end behind the last.
+    /// Writes a line for each, without a line end behind the last.
     fn fmt(&self, f: &mut fmt::Formatter<'_>) -> fmt::Result {
         let ids = self.ids.iter().map(|one| one as &dyn fmt::Display);
         let names = self.names.iter().map(|one| one as &dyn fmt::Display);
@@ -36,16 +38,16 @@ impl fmt::Display for PageLinks {
 #[derive(Clone, Debug, PartialEq, Eq, Serialize, Deserialize)]
 #[non_exhaustive]
 pub struct PageId {
-    /// The index of each child on the way to the element, from the root on, texts counted.
+    /// The index of each child on the path from the root to the element. Texts count.
     pub path: Vec<usize>,
     /// The id.
     pub id: String,
-    /// Where the start tag of the element begins.
+    /// The place where the element's start tag begins.
     pub place: Place,
 }
 
 impl fmt::Display for PageId {
-    /// In a line: `2:1: the id "a"`.
+    /// Writes a line: `2:1: the id "a"`.
     fn fmt(&self, f: &mut fmt::Formatter<'_>) -> fmt::Result {
         write!(f, "{}: the id \"{}\"", self.place, self.id)
     }
@@ -55,16 +57,16 @@ impl fmt::Display for PageId {
 #[derive(Clone, Debug, PartialEq, Eq, Serialize, Deserialize)]
 #[non_exhaustive]
 pub struct PageName {
-    /// The index of each child on the way to the element, from the root on, texts counted.
+    /// The index of each child on the path from the root to the element. Texts count.
     pub path: Vec<usize>,
     /// The name.
     pub name: String,
-    /// Where the start tag of the element begins.
+    /// The place where the element's start tag begins.
     pub place: Place,
 }
 
 impl fmt::Display for PageName {
-    /// In a line: `2:1: the name "a"`.
+    /// Writes a line: `2:1: the name "a"`.
     fn fmt(&self, f: &mut fmt::Formatter<'_>) -> fmt::Result {
         write!(f, "{}: the name \"{}\"", self.place, self.name)
     }
@@ -74,55 +76,55 @@ impl fmt::Display for PageName {
 #[derive(Clone, Debug, PartialEq, Eq, Serialize, Deserialize)]
 #[non_exhaustive]
 pub struct PageLink {
-    /// The index of each child on the way to the link, from the root on, texts counted.
+    /// The index of each child on the path from the root to the link. Texts count.
     pub path: Vec<usize>,
     /// Its address, as it is written.
     pub href: String,
-    /// Where the start tag of the link begins.
+    /// The place where the link's start tag begins.
     pub place: Place,
 }
 
 impl fmt::Display for PageLink {
-    /// In a line: `2:1: a link to "b.html#c"`.
+    /// Writes a line: `2:1: a link to "b.html#c"`.
     fn fmt(&self, f: &mut fmt::Formatter<'_>) -> fmt::Result {
         write!(f, "{}: a link to \"{}\"", self.place, self.href)
     }
 }
 
-/// The lists as the library tells them.
+/// The lists, in the form of the library's JSON.
 #[derive(Deserialize)]
-pub(crate) struct ToldPageLinks {
-    ids: Vec<Told<ToldId>>,
-    names: Vec<Told<ToldName>>,
-    links: Vec<Told<ToldHref>>,
+pub(crate) struct PageLinksJson {
+    ids: Vec<Located<IdJson>>,
+    names: Vec<Located<NameJson>>,
+    links: Vec<Located<HrefJson>>,
 }
 
 #[derive(Deserialize)]
-struct ToldName {
+struct NameJson {
     name: String,
 }
 
 #[derive(Deserialize)]
-struct ToldHref {
+struct HrefJson {
     href: String,
 }
 
-impl From<ToldPageLinks> for PageLinks {
-    fn from(told: ToldPageLinks) -> PageLinks {
+impl From<PageLinksJson> for PageLinks {
+    fn from(json: PageLinksJson) -> PageLinks {
         PageLinks {
-            ids: with_paths(told.ids, |path, told, place| PageId {
+            ids: with_paths(json.ids, |path, found, place| PageId {
                 path,
-                id: told.id,
+                id: found.id,
                 place,
             }),
-            names: with_paths(told.names, |path, told, place| PageName {
+            names: with_paths(json.names, |path, found, place| PageName {
                 path,
-                name: told.name,
+                name: found.name,
                 place,
             }),
-            links: with_paths(told.links, |path, told, place| PageLink {
+            links: with_paths(json.links, |path, found, place| PageLink {
                 path,
-                href: told.href,
+                href: found.href,
                 place,
             }),
         }

@@ -1,4 +1,5 @@
-//! Where in JSON an item stands: by the number of its list, or as the first value that leaves the form.
+//! Paths of items in JSON, found by the number of their list, or as the first value that does not
+//! have the form.
 
 use crate::{Document, Element, Item};
 use serde::{Deserialize, Serialize};
@@ -7,10 +8,10 @@ use std::collections::{BTreeMap, HashSet};
 use std::fmt;
 use std::ops::ControlFlow::{self, Break, Continue};
 
-/// How many lists and objects of JSON may stand in one another.
+/// The greatest number of nested lists and objects in JSON.
 const DEEPEST: usize = 127;
 
-/// A step on the way to a value in JSON.
+/// A step of a path to a value in JSON.
 #[derive(Clone, Debug, PartialEq, Eq, Hash, Serialize, Deserialize)]
 #[serde(untagged)]
 pub enum Step {
@@ -20,22 +21,24 @@ pub enum Step {
     Name(String),
 }
 
-/// The way to a value in JSON, from the outside in: to an item, mostly, of what is written.
+/// The path of a value in JSON, from the outside in. Mostly the value is an item.
 ///
-/// An element's body is the last value of its list, 3 or, behind css, 4; the body of a block or a box is the
-/// value 1, and what has a role the value 2. So `items[2][3][0]` is the first child of an element, which is the third item. Of a [`Document`] or an
-/// [`Element`] it is the way in the JSON that spells it, which their `item_at` goes.
+/// An element's body is the last value of its list: value 3, or value 4 behind css. The body of a
+/// block or a box is value 1, and the item with a role is value 2. So `items[2][3][0]` is the first
+/// child of an element, which is the third item. For a [`Document`] or an [`Element`] it is the
+/// path in the JSON that spells it, and their `item_at` follows it.
 #[derive(Clone, Debug, Default, PartialEq, Eq, Hash, Serialize, Deserialize)]
 #[serde(transparent)]
 pub struct ItemPath(Vec<Step>);
 
 impl ItemPath {
-    /// Its steps: none for the root of a tree.
+    /// Returns its steps. There are none for the root of a tree.
     pub fn steps(&self) -> &[Step] {
         &self.0
     }
 
-    /// The item in these to which the path leads that [`write_fragment`](crate::write_fragment) told.
+    /// Returns the one of these items to which a path that
+    /// [`write_fragment`](crate::write_fragment) reported leads.
     ///
     /// ```
     /// use typst_html_proved::{write_fragment, Element, Item, Level};
@@ -55,7 +58,7 @@ impl ItemPath {
 }
 
 impl fmt::Display for ItemPath {
-    /// As it is written in most languages: `items[2][3][0]`.
+    /// Writes it as most languages do: `items[2][3][0]`.
     fn fmt(&self, f: &mut fmt::Formatter<'_>) -> fmt::Result {
         self.0.iter().try_for_each(|step| match step {
             Step::Index(at) => write!(f, "[{at}]"),
@@ -65,7 +68,8 @@ impl fmt::Display for ItemPath {
 }
 
 impl Document {
-    /// The item, the footnote or the node of the head to which a path leads that [`write`](crate::write) told.
+    /// Returns the item, the footnote or the node of the head to which a path that
+    /// [`write`](crate::write) reported leads.
     ///
     /// ```
     /// use typst_html_proved::{write, Document, Element, Options};
@@ -87,8 +91,8 @@ impl Document {
 }
 
 impl Element {
-    /// The item in it to which a path leads that [`write_tree`](crate::write_tree) told; nothing where
-    /// that path has no step, and so leads to the element itself.
+    /// Returns the item in it to which a path that [`write_tree`](crate::write_tree) reported
+    /// leads. Returns `None` if that path has no step, and so leads to the element itself.
     pub fn item_at(&self, path: &ItemPath) -> Option<&Item> {
         match path.steps() {
             [Step::Index(field), steps @ ..] if *field == body_field(self) => {
@@ -111,12 +115,12 @@ fn lists(document: &Document) -> [(&'static str, &[Item]); 3] {
     ]
 }
 
-/// The field of its list in which an element's body stands.
+/// Returns the index of an element's body in its list.
 fn body_field(element: &Element) -> usize {
     3 + usize::from(!element.css.is_empty())
 }
 
-/// The item to which these steps lead.
+/// Returns the item to which these steps lead.
 fn item_in<'a>(items: &'a [Item], steps: &[Step]) -> Option<&'a Item> {
     match steps {
         [Step::Index(at), more @ ..] => part_in(items.get(*at)?, more),
@@ -124,7 +128,7 @@ fn item_in<'a>(items: &'a [Item], steps: &[Step]) -> Option<&'a Item> {
     }
 }
 
-/// The item to which these steps lead from an item.
+/// Returns the item to which these steps lead from an item.
 fn part_in<'a>(item: &'a Item, steps: &[Step]) -> Option<&'a Item> {
     match (steps, item.inside()) {
         ([], _) => Some(item),
@@ -138,7 +142,7 @@ fn part_in<'a>(item: &'a Item, steps: &[Step]) -> Option<&'a Item> {
     }
 }
 
-/// What stands in an item.
+/// The content of an item.
 enum Inside<'a, P> {
     /// A list of items.
     Body(&'a [P]),
@@ -146,15 +150,15 @@ enum Inside<'a, P> {
     One(&'a P),
 }
 
-/// What stands where an item may.
+/// A value in the position of an item.
 trait Part: Sized {
-    /// Whether a list spells it.
+    /// Returns whether a list spells it.
     fn is_list(&self) -> bool;
 
-    /// What stands in it, and in which field.
+    /// Returns its content, and the index of that in its list.
     fn inside(&self) -> Option<(usize, Inside<'_, Self>)>;
 
-    /// The name of a place, if it has one.
+    /// Returns the name of the place, if it is a place or a link with a name.
     fn name(&self) -> Option<&str>;
 }
 
@@ -180,7 +184,7 @@ impl Part for Item {
     }
 }
 
-/// How many lists stand in one another in an item, apart from what its body holds.
+/// Returns the number of nested lists in an item, apart from those in its body.
 fn levels(item: &Item) -> usize {
     match item {
         Item::Element(element) if !(element.attrs.is_empty() && element.css.is_empty()) => 3,
@@ -214,7 +218,7 @@ impl Part for Value {
     }
 }
 
-/// A way through items in the order of their opening brackets.
+/// A walk through items in the order of their opening brackets.
 struct Walk<F> {
     path: Vec<Step>,
     number: u64,
@@ -230,8 +234,8 @@ impl<F> Walk<F> {
         }
     }
 
-    /// Sees a part and what stands in it. What is seen comes with its path, and with the number of its list;
-    /// what is no list, with that of the last one before.
+    /// Visits a part and its content. Passes each with its path and the number of its list. A part
+    /// that is no list has the number of the last list before it.
     fn part<P: Part>(&mut self, part: &P) -> ControlFlow<()>
     where
         F: FnMut(&P, &[Step], u64) -> ControlFlow<()>,
@@ -257,7 +261,7 @@ impl<F> Walk<F> {
         each.try_for_each(|(at, part)| self.behind(Step::Index(at), |walk| walk.part(part)))
     }
 
-    /// Goes on behind a step.
+    /// Continues the walk with that step at the end of the path.
     fn behind(
         &mut self,
         step: Step,
@@ -277,7 +281,7 @@ impl<F> Walk<F> {
     }
 }
 
-/// What JSON spells that is given.
+/// The form of the caller's JSON.
 #[derive(Clone, Copy, PartialEq)]
 pub(crate) enum Form {
     Tree,
@@ -286,7 +290,7 @@ pub(crate) enum Form {
     Fragment,
 }
 
-/// What is written, of which places are told.
+/// The caller's input, in which paths are found.
 #[derive(Clone, Copy)]
 pub(crate) enum Given<'a> {
     Document(&'a Document),
@@ -296,7 +300,7 @@ pub(crate) enum Given<'a> {
 }
 
 impl Given<'_> {
-    /// The paths of the items whose lists have these numbers.
+    /// Returns the paths of the items whose lists have these numbers.
     pub(crate) fn paths(self, numbers: impl IntoIterator<Item = u64>) -> BTreeMap<u64, ItemPath> {
         let mut wanted: Vec<u64> = numbers.into_iter().filter(|number| *number > 0).collect();
         wanted.sort_unstable_by(|one, other| other.cmp(one));
@@ -335,7 +339,7 @@ impl Given<'_> {
         found
     }
 
-    /// The names of places, in the order of their locations, which are counted from 1.
+    /// Returns the names of places, in the order of their locations, which are counted from 1.
     pub(crate) fn names(self) -> Vec<String> {
         let mut found = Vec::new();
         let mut known = HashSet::new();
@@ -360,8 +364,9 @@ impl Given<'_> {
         found
     }
 
-    /// Where the form is left: the last item whose list is opened, or the value behind it that is none.
-    /// (The items of this crate leave it only by what a tree may not have.)
+    /// Returns the path of the first value that does not have the form: the last item whose list is
+    /// opened, or the value behind it that is no list. (Items of this crate always have the form,
+    /// except those that a tree may not hold.)
     pub(crate) fn left(self, number: u64) -> Option<ItemPath> {
         match self {
             Given::Json(form, json) => left_in(form, &serde_json::from_slice(json).ok()?),
@@ -369,7 +374,8 @@ impl Given<'_> {
         }
     }
 
-    /// The first item that stands deeper than JSON is read, in what is no JSON.
+    /// Returns the path of the first item that is deeper than JSON is read, unless the input is
+    /// JSON.
     pub(crate) fn deepest(self) -> Option<ItemPath> {
         let mut found = None;
         let see = |item: &Item, path: &[Step], _| {
@@ -389,7 +395,7 @@ impl Given<'_> {
     }
 }
 
-/// All items of a document.
+/// Visits all items of a document.
 fn items_of<F>(document: &Document, see: F) -> ControlFlow<()>
 where
     F: FnMut(&Item, &[Step], u64) -> ControlFlow<()>,
@@ -399,12 +405,12 @@ where
     each.try_for_each(|(name, items)| walk.member(name, items))
 }
 
-/// Whether a path leads to a node of a document's head.
+/// Returns whether a path leads to a node of a document's head.
 fn is_in_head(path: &[Step]) -> bool {
     matches!(path, [Step::Name(name), ..] if name == "head")
 }
 
-/// All that stands in the root of a tree, whose own list is the first.
+/// Visits all nodes below the root of a tree. The root's own list is the first.
 fn nodes_of<F>(root: &Element, see: F) -> ControlFlow<()>
 where
     F: FnMut(&Item, &[Step], u64) -> ControlFlow<()>,
@@ -414,7 +420,8 @@ where
     walk.behind(Step::Index(body_field(root)), |walk| walk.parts(&root.body))
 }
 
-/// All that stands where items may in a value of JSON; and what stands where a list of them should, if it is none.
+/// Visits each value of JSON in the position of an item, and each that is no list in the position
+/// of a list of items.
 fn spots<F>(form: Form, value: &Value, see: F) -> ControlFlow<()>
 where
     F: FnMut(&Value, &[Step], u64) -> ControlFlow<()>,
@@ -438,7 +445,7 @@ where
     }
 }
 
-/// The first value that is not what the form wants.
+/// Returns the path of the first value that does not have the form.
 fn left_in(form: Form, value: &Value) -> Option<ItemPath> {
     if form == Form::Document {
         if let Some(path) = wrong_member(value) {
@@ -454,7 +461,7 @@ fn left_in(form: Form, value: &Value) -> Option<ItemPath> {
             Form::Document if is_in_head(path) => is_node(value, false),
             Form::Document | Form::Fragment => is_item_of_document(value),
         };
-        // Tags have names or numbers, never both.
+        // The tags of an input have names or numbers, never both.
         if fits && is_named(value).map_or(true, |named| *tagged.get_or_insert(named) == named) {
             return Continue(());
         }
@@ -464,7 +471,8 @@ fn left_in(form: Form, value: &Value) -> Option<ItemPath> {
     found
 }
 
-/// The first member of a document that is wrong, by its name, or the document if it is no object.
+/// Returns the path of the wrong member of a document whose name comes first, or of the document if
+/// it is no object.
 fn wrong_member(document: &Value) -> Option<ItemPath> {
     let members = match document.as_object() {
         None => return Some(ItemPath::default()),
@@ -480,7 +488,7 @@ fn wrong_member(document: &Value) -> Option<ItemPath> {
     wrong.first().map(|name| ItemPath::of(name))
 }
 
-/// Whether a document may have that member. Lists of items and nodes are looked at later.
+/// Returns whether a document may have that member. Lists of items and nodes are checked later.
 fn is_member(name: &str, value: &Value) -> bool {
     match name {
         "title" | "description" | "lang" | "region" => value.is_string(),
@@ -492,7 +500,7 @@ fn is_member(name: &str, value: &Value) -> bool {
     }
 }
 
-/// Whether an item is a tag with a name, if it is a tag.
+/// Returns whether a tag has a name, or `None` if the item is no tag.
 fn is_named(item: &Value) -> Option<bool> {
     match item.get(0)?.as_str()? {
         "place" | "link" => Some(true),
@@ -501,7 +509,7 @@ fn is_named(item: &Value) -> Option<bool> {
     }
 }
 
-/// Whether a value is a pair of a name and a value.
+/// Returns whether a value is a pair of a name and a value.
 fn is_pair(pair: &Value) -> bool {
     match pair.as_array().map(Vec::as_slice) {
         Some([name, value]) => name.is_string() && value.is_string(),
@@ -509,7 +517,7 @@ fn is_pair(pair: &Value) -> bool {
     }
 }
 
-/// Whether a value is an item of a document, whatever stands in it.
+/// Returns whether a value is an item of a document, whatever its body holds.
 fn is_item_of_document(value: &Value) -> bool {
     let is_text = |value: &Value| value.is_string();
     match value.as_array().map(Vec::as_slice) {
@@ -530,7 +538,7 @@ fn is_item_of_document(value: &Value) -> bool {
     }
 }
 
-/// Whether a value is an item of the program's form, whatever stands in its body.
+/// Returns whether a value is an item in the form of the program, whatever its body holds.
 fn is_item(value: &Value) -> bool {
     let (kind, fields) = match value.as_array().map(Vec::as_slice) {
         Some([Value::String(kind), fields @ ..]) => (kind, fields),
@@ -549,7 +557,7 @@ fn is_item(value: &Value) -> bool {
     }
 }
 
-/// Whether a value may stand in a tree, at its root or elsewhere.
+/// Returns whether a value may stand in a tree, at its root or elsewhere.
 fn is_node(value: &Value, is_root: bool) -> bool {
     let kind = value.get(0).and_then(Value::as_str).unwrap_or_default();
     is_item(value) && (kind == "el" || !is_root && ["text", "start", "end"].contains(&kind))

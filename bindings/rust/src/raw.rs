@@ -1,10 +1,10 @@
-//! The calls of the static library, as typst_html.h has them.
+//! The calls of the static library, as typst_html.h declares them.
 
 use crate::{Kind, Level, Options, Place, Refusal, VERSION};
 use std::sync::atomic::{AtomicBool, Ordering::Relaxed};
 use std::sync::Once;
 
-/// How a call ended.
+/// The reply of a call.
 #[repr(C)]
 struct Reply {
     length: usize,
@@ -16,7 +16,7 @@ struct Reply {
 }
 
 impl Reply {
-    /// The refusal of a reply of status 1 or 2 to JSON.
+    /// Returns the refusal of a reply of status 1 or 2 to JSON.
     fn of_json(&self) -> Refusal {
         match self.status {
             1 => Refusal::Refused {
@@ -33,8 +33,8 @@ impl Reply {
         }
     }
 
-    /// The refusal of a reply of status 1 or 2 to a page. (A `str` is UTF-8, so of status 2 only the limit is
-    /// the reason.)
+    /// Returns the refusal of a reply of status 1 or 2 to a page. (A `str` is UTF-8, so the limit
+    /// is the only reason for status 2.)
     fn of_page(&self) -> Refusal {
         match self.status {
             1 => Refusal::PageRefused {
@@ -114,13 +114,13 @@ extern "C" {
     ) -> Reply;
 }
 
-/// The version of the library that is linked.
+/// Returns the version of the linked library.
 pub(crate) fn version() -> u32 {
     // SAFETY: the call takes nothing.
     unsafe { typst_html_version() }
 }
 
-/// Whether the library that is linked is of the version that is wanted, which is looked at once.
+/// Returns whether the linked library has the version of this crate. Reads the version only once.
 fn is_known() -> bool {
     static LOOKED: Once = Once::new();
     static KNOWN: AtomicBool = AtomicBool::new(false);
@@ -128,16 +128,16 @@ fn is_known() -> bool {
     KNOWN.load(Relaxed)
 }
 
-/// The text of a tree or of items.
+/// Returns the text of a tree or of items.
 pub(crate) fn write(kind: Kind, pretty: bool, input: &[u8]) -> Result<String, Refusal> {
     let kind = match kind {
         Kind::Tree => 0,
         Kind::Items => 1,
     };
     text_by(input.len(), Reply::of_json, |output| {
-        // SAFETY: the library is of this version, so the declaration is that of the export, which requires
-        // nothing beyond its types; each pointer and length are those of one slice, that of `output` lent
-        // for writing.
+        // SAFETY: the library has this version, so the declaration is that of the export, which
+        // requires nothing beyond its types; each pointer and length are those of one slice, and
+        // `output` is borrowed mutably.
         unsafe {
             typst_html_write(
                 kind,
@@ -151,7 +151,7 @@ pub(crate) fn write(kind: Kind, pretty: bool, input: &[u8]) -> Result<String, Re
     })
 }
 
-/// The text of a document, and whether all of its links lead, as far as they were to.
+/// Returns the text of a document, and `false` if its links were resolved and some lead nowhere.
 pub(crate) fn document(options: Options, input: &[u8]) -> Result<(String, bool), Refusal> {
     made_by(input.len(), Reply::of_json, |output| {
         // SAFETY: as in `write`.
@@ -169,7 +169,7 @@ pub(crate) fn document(options: Options, input: &[u8]) -> Result<(String, bool),
     })
 }
 
-/// The text of items by themselves.
+/// Returns the text of items by themselves.
 pub(crate) fn fragment(level: Level, limit: u32, input: &[u8]) -> Result<String, Refusal> {
     let level = match level {
         Level::Block => 0,
@@ -190,7 +190,7 @@ pub(crate) fn fragment(level: Level, limit: u32, input: &[u8]) -> Result<String,
     })
 }
 
-/// The links that lead nowhere in a document, in JSON.
+/// Returns the links of a document that lead nowhere, in JSON.
 pub(crate) fn dead_links(limit: u32, input: &[u8]) -> Result<String, Refusal> {
     text_by(input.len(), Reply::of_json, |output| {
         // SAFETY: as in `write`.
@@ -206,7 +206,7 @@ pub(crate) fn dead_links(limit: u32, input: &[u8]) -> Result<String, Refusal> {
     })
 }
 
-/// The members that tell what the text of a document does not show, in JSON.
+/// Returns the names of the members that the text of a document does not show, in JSON.
 pub(crate) fn unused(limit: u32, input: &[u8]) -> Result<String, Refusal> {
     text_by(input.len(), Reply::of_json, |output| {
         // SAFETY: as in `write`.
@@ -222,7 +222,7 @@ pub(crate) fn unused(limit: u32, input: &[u8]) -> Result<String, Refusal> {
     })
 }
 
-/// What is wrong in a page, in JSON.
+/// Returns what is wrong in a page, in JSON.
 pub(crate) fn check(limit: u32, page: &[u8]) -> Result<String, Refusal> {
     text_by(page.len(), Reply::of_page, |output| {
         // SAFETY: as in `write`.
@@ -238,7 +238,7 @@ pub(crate) fn check(limit: u32, page: &[u8]) -> Result<String, Refusal> {
     })
 }
 
-/// The ids, the names and the links of a page, in JSON.
+/// Returns the ids, the names and the links of a page, in JSON.
 pub(crate) fn links(limit: u32, page: &[u8]) -> Result<String, Refusal> {
     text_by(page.len(), Reply::of_page, |output| {
         // SAFETY: as in `write`.
@@ -254,7 +254,7 @@ pub(crate) fn links(limit: u32, page: &[u8]) -> Result<String, Refusal> {
     })
 }
 
-/// The text of a call that tells of no dead links.
+/// Returns the text that a call makes. A reply with dead links is one of another library.
 fn text_by(
     length: usize,
     refusal: impl Fn(&Reply) -> Refusal,
@@ -266,8 +266,9 @@ fn text_by(
     }
 }
 
-/// The text that a call makes, in a buffer that is mostly long enough: four bytes for each of the input;
-/// and whether the call tells of no dead links. A library of another version is not called.
+/// Returns the text that a call makes, and `false` if the call reports dead links. The first buffer
+/// has four bytes for each byte of the input, which mostly is enough. A library of another version
+/// is not called.
 fn made_by(
     length: usize,
     refusal: impl Fn(&Reply) -> Refusal,

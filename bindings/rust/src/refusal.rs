@@ -1,4 +1,4 @@
-//! Why there is no text, or what is wrong with it.
+//! Reasons why there is no text, or what is wrong with it.
 
 use crate::path::Given;
 use crate::{DeadLink, ItemPath};
@@ -13,16 +13,18 @@ const OTHER_LIBRARY: &str = "the library that is linked is not of the version th
 /// A place in a page.
 #[derive(Clone, Copy, Debug, PartialEq, Eq, Hash, Serialize, Deserialize)]
 pub struct Place {
-    /// How many bytes of the page stand before it.
+    /// The number of bytes of the page before it.
     pub offset: u64,
-    /// Its line, counted from 1. A line ends with a line feed, a carriage return or both, in that order.
+    /// Its line, counted from 1. A line ends with a line feed, a carriage return, or both in the
+    /// order CR LF.
     pub line: usize,
-    /// Its column, in characters, counted from 1. A byte order mark at the beginning of the page is none.
+    /// Its column, counted from 1 in characters. A byte order mark at the beginning of the page
+    /// does not count.
     pub column: usize,
 }
 
 impl fmt::Display for Place {
-    /// `line:column`, as in `3:14`.
+    /// Writes `line:column`, as in `3:14`.
     fn fmt(&self, f: &mut fmt::Formatter<'_>) -> fmt::Result {
         write!(f, "{}:{}", self.line, self.column)
     }
@@ -32,86 +34,88 @@ impl fmt::Display for Place {
 #[derive(Clone, Debug, PartialEq, Eq)]
 #[non_exhaustive]
 pub struct DeadLinks {
-    /// The text, in which these links stand without an `href`.
+    /// The text, in which these links have no `href`.
     pub text: String,
     /// The links, in document order: at least one.
     pub links: Vec<DeadLink>,
 }
 
 impl DeadLinks {
-    /// Where the first of them is.
+    /// Returns the span of the first link, or 0.
     fn span(&self) -> u64 {
         self.links.first().map_or(0, |link| link.span)
     }
 }
 
 impl fmt::Display for DeadLinks {
-    /// How many there are, and where the first is.
+    /// Writes the number of links, and the span of the first.
     fn fmt(&self, f: &mut fmt::Formatter<'_>) -> fmt::Result {
         let (count, span) = (self.links.len(), self.span());
         write!(f, "{DEAD_LINKS} ({count}, the first at {span})")
     }
 }
 
-/// Why there is no text, or none without dead links.
+/// The reason why there is no text, or none without dead links.
 #[derive(Clone, Debug, PartialEq, Eq, Error)]
 #[non_exhaustive]
 pub enum Refusal {
-    /// What is to be written breaks a rule of HTML, or stands where it may not.
+    /// The input breaks a rule of HTML, or holds something where it may not stand.
     #[error("{} (refusal {number} at {span}{})", words(.number), behind(.path))]
     #[non_exhaustive]
     Refused {
-        /// Which rule: 1 to 15, whose words [`Refusal::words`] tells.
+        /// The number of the rule, from 1 to 15. [`Refusal::words`] returns its words.
         number: u8,
-        /// Where: the number of the list of a node or item in the JSON, counted from 1 by their opening
-        /// brackets, those of footnotes after those of items; 0 where it has no place.
+        /// The number of the list of the node or item in the JSON, counted from 1 by their opening
+        /// brackets, those of footnotes after those of items; 0 if the refusal has no place.
         span: u64,
-        /// The way to that item, where it has a place.
+        /// The path of that item, if the refusal has a place.
         path: Option<ItemPath>,
     },
-    /// A page that is checked is not read: a browser would move nodes of it or make them a second time,
-    /// it holds what no element can have here, or its elements stand deeper than the limit.
+    /// A page that is checked is not read: a browser would move nodes of it or make them a second
+    /// time, it holds what no element of this project can have, or its elements are deeper than the
+    /// limit.
     #[error("{} (refusal {number} at {place})", words(.number))]
     #[non_exhaustive]
     PageRefused {
-        /// Why: 8 or 26 to 39, whose words [`Refusal::words`] tells.
+        /// The number of the reason, 8 or from 26 to 39. [`Refusal::words`] returns its words.
         number: u8,
-        /// Where: the tag or the character begins there.
+        /// The place where the tag or the character begins.
         place: Place,
     },
-    /// The input spells nothing that can be written, or nests more than 127 levels of JSON; or the limit
-    /// is wrong.
+    /// The input spells nothing that can be written, or nests more than 127 levels of JSON, or the
+    /// limit is wrong.
     #[error("bad input{}", place(.span, .line, .column, .path))]
     #[non_exhaustive]
     BadInput {
-        /// Where the form is left: how many lists of nodes or items are opened up to the first value that
-        /// is not what the form wants, counted as those of a refusal; 0 before the first, and where
-        /// there is no such place.
+        /// The number of lists of nodes or items that are opened up to the first value that does
+        /// not have the form, counted as those of a refusal; 0 before the first, or if there is no
+        /// such value.
         span: u64,
-        /// The line in the JSON, from 1 on, where it is none; else 0.
+        /// The line where the input is no JSON, counted from 1; otherwise 0.
         line: usize,
-        /// The column there, in bytes from 1 on; where the JSON ends too soon, how long its last line is.
+        /// The column there, counted from 1 in bytes; if the JSON ends too soon, the length of its
+        /// last line.
         column: usize,
-        /// The way to the first value that is not what the form wants, which is an item or stands in the place
-        /// of one, of a list of them or of another member; or to the first item that stands deeper than JSON is
-        /// read. Nothing where it is no JSON that is given.
+        /// The path of the first value that does not have the form: an item, or a value in place of
+        /// an item, of a list of items or of another member. If an item is deeper than JSON is
+        /// read, the path of the first such item. `None` if the caller's input is no JSON.
         path: Option<ItemPath>,
     },
-    /// Links were to get the `href` of their destination, and for some no place of the document is one.
-    /// The text is there all the same.
+    /// Links were to get the `href` of their destination, and some have a destination that is no
+    /// place of the document. The error holds the text all the same.
     #[error("{0}")]
     DeadLinks(DeadLinks),
     /// An allocation failed.
     #[error("out of memory")]
     OutOfMemory,
-    /// The library that is linked has another [`version`](crate::version), or replies as none of
+    /// The linked library has another [`version`](crate::version), or replies as no library of
     /// [`VERSION`](crate::VERSION) does.
     #[error("{OTHER_LIBRARY}")]
     OtherLibrary,
 }
 
 impl Refusal {
-    /// An input that is bad, with no place.
+    /// Bad input without a place.
     pub const BAD_INPUT: Refusal = Refusal::BadInput {
         span: 0,
         line: 0,
@@ -119,7 +123,7 @@ impl Refusal {
         path: None,
     };
 
-    /// The number of the refusal; 0 where there is none.
+    /// Returns the number of the refusal, or 0 if it has none.
     pub fn number(&self) -> u8 {
         match self {
             Refusal::Refused { number, .. } | Refusal::PageRefused { number, .. } => *number,
@@ -127,8 +131,9 @@ impl Refusal {
         }
     }
 
-    /// Where the refusal is, the first dead link, or where the form is left: of a page, how many bytes of
-    /// it stand before; 0 where there is no such place.
+    /// Returns the span of the refusal, of the first dead link, or of the value that does not have
+    /// the form. For a page it is the number of bytes before the place. It is 0 if there is no such
+    /// place.
     pub fn span(&self) -> u64 {
         match self {
             Refusal::Refused { span, .. } | Refusal::BadInput { span, .. } => *span,
@@ -138,8 +143,9 @@ impl Refusal {
         }
     }
 
-    /// The way to the item that is refused, to the first dead link, or to what leaves the form, in the JSON
-    /// that was given or that spells what was. [`Document::item_at`](crate::Document::item_at) goes it.
+    /// Returns the path of the refused item, of the first dead link, or of the value that does not
+    /// have the form. It is a path in the caller's JSON, or in the JSON that spells the caller's
+    /// value. [`Document::item_at`](crate::Document::item_at) follows it.
     pub fn path(&self) -> Option<&ItemPath> {
         match self {
             Refusal::Refused { path, .. } | Refusal::BadInput { path, .. } => path.as_ref(),
@@ -148,7 +154,7 @@ impl Refusal {
         }
     }
 
-    /// The refusal with the path in what was given.
+    /// Returns the refusal with its path in the caller's input.
     pub(crate) fn located(mut self, given: Given<'_>) -> Refusal {
         match &mut self {
             Refusal::Refused { span, path, .. } => *path = given.paths([*span]).remove(span),
@@ -160,7 +166,7 @@ impl Refusal {
             } => {
                 *path = given.left(*span).or_else(|| given.deepest());
             }
-            // Where this crate wrote the JSON, it is read but for its depth.
+            // JSON that this crate wrote can fail to be read only because of its depth.
             Refusal::BadInput {
                 path, line, column, ..
             } => {
@@ -174,7 +180,7 @@ impl Refusal {
         self
     }
 
-    /// What is wrong.
+    /// Returns words for what is wrong.
     pub fn words(&self) -> &'static str {
         match self {
             Refusal::Refused { number, .. } | Refusal::PageRefused { number, .. } => words(number),
@@ -186,7 +192,7 @@ impl Refusal {
     }
 }
 
-/// The path behind a number, if it has a step.
+/// Returns the path to be written behind a number, or an empty text if the path has no step.
 fn behind(path: &Option<ItemPath>) -> String {
     match path {
         Some(path) if !path.steps().is_empty() => format!(", {path}"),
@@ -194,7 +200,7 @@ fn behind(path: &Option<ItemPath>) -> String {
     }
 }
 
-/// Where an input is bad, behind these words.
+/// Returns the place to be written behind "bad input".
 fn place(span: &u64, line: &usize, column: &usize, path: &Option<ItemPath>) -> String {
     match (span, line, path) {
         (0, 0, Some(path)) if !path.steps().is_empty() => format!(" at {path}"),

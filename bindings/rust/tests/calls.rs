@@ -1,40 +1,40 @@
-//! What a caller in Rust sees of the library.
+//! Tests of the library's calls from Rust.
 
 use serde_json::Value;
 use std::thread;
 use typst_html_proved::*;
 
-/// What comes of a call, without the paths that this crate adds.
+/// The outcome of a call, without the paths that this crate adds.
 #[derive(Debug, PartialEq)]
-enum Told {
+enum Outcome {
     Text(String),
     Refused(u8, u64),
     BadInput(u64, usize, usize),
     DeadLinks(String, Vec<(u64, u64)>),
 }
 
-fn told(written: &Result<String, Refusal>) -> Told {
+fn outcome(written: &Result<String, Refusal>) -> Outcome {
     match written {
-        Ok(text) => Told::Text(text.clone()),
-        Err(Refusal::Refused { number, span, .. }) => Told::Refused(*number, *span),
+        Ok(text) => Outcome::Text(text.clone()),
+        Err(Refusal::Refused { number, span, .. }) => Outcome::Refused(*number, *span),
         Err(Refusal::BadInput {
             span, line, column, ..
-        }) => Told::BadInput(*span, *line, *column),
+        }) => Outcome::BadInput(*span, *line, *column),
         Err(Refusal::DeadLinks(dead)) => {
             let links = dead.links.iter();
             let links = links.map(|link| (link.span, link.destination)).collect();
-            Told::DeadLinks(dead.text.clone(), links)
+            Outcome::DeadLinks(dead.text.clone(), links)
         }
         Err(other) => panic!("{other}"),
     }
 }
 
-/// A worked row, with what is to come of it. One without a kind is a document.
+/// A row with its expected outcome. A row without a kind is a document.
 struct Row {
     kind: Option<Kind>,
     options: Options,
     input: Vec<u8>,
-    wanted: Told,
+    wanted: Outcome,
 }
 
 impl Row {
@@ -54,7 +54,7 @@ fn bytes(value: &Value) -> Vec<u8> {
         .collect()
 }
 
-/// The spans and the destinations of the links that the library lists so.
+/// Returns the spans and the destinations of the links that the library lists in JSON.
 fn dead_links(listed: &str) -> Vec<(u64, u64)> {
     let listed: Value = serde_json::from_str(listed).unwrap();
     let number = |link: &Value, name: &str| link[name].as_u64().unwrap();
@@ -68,14 +68,14 @@ fn number(value: &Value, name: &str) -> u64 {
     value[name].as_u64().unwrap()
 }
 
-fn wanted(value: &Value) -> Told {
+fn wanted(value: &Value) -> Outcome {
     let number = |name: &str| number(value, name);
     let text = |name: &str| String::from_utf8(bytes(&value[name])).unwrap();
     match number("status") {
-        0 => Told::Text(text("text")),
-        5 => Told::DeadLinks(text("text"), dead_links(&text("dead"))),
-        1 => Told::Refused(number("number") as u8, number("span")),
-        _ => Told::BadInput(
+        0 => Outcome::Text(text("text")),
+        5 => Outcome::DeadLinks(text("text"), dead_links(&text("dead"))),
+        1 => Outcome::Refused(number("number") as u8, number("span")),
+        _ => Outcome::BadInput(
             number("span"),
             number("line") as usize,
             number("column") as usize,
@@ -96,11 +96,11 @@ fn row(value: &Value) -> Row {
     }
 }
 
-/// The number of the kind of rows that are about items by themselves.
+/// The number of the kind of rows for items by themselves.
 const FRAGMENT: u64 = 3;
 
-/// The rows of crates/tests_rows, which bindings/rows.py writes into the file that TYPST_HTML_ROWS
-/// names.
+/// Returns the rows of crates/tests_rows. bindings/rows.py writes them into the file that
+/// TYPST_HTML_ROWS names.
 fn all_rows() -> Vec<Value> {
     let path = std::env::var("TYPST_HTML_ROWS")
         .unwrap_or_else(|_| format!("{}/../out/rows.json", env!("CARGO_MANIFEST_DIR")));
@@ -108,17 +108,18 @@ fn all_rows() -> Vec<Value> {
     serde_json::from_slice(&text).unwrap()
 }
 
-/// The rows about trees, items and documents.
+/// Returns the rows for trees, items and documents.
 fn rows() -> Vec<Row> {
     let all = all_rows();
     let others = all.iter().filter(|value| number(value, "kind") != FRAGMENT);
     others.map(row).collect()
 }
 
-/// How rows end whose JSON is as deep as it is read, so that it can't stand in an object.
+/// The end of rows whose JSON has the greatest depth that is read, so that it can't stand in an
+/// object.
 const DEEPEST: [u8; 127] = [b']'; 127];
 
-/// The JSON of a document of which nothing is known, around that of its items.
+/// Returns the JSON of a document without information, from that of its items.
 fn document_around(items: &[u8]) -> Vec<u8> {
     [br#"{"items":"#.as_slice(), items, b"}"].concat()
 }
@@ -127,11 +128,12 @@ fn document_around(items: &[u8]) -> Vec<u8> {
 fn rows_are_as_the_program_writes_them() {
     for row in rows() {
         let what = String::from_utf8_lossy(&row.input);
-        assert_eq!(told(&row.written()), row.wanted, "{what}");
+        assert_eq!(outcome(&row.written()), row.wanted, "{what}");
     }
 }
 
-/// The lists of items in a value, in the order of their opening brackets, by a recursion of its own.
+/// Collects the lists of items in a value, in the order of their opening brackets, by a recursion
+/// of its own.
 fn lists<'a>(kind: Option<Kind>, value: &'a Value, found: &mut Vec<&'a Value>) {
     fn those<'a>(items: &'a Value, found: &mut Vec<&'a Value>) {
         for item in items.as_array().into_iter().flatten() {
@@ -161,7 +163,7 @@ fn lists<'a>(kind: Option<Kind>, value: &'a Value, found: &mut Vec<&'a Value>) {
     }
 }
 
-/// What stands in a value where a path leads.
+/// Returns the part of a value to which a path leads.
 fn at<'a>(value: &'a Value, path: &ItemPath) -> &'a Value {
     path.steps().iter().fold(value, |value, step| match step {
         Step::Index(at) => &value[*at],
@@ -191,7 +193,7 @@ fn what_is_refused_or_bad_has_its_item() {
         let there = refusal.path().map(|path| at(&value, path));
         match refusal {
             Refusal::Refused { span: 0, .. } => assert_eq!(there, None, "{what}"),
-            // What leaves the form is that list, or the next value, which is none that is numbered.
+            // That list does not have the form, or else the next value, which has no number.
             Refusal::BadInput { .. } if !there.unwrap().is_array() || list.is_none() => {}
             _ => assert!(std::ptr::eq(there.unwrap(), *list.unwrap()), "{what}"),
         }
@@ -207,21 +209,21 @@ fn documents_without_information_are_their_items() {
             let input = document_around(&row.input);
             let written = write_document_json(&input, row.options);
             match row.wanted {
-                // A document may have other items too, and so end elsewhere.
-                Told::BadInput(_, 0, _) => {
+                // A document may have other items too, so its outcome may differ.
+                Outcome::BadInput(_, 0, _) => {
                     assert!(matches!(written, Ok(_) | Err(Refusal::BadInput { .. })));
                 }
-                // What is no JSON ends elsewhere, or not at all.
-                Told::BadInput(_, 1.., _) => {
+                // Input that is no JSON is refused at another place, or at none.
+                Outcome::BadInput(_, 1.., _) => {
                     assert!(matches!(written, Err(Refusal::BadInput { .. })));
                 }
-                wanted => assert_eq!(told(&written), wanted),
+                wanted => assert_eq!(outcome(&written), wanted),
             }
         }
     }
 }
 
-/// From JSON and from items that are read of it, with the item of a refusal.
+/// From JSON and from items that are read from it, with the item of a refusal.
 #[test]
 fn rows_of_fragments_are_as_the_library_writes_them() {
     let all = all_rows();
@@ -232,7 +234,7 @@ fn rows_of_fragments_are_as_the_library_writes_them() {
         let limit = number(value, "limit") as u32;
         let items: Vec<Item> = serde_json::from_slice(&json).unwrap();
         let written = write_fragment_json(&json, level, limit);
-        assert_eq!(told(&written), wanted(value));
+        assert_eq!(outcome(&written), wanted(value));
         assert_eq!(write_fragment(&items, level, limit), written);
         if let Err(refusal) = written {
             let path = refusal.path().unwrap();
@@ -375,32 +377,32 @@ fn refusals_have_numbers_spans_and_words() {
     let message = "a character is not valid in an attribute name (refusal 7 at 2, items[1])";
     assert_eq!(refusal.to_string(), message);
     assert_eq!(Refusal::BAD_INPUT.to_string(), "bad input");
-    let told = |json| {
+    let report = |json| {
         write_json(Kind::Items, json, false)
             .unwrap_err()
             .to_string()
     };
-    assert_eq!(told(br#"[["space"],["text",1]]"#), "bad input at 2, [1]");
-    assert_eq!(told(b"[7]"), "bad input at [0]");
-    assert_eq!(told(b"[\n{}"), "bad input at line 2 column 2");
-    let told = |json| {
+    assert_eq!(report(br#"[["space"],["text",1]]"#), "bad input at 2, [1]");
+    assert_eq!(report(b"[7]"), "bad input at [0]");
+    assert_eq!(report(b"[\n{}"), "bad input at line 2 column 2");
+    let report = |json| {
         write_document_json(json, Options::new())
             .unwrap_err()
             .to_string()
     };
     assert_eq!(
-        told(br#"{"items":[["box",[["hole"],7]]]}"#),
+        report(br#"{"items":[["box",[["hole"],7]]]}"#),
         "bad input at 2, items[0][1][1]"
     );
     assert_eq!(
-        told(br#"{"items":[["hole"]],"footnotes":7}"#),
+        report(br#"{"items":[["hole"]],"footnotes":7}"#),
         "bad input at 1, footnotes"
     );
     assert_eq!(
-        told(br#"{"title":"t","region":"AT"}"#),
+        report(br#"{"title":"t","region":"AT"}"#),
         "bad input at region"
     );
-    assert_eq!(told(b"[]"), "bad input");
+    assert_eq!(report(b"[]"), "bad input");
 }
 
 #[test]
@@ -443,7 +445,7 @@ fn the_item_of_a_refusal_is_in_the_document() {
     assert_eq!((refusal.path(), refusal.number()), (None, 11));
 }
 
-/// Whatever may be an item, or several.
+/// All types that can be turned into items.
 #[test]
 fn items_are_made_of_all_that_they_may_be() {
     let owned = String::from("b");
@@ -480,13 +482,13 @@ fn items_are_made_of_all_that_they_may_be() {
 }
 
 #[test]
-fn items_are_told_in_a_line() {
+fn items_are_shown_in_a_line() {
     let start = |destination| Item::Start {
         location: 3,
         destination,
         label: None,
     };
-    for (item, told) in [
+    for (item, line) in [
         (Item::from("a\n\"b\""), r#""a\n\"b\"""#),
         (
             Element::new("p")
@@ -502,16 +504,17 @@ fn items_are_told_in_a_line() {
         (start(Some(7)), "the start of location 3, which leads to 7"),
         (Item::End(3), "the end of location 3"),
     ] {
-        assert_eq!(item.to_string(), told);
+        assert_eq!(item.to_string(), line);
     }
 }
 
-/// What is read of JSON is spelled as it was, and what the library refuses to read is not read here.
+/// Values that are read from JSON are spelled as they were, and input that the library refuses to
+/// read is not read here.
 #[test]
 fn documents_and_items_are_read_of_json() {
     let mut seen = (0, 0);
     for row in rows() {
-        let bad = matches!(row.wanted, Told::BadInput(..));
+        let bad = matches!(row.wanted, Outcome::BadInput(..));
         let json = row.input.as_slice();
         if row.kind == Some(Kind::Items)
             && bad
@@ -523,15 +526,15 @@ fn documents_and_items_are_read_of_json() {
             Some(Kind::Tree) => serde_json::from_slice(json).map(|root: Element| {
                 let given: Value = serde_json::from_slice(json).unwrap();
                 let same = serde_json::to_value(&root).unwrap() == given;
-                assert!(!same || told(&write_tree(&root, row.options.pretty)) == row.wanted);
+                assert!(!same || outcome(&write_tree(&root, row.options.pretty)) == row.wanted);
             }),
             Some(_) => serde_json::from_slice(json).map(|items: Vec<Item>| {
                 let deepest = row.input.ends_with(&DEEPEST);
                 let document = items.into_iter().collect();
-                assert!(deepest || told(&write(&document, row.options)) == row.wanted);
+                assert!(deepest || outcome(&write(&document, row.options)) == row.wanted);
             }),
             None => serde_json::from_slice(json).map(|document: Document| {
-                assert_eq!(told(&write(&document, row.options)), row.wanted);
+                assert_eq!(outcome(&write(&document, row.options)), row.wanted);
             }),
         };
         // (blocks and spaces, which a tree may not have, are items; an empty list of css is none)
@@ -619,12 +622,12 @@ fn names_beside_numbers_are_bad_input() {
     assert_eq!(refusal.to_string(), "bad input at 2, items[1]");
 }
 
-/// So many elements in one another, the inmost without a body.
+/// Returns that many nested elements. The innermost has no body.
 fn nested(count: usize) -> Element {
     (1..count).fold(Element::new("b"), |inner, _| Element::new("b").child(inner))
 }
 
-/// They are built, refused and dropped, on a stack of 256 KB.
+/// Such items are built, refused and dropped on a stack of 256 KB.
 #[test]
 fn items_of_any_depth_are_refused_or_written() {
     let small = thread::Builder::new().stack_size(256 << 10);
@@ -634,7 +637,7 @@ fn items_of_any_depth_are_refused_or_written() {
             let root = nested(count);
             let refusal = write_tree(&root, false).unwrap_err();
             assert_eq!(refusal.words(), "bad input");
-            // The element whose body would be deeper than JSON is read.
+            // The path leads to the element whose body would be deeper than JSON is read.
             let path = refusal.path().unwrap();
             assert_eq!(
                 (path.steps().len(), &path.steps()[..2]),
@@ -665,7 +668,7 @@ fn a_tree_with_a_block_is_bad_input() {
     assert_eq!(write_tree(&tree, true).unwrap_err().span(), 2);
 }
 
-/// A place in the first line, before which only ASCII stands.
+/// Returns a place in the first line, with only ASCII before it.
 fn first_line(offset: u64) -> Place {
     Place {
         offset,
@@ -702,7 +705,7 @@ fn findings_have_paths_names_and_places() {
     );
 }
 
-/// A page without a document type keeps a table in a p, which the text of its tree would not.
+/// A page without a document type keeps a table in a p, but the text of its tree would not.
 #[test]
 fn misnested_nodes_have_rules_and_words() {
     let findings = check("<p><table></table><b><table></table></b>", 50).unwrap();
@@ -728,25 +731,25 @@ fn misnested_nodes_have_rules_and_words() {
 }
 
 #[test]
-fn pages_tell_their_ids_names_and_links() {
+fn links_returns_ids_names_and_links() {
     let page = r#"<html id=r><p id="">é<a id=s name=t href="b.html#c">x</a><map><area href></map>"#;
-    let told = links(page, 50).unwrap();
+    let listed = links(page, 50).unwrap();
     let lines = "1:1: the id \"r\"\n1:22: the id \"s\"\n1:22: the name \"t\"\n\
                  1:22: a link to \"b.html#c\"\n1:63: a link to \"\"";
-    assert_eq!(told.to_string(), lines);
-    let paths: Vec<_> = told.links.iter().map(|it| it.path.as_slice()).collect();
+    assert_eq!(listed.to_string(), lines);
+    let paths: Vec<_> = listed.links.iter().map(|it| it.path.as_slice()).collect();
     assert_eq!(paths, [&[1, 0, 1][..], &[1, 0, 2, 0]]);
-    assert!(told.ids[0].path.is_empty());
-    assert_eq!(told.links[0].place.offset, 22);
-    let spelled = serde_json::to_string(&told).unwrap();
-    assert_eq!(serde_json::from_str::<PageLinks>(&spelled).unwrap(), told);
+    assert!(listed.ids[0].path.is_empty());
+    assert_eq!(listed.links[0].place.offset, 22);
+    let spelled = serde_json::to_string(&listed).unwrap();
+    assert_eq!(serde_json::from_str::<PageLinks>(&spelled).unwrap(), listed);
     assert_eq!(links("", 50), Ok(PageLinks::default()));
     let refusal = links("<table>a", 50).unwrap_err();
     assert_eq!(refusal, check("<table>a", 50).unwrap_err());
     assert!(matches!(links("", 0), Err(Refusal::BadInput { .. })));
 }
 
-/// The links that lead nowhere: paths, fragments and places.
+/// Returns the path, the fragment and the place of each link that leads nowhere.
 fn dead_fragments(findings: &Findings) -> Vec<(Vec<usize>, String, Place)> {
     let dead = findings.dead_fragments.iter();
     dead.map(|it| (it.path.clone(), it.fragment.clone(), it.place))
@@ -792,7 +795,7 @@ fn links_that_are_given_lead() {
 }
 
 #[test]
-fn links_that_lead_nowhere_are_told_with_the_text() {
+fn links_that_lead_nowhere_are_reported_with_the_text() {
     let start = |location, destination| Item::Start {
         location,
         destination,
@@ -805,8 +808,8 @@ fn links_that_lead_nowhere_are_told_with_the_text() {
         .footnote(Element::new("a"));
     let written = |links| write(&document, Options::new().links(links));
     let refusal = written(true).unwrap_err();
-    let wanted = Told::DeadLinks(written(false).unwrap(), vec![(2, 7), (5, u64::MAX)]);
-    assert_eq!(told(&Err(refusal.clone())), wanted);
+    let wanted = Outcome::DeadLinks(written(false).unwrap(), vec![(2, 7), (5, u64::MAX)]);
+    assert_eq!(outcome(&Err(refusal.clone())), wanted);
     let dead = match &refusal {
         Refusal::DeadLinks(dead) => dead,
         other => panic!("{other}"),
@@ -823,7 +826,7 @@ fn links_that_lead_nowhere_are_told_with_the_text() {
 }
 
 #[test]
-fn pages_that_are_not_read_are_told() {
+fn pages_that_are_not_read_are_reported() {
     let place_of = |page, limit| match check(page, limit) {
         Err(Refusal::PageRefused { number, place, .. }) => {
             (number, place.offset, place.line, place.column)
@@ -858,7 +861,7 @@ fn pages_that_are_not_read_are_told() {
     }
 }
 
-/// The library tells of a path what differs from the one before.
+/// The library reports only the part of a path that differs from the one before.
 #[test]
 fn findings_deep_in_their_page_have_whole_paths() {
     let (deep, link) = (400, "<a href=\"#x\" id=\"i\"></a>");
@@ -876,15 +879,15 @@ fn findings_deep_in_their_page_have_whole_paths() {
     let offsets: Vec<_> = page.match_indices("<a").map(|(at, _)| at as u64).collect();
     let findings = check(&page, 1000).unwrap();
     let (dead, repeated) = (findings.dead_fragments, findings.repeated_ids);
-    let told: Vec<_> = dead.iter().map(|it| it.place.offset).collect();
-    assert_eq!(told, offsets);
-    let told: Vec<_> = dead.into_iter().map(|it| it.path).collect();
-    assert_eq!(told, paths);
-    let told: Vec<_> = repeated.into_iter().map(|it| it.path).collect();
-    assert_eq!(told, paths[1..]);
+    let found: Vec<_> = dead.iter().map(|it| it.place.offset).collect();
+    assert_eq!(found, offsets);
+    let found: Vec<_> = dead.into_iter().map(|it| it.path).collect();
+    assert_eq!(found, paths);
+    let found: Vec<_> = repeated.into_iter().map(|it| it.path).collect();
+    assert_eq!(found, paths[1..]);
 }
 
-/// Pretty text of elements in one another is far longer than its JSON, so the first buffer is too short.
+/// Pretty text of nested elements is far longer than its JSON, so the first buffer is too short.
 #[test]
 fn a_buffer_that_is_too_short_is_made_longer() {
     let mut element = Element::new("ul");
@@ -912,7 +915,7 @@ fn eight_threads_agree() {
         for _ in 0..8 {
             scope.spawn(|| {
                 for row in &rows {
-                    assert_eq!(told(&row.written()), row.wanted);
+                    assert_eq!(outcome(&row.written()), row.wanted);
                 }
             });
         }
@@ -935,8 +938,8 @@ fn ten_megabytes_are_written() {
     );
 }
 
-/// The deepest page that may be checked, on a stack of 256 KB, at every limit that is tried: html, body, and a
-/// div with a link at each other level but the last, at which the deepest link stands.
+/// The deepest page that may be checked, on a stack of 256 KB, at every limit that is tried. It has
+/// html, body, a div with a link at each other level, and only a link at the last level.
 #[test]
 fn the_deepest_page_on_a_small_stack() {
     let checks = || {
@@ -946,8 +949,8 @@ fn the_deepest_page_on_a_small_stack() {
             let findings = check(&page, limit).unwrap();
             assert_eq!(findings.dead_fragments.len(), deep);
             assert_eq!(findings.repeated_ids.len(), deep - 1);
-            let told = links(&page, limit).unwrap();
-            assert_eq!((told.ids.len(), told.links.len()), (deep, deep));
+            let listed = links(&page, limit).unwrap();
+            assert_eq!((listed.ids.len(), listed.links.len()), (deep, deep));
             assert_eq!(check(&page, limit - 1).unwrap_err().number(), 8);
         }
     };

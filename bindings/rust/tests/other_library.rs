@@ -1,14 +1,14 @@
-//! What a caller sees of a library that is not the one that the crate was made for. Its calls are those of
-//! this file, which the linker finds before those of the archive.
+//! Tests of the crate with a library of another version, or with other replies. Its calls are those
+//! of this file, which the linker finds before those of the archive.
 
 use std::process::{abort, Command};
 use std::sync::atomic::{AtomicU32, AtomicUsize, Ordering::SeqCst};
 use typst_html_proved::*;
 
-/// Set, this process is one in which a library of another version is linked.
+/// The variable that is set in a process with a library of another version.
 const OTHER: &str = "TYPST_HTML_OTHER_VERSION";
 
-/// As the library lays it out.
+/// The reply, with the library's layout.
 #[repr(C)]
 pub struct Reply {
     length: usize,
@@ -22,7 +22,7 @@ pub struct Reply {
 static LINKED: AtomicU32 = AtomicU32::new(VERSION);
 static CALLS: AtomicUsize = AtomicUsize::new(0);
 
-/// A reply with that status. One call is too many after a few: then the crate never ends.
+/// Returns a reply with that status. Aborts after a few calls: then the crate would never end.
 fn reply(status: u8) -> Reply {
     if CALLS.fetch_add(1, SeqCst) > 20 {
         abort();
@@ -42,7 +42,7 @@ extern "C" fn typst_html_version() -> u32 {
     LINKED.load(SeqCst)
 }
 
-/// For each kind and layout another status: one that is known, and three that are not.
+/// Returns another status for each kind and layout: one that is known, and three that are not.
 #[no_mangle]
 extern "C" fn typst_html_write(
     kind: u8,
@@ -100,8 +100,8 @@ extern "C" fn typst_html_links(_: u32, _: *const u8, _: usize, _: *mut u8, _: us
     reply(10)
 }
 
-/// Each call of this crate, of which none has a text. (Status 4 tells a length that is less than the
-/// buffer's.)
+/// Asserts that no call of this crate returns a text. (The reply with status 4 has a length that is
+/// less than the buffer's.)
 fn all_are_refused() {
     for kind in [Kind::Tree, Kind::Items] {
         for pretty in [false, true] {
@@ -118,7 +118,7 @@ fn all_are_refused() {
 }
 
 #[test]
-fn another_library_is_told() {
+fn another_library_is_reported() {
     let is_other = std::env::var_os(OTHER).is_some();
     if is_other {
         LINKED.store(VERSION + 1, SeqCst);
@@ -126,7 +126,7 @@ fn another_library_is_told() {
     all_are_refused();
     let wanted = if is_other { 0 } else { 9 };
     assert_eq!(CALLS.load(SeqCst), wanted, "another version is not called");
-    // It is looked at once.
+    // The version is read only once.
     LINKED.store(VERSION + 2, SeqCst);
     all_are_refused();
     assert_eq!(CALLS.load(SeqCst), 2 * wanted);

@@ -1,4 +1,4 @@
-//! What is found in a site.
+//! The findings in a site.
 
 use examples_links_files::NotGiven;
 use std::alloc::{AllocError, Global};
@@ -10,7 +10,7 @@ use typst_html::{PageFault, Place};
 pub struct Unread {
     /// Its path.
     pub file: String,
-    /// The place from which on a page is not read.
+    /// The place where reading the page stops.
     pub place: Option<Place>,
     /// The number of the refusal.
     pub number: Option<u8>,
@@ -18,7 +18,7 @@ pub struct Unread {
     pub reason: String,
 }
 
-/// Turns a file or folder that the system can't read into one that is not read.
+/// Turns a file or folder that the system can't read into an unread one.
 impl From<NotGiven> for Unread {
     fn from(NotGiven { path, reason }: NotGiven) -> Unread {
         Unread {
@@ -31,7 +31,7 @@ impl From<NotGiven> for Unread {
 }
 
 impl Unread {
-    /// Returns why a page is not read, or fails for want of memory.
+    /// Returns the reason why a page is not read. Fails if an allocation fails.
     pub fn by_fault(alloc: Global, path: &str, fault: &PageFault) -> Result<Unread, AllocError> {
         let (place, reason) = match fault {
             PageFault::OutOfMemory => return Err(AllocError),

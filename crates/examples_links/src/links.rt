@@ -58,8 +58,8 @@ impl<'a> Links<'a> {
         Ok(())
     }
 
-    /// The first base counts. If no link can lead from it, links are resolved against the page
-    /// (HTML Standard 4.2.3).
+    /// Sets the base, unless an earlier one is set. If no link can lead from it, links are resolved
+    /// against the page (HTML Standard 4.2.3).
     fn set_base(&mut self, address: String) {
         if self.base.is_some() {
             return;
@@ -90,7 +90,7 @@ fn address_of(element: &HtmlElement) -> Option<&String> {
     }
 }
 
-/// Returns whether the children of an element with that name are of SVG or MathML.
+/// Returns whether the children of an element with that name belong to SVG or MathML.
 fn holds_foreign(name: &str, is_foreign: bool) -> bool {
     match name {
         "svg" | "math" => true,

@@ -23,7 +23,7 @@
 //!   beside its parent, or is a `selectedcontent`, which browsers fill from the chosen `option`. A
 //!   tree that was read as browsers read it can break no other rule of nesting.
 //!
-//! # What is not
+//! # What is not checked
 //!
 //! Links out of the site: with a scheme (`https:`, `mailto:`, `data:`) or a host (`//host/x`), and
 //! all relative ones if the page's `base` leads out. Fragments of anything but pages that were

@@ -28,7 +28,7 @@ pub struct Page {
 }
 
 impl Page {
-    /// Reads a page, and keeps what the check needs.
+    /// Reads a page, and returns the part that the check needs.
     pub fn read(alloc: Global, bytes: &[u8]) -> Result<Page, PageFault> {
         let (root, _) = read_page_bytes(alloc, bytes, DEEPEST)?;
         let text = str::from_utf8(bytes).unwrap_or("");
@@ -43,7 +43,7 @@ impl Page {
     }
 }
 
-/// Returns the repeated ids of a page; an empty one is no id (DOM Standard 4.9).
+/// Returns the repeated ids of a page. An empty one is no id (DOM Standard 4.9).
 fn repeated(
     alloc: Global,
     root: &HtmlElement,
@@ -60,8 +60,8 @@ fn repeated(
     Ok(repeated)
 }
 
-/// Returns where some browsers depart from the tree that was read. The other rules of nesting say
-/// how that tree would be read if it were written again.
+/// Returns the nodes where some browsers depart from the tree that was read. The other rules of
+/// nesting are about reading that tree again after it is written.
 fn misnested_in(
     alloc: Global,
     root: &HtmlElement,

@@ -36,7 +36,7 @@ impl Pages {
         })
     }
 
-    /// Reads the page at a path. Reports every 500 pages how many are read.
+    /// Reads the page at a path. Every 500 pages, reports how many are read.
     pub fn add(&mut self, rt: &HostRuntime, path: &str) -> Result<()> {
         self.read_page(rt, path)?;
         self.count = self.count.saturating_add(1);

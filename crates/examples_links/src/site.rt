@@ -20,7 +20,7 @@ pub struct Site<'a> {
     pub pages: Pages,
 }
 
-/// Reads the given pages, and those in the given folders. Reports every 500 pages how many are
+/// Reads the given pages, and those in the given folders. Every 500 pages, reports how many are
 /// read.
 pub fn read_site<'a>(rt: &HostRuntime, inputs: &'a [Input]) -> Result<Site<'a>> {
     let alloc = rt.alloc();

@@ -6,7 +6,7 @@ use std::alloc::Global;
 use std::env;
 use std::io::ErrorKind;
 
-/// Returns the arguments, or reports that one is no UTF-8 and returns nothing.
+/// Returns the arguments. If one is no UTF-8, reports this and returns `None`.
 pub fn given_words(rt: &HostRuntime) -> Result<Option<Vec<String>>> {
     match env::args(rt) {
         Ok(words) => Ok(Some(words.collect(rt.alloc())?)),

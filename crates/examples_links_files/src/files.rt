@@ -6,7 +6,7 @@ use std::collections::BTreeMap;
 use std::io::ErrorKind;
 use std::{fs, io};
 
-/// The kinds of entries at a path.
+/// The kind of entry at a path.
 #[derive(Clone, Copy)]
 pub enum Entry<'a> {
     /// A page.

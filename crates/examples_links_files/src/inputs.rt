@@ -16,7 +16,7 @@ pub struct Input {
     pub root: String,
 }
 
-/// Returns the given pages and folders, or reports those that do not exist and returns nothing.
+/// Returns the given pages and folders. If some do not exist, reports these and returns `None`.
 /// `root` is the folder from which links that begin with `/` start, if one is given.
 pub fn inputs_of(
     rt: &HostRuntime,
@@ -37,7 +37,8 @@ pub fn inputs_of(
     Ok(if all_exist { Some(inputs) } else { None })
 }
 
-/// Returns whether a folder is at a path, or reports that nothing is there.
+/// Returns whether the entry at a path is a folder. If nothing is there, reports this and returns
+/// `None`.
 fn kind_of(rt: &HostRuntime, word: &str) -> Result<Option<bool>> {
     match fs::metadata(rt, word) {
         Ok(metadata) => Ok(Some(metadata.is_dir())),

@@ -1,4 +1,4 @@
-//! Listing of the files of a site.
+//! The listing of the files of a site.
 
 use crate::files::{Entry, Files};
 use crate::inputs::Input;
@@ -18,7 +18,7 @@ pub struct NotGiven {
 }
 
 impl NotGiven {
-    /// Creates it from a path and the system's error.
+    /// Creates the report of an unreadable path from the system's error.
     pub fn new(alloc: Global, path: &str, error: &io::Error) -> Result<NotGiven, AllocError> {
         Ok(NotGiven {
             path: String::from_str(alloc, path)?,
@@ -89,7 +89,7 @@ impl<'a> Listing<'a> {
         Ok(())
     }
 
-    /// Adds the entries of a folder. If a root is given, the names of files tell which are pages,
+    /// Adds the entries of a folder. If a root is given, files with the names of pages are pages,
     /// and subfolders are listed later.
     fn add_folder(
         &mut self,
@@ -119,7 +119,7 @@ impl<'a> Listing<'a> {
         Ok(())
     }
 
-    /// Stores that the system can't read a folder, or a name in it, if its pages are needed.
+    /// Records that the system can't read a folder, or a name in it, if its pages are needed.
     fn keep_error(
         &mut self,
         folder: &str,

@@ -40,7 +40,7 @@ pub fn path_in(alloc: Global, folder: &str, name: &str) -> Result<String, AllocE
     }
 }
 
-/// Returns the path in the form that the system takes.
+/// Returns the path in the form that the system accepts.
 pub fn system_path(path: &str) -> &str {
     if path.is_empty() { "." } else { path }
 }
@@ -50,12 +50,12 @@ pub fn system_path(path: &str) -> &str {
 pub struct Way<'a> {
     parts: Vec<&'a str>,
     is_absolute: bool,
-    /// How many parts no `..` removes; none if the path may lead out of its start.
+    /// The number of parts that no `..` removes, or `None` if the path may lead out of its start.
     kept: Option<usize>,
 }
 
 impl<'a> Way<'a> {
-    /// Creates it from a path of the system.
+    /// Creates the parts of a path of the system.
     pub fn new(alloc: Global, path: &'a str) -> Result<Way<'a>, AllocError> {
         let mut way = Way {
             parts: Vec::new(alloc),
@@ -70,12 +70,12 @@ impl<'a> Way<'a> {
         Ok(way)
     }
 
-    /// Lets no `..` remove the parts that are there now.
+    /// Protects the current parts from removal by a `..`.
     pub fn keep(&mut self) {
         self.kept = Some(self.parts.len());
     }
 
-    /// Appends the parts of an address. An empty part counts, for a `..` behind it.
+    /// Appends the parts of an address. An empty part counts: a `..` behind it removes it.
     pub fn follow(&mut self, path: &'a str) -> Result<(), AllocError> {
         for part in path.strip_prefix('/').unwrap_or(path).split('/') {
             self.go(part)?;

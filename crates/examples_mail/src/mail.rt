@@ -26,7 +26,7 @@ const PAPER: Rgba = Rgba {
     a: 255,
 };
 
-/// The texts that fill holes, by the names of these.
+/// The texts that fill holes, by the names of the holes.
 type Fields = Map<String, Value>;
 
 /// Makes the mail of a record in JSON from the template, on one line.

@@ -86,7 +86,7 @@ fn write_mails_of(rt: &HostRuntime, template: &str, lang: &str) -> Result<ExitCo
     Ok(code)
 }
 
-/// Writes the mail of a line, or reports why there is none. Returns whether there is one.
+/// Writes the mail of a line, or reports why there is none. Returns whether it is written.
 fn is_written(rt: &HostRuntime, line: u64, mail: Result<String>) -> Result<bool> {
     match mail {
         Ok(html) => {

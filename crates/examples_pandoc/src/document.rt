@@ -15,8 +15,9 @@ use typst_html::{
 /// The greatest depth of blocks, inlines or items. JSON of 127 levels holds fewer.
 const DEPTH_LIMIT: usize = 200;
 
-/// Returns the page of a document of pandoc, with warnings of what can't be written as it is, or
-/// would be moved. Raw HTML is shown as a text, or dropped. Fails for a value that is no document.
+/// Returns the page of a document of pandoc, with warnings about content that can't be written as
+/// it is or that browsers would move. Raw HTML is shown as a text, or dropped. Fails for a value
+/// that is no document.
 pub fn page(
     alloc: Global,
     document: &Value,
@@ -137,7 +138,7 @@ fn titling(to: &mut Writer, name: &str, titles: &[Value], above: Option<&Value>)
     Ok(())
 }
 
-/// Returns the document of what was written, with links resolved, and warnings of dead ones.
+/// Returns the document of the written items, with links resolved, and warnings of dead ones.
 fn linked(writer: Writer, info: &DocumentInfo) -> Result<(HtmlDocument, Vec<String>)> {
     let (alloc, places, mut warnings) = (writer.alloc, writer.places, writer.warnings);
     let notes = writer.notes.section()?;
@@ -152,7 +153,7 @@ fn linked(writer: Writer, info: &DocumentInfo) -> Result<(HtmlDocument, Vec<Stri
     Ok((made, warnings))
 }
 
-/// Adds warnings of what browsers would move.
+/// Adds warnings of nodes that browsers would move.
 fn add_misnested(alloc: Global, root: &HtmlElement, warnings: &mut Vec<String>) -> Result<()> {
     for node in &misnested(alloc, root)? {
         let (block, why) = (node.span.0, node.why);

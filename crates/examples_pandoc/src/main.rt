@@ -5,12 +5,12 @@
 //! pandoc -t json README.md | (cd crates/examples_pandoc && rt try)
 //! ```
 //!
-//! Reports what can't be written as it is on standard error, with the number of its block: a link
-//! to no place, raw HTML (dropped, or shown as a text with `--raw-text`), an `id` that an earlier
-//! element has, an attribute without a name, a script as an address, and what browsers would move
-//! (such as a link in a link, which a note in a link is). Drops raw comments, and turns a raw
-//! `<br>` into a line break. Adds `data-` in front of attributes that may do harm. Exits with 0 if
-//! a page is written, with 2 if the arguments are wrong, and with 1 otherwise.
+//! Reports content that can't be written as it is on standard error, with the number of its block:
+//! a link to no place, raw HTML (dropped, or shown as a text with `--raw-text`), an `id` that an
+//! earlier element has, an attribute without a name, a script as an address, and what browsers
+//! would move (such as a link in a link, which a note in a link is). Drops raw comments, and turns
+//! a raw `<br>` into a line break. Adds `data-` in front of attributes that may do harm. Exits with
+//! 0 if a page is written, with 2 if the arguments are wrong, and with 1 otherwise.
 #![tactic(auto)]
 
 mod document;

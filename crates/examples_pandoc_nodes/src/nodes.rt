@@ -1,4 +1,4 @@
-//! Blocks and inlines, which hold others. `depth` is how much deeper they may nest.
+//! Blocks and inlines, which hold others. `depth` is the number of levels that they may still nest.
 
 use crate::table::{end_cell, place, widths};
 use anyhow::{Context, Result, bail};
@@ -126,7 +126,7 @@ fn figure(to: &mut Writer, depth: usize, [attr, caption, blocks]: &[Value; 3]) -
     to.end(tag::figure, "", Some(attr))
 }
 
-/// Adds a figure of pandoc 2: an image alone, whose words are the caption too.
+/// Adds a figure of pandoc 2: a single image, whose alternative text is the caption too.
 #[cycle(write)]
 fn image_figure(to: &mut Writer, depth: usize, image: &Value) -> Result<()> {
     let words = image.pointer("/0/c/1").context("no image")?;

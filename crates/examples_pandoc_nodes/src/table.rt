@@ -47,9 +47,9 @@ fn side(alignment: &Value) -> Result<&'static str> {
     }
 }
 
-/// Adds the widths of columns, as parts of the line, if any is given.
+/// Adds the widths of columns, as percentages, if any is given.
 pub fn widths(to: &mut Writer, columns: &[Value]) -> Result<()> {
-    let mut are_told = false;
+    let mut are_given = false;
     to.begin()?;
     for column in columns {
         let mut elem = to.empty(tag::col);
@@ -58,14 +58,14 @@ pub fn widths(to: &mut Writer, columns: &[Value]) -> Result<()> {
                 let percent = part.as_f64().context("no number")? * 100.0;
                 elem.css
                     .push("width", format!(in to.alloc; "{percent:.2}%")?)?;
-                are_told = true;
+                are_given = true;
             }
             ("ColWidthDefault", _) => {}
             (name, _) => bail!("no width: {name:?}"),
         }
         to.list.element(elem)?;
     }
-    if are_told {
+    if are_given {
         return to.end(tag::colgroup, "", None);
     }
     let _ = to.end_list();

@@ -68,7 +68,7 @@ impl Writer {
         self.end(tag::pre, "", Some(attr))
     }
 
-    /// Ends a citation. Its text repeats what stands around the works.
+    /// Ends a citation. Its text repeats the text around the works.
     pub fn end_citation(&mut self, works: &Value) -> Result<()> {
         let works = joined(self.alloc, works, "/citationId")?;
         let cites = HtmlAttr::intern(self.alloc, "data-cites")?;
@@ -78,8 +78,8 @@ impl Writer {
         self.end_with(span.with_attr(cites, works)?, None)
     }
 
-    /// Ends a list with numbers: their first and their style. HTML has nothing for what stands
-    /// around them.
+    /// Ends a list with numbers, with the first number and the style. HTML has nothing for the
+    /// characters around them.
     pub fn end_ordered_list(&mut self, numbering: &Value) -> Result<()> {
         let [first, style, _] = fields::<3>(numbering)?;
         let style = match tag_and_content(style)?.0 {

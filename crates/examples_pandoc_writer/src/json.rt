@@ -4,8 +4,8 @@ use anyhow::{Context, Result};
 use serde_json::Value;
 use std::alloc::Global;
 
-/// Returns the tag and the content of a value. Without content, the value itself stands for it,
-/// which is no text, number or list.
+/// Returns the tag and the content of a value. If there is no content, returns the value itself
+/// instead, which is no text, number or list.
 pub fn tag_and_content(value: &Value) -> Result<(&str, &Value)> {
     let tag = value.get("t").context("no tag")?;
     Ok((text(tag)?, value.get("c").unwrap_or(value)))

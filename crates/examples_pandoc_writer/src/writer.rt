@@ -18,7 +18,7 @@ pub struct Writer {
     pub list: ItemList,
     /// The lists around it.
     outer: Vec<ItemList>,
-    /// How many of these lists need only their text, without attributes, notes and warnings.
+    /// The number of these lists that need only their text, without attributes, notes and warnings.
     pub plain: usize,
     /// The number of items in the list when a line ended, if one did.
     line_end: Option<usize>,
@@ -27,7 +27,7 @@ pub struct Writer {
     pub places: NamedPlaces,
     pub ids: BTreeSet<String>,
     pub notes: Notes,
-    /// Warnings of what could not be written as it is.
+    /// The warnings of content that could not be written as it is.
     pub warnings: Vec<String>,
 }
 
@@ -59,7 +59,7 @@ impl Writer {
         Ok(())
     }
 
-    /// Creates an element with nothing else.
+    /// Creates an element without attributes and content.
     pub fn empty(&self, tag: HtmlTag) -> HtmlElem {
         self.list.new_element(tag)
     }

@@ -1,6 +1,6 @@
 //! A site maker: turns each page `NAME.txt` of a folder, in the text form that `page.rt` of
-//! `examples_site_pages` describes, into a page `NAME.html`. Reports a link that leads nowhere, and
-//! then writes no page. Reports what a browser would move, and writes all pages.
+//! `examples_site_pages` describes, into a page `NAME.html`. If a link leads nowhere, reports it
+//! and writes no page. If a browser would move a node, reports it and writes all pages.
 #![tactic(auto)]
 
 use anyhow::{Context, Result, ensure};
@@ -148,7 +148,7 @@ fn write_page(rt: &HostRuntime, page: &Page, text: &str, folder: &str) -> Result
     fs::write(rt, &path, text).context(&path)
 }
 
-/// Reports every hundred pages how many are done.
+/// Every hundred pages, reports how many are done.
 fn progress(rt: &HostRuntime, done: usize, what: &str) -> Result<()> {
     if done % 100 == 0 {
         eprintln!(rt; "{done} pages {what}")?;

@@ -1,7 +1,8 @@
 //! For `examples_site`: pages in a small text form, and the HTML text of each, with a navigation
-//! and with links that lead. Reads and writes no files. Besides out of memory, a page is refused,
-//! with its file and line, if it has another form, holds what HTML can't hold, or has a link that
-//! leads nowhere. What browsers would move is reported in the same way, but not refused.
+//! and with links that lead. Reads and writes no files. Calls fail if an allocation fails, or with
+//! the file and line of a page that has another form, holds what HTML can't hold, or has a link
+//! that leads nowhere. Nodes that browsers would move are reported in the same way, but not
+//! refused.
 #![tactic(auto)]
 
 mod page;

@@ -66,7 +66,7 @@ impl Site<'_> {
         Ok(html_document_for_bundle(self.alloc, &items, &info, &[], DEEPEST)?)
     }
 
-    /// Makes everything visible in a page.
+    /// Makes the visible part of a page.
     fn items(&self, page: &Page) -> Result<Vec<Pair>> {
         let items = page.items.iter().map(|item| item.try_clone());
         let items = items.try_collect(self.alloc)?;
@@ -125,18 +125,19 @@ impl Site<'_> {
         Ok(Some(format!(in self.alloc; "{file}{fragment}")?))
     }
 
-    /// Returns what browsers would move in the document of a page, each with its file and line.
+    /// Returns a line for each node that browsers would move in the document of a page, with its
+    /// file and line.
     pub fn misnested(&self, page: &Page, document: &HtmlDocument) -> Result<Vec<String>> {
-        let (root, mut told) = (document.root(), Vec::new(self.alloc));
+        let (root, mut lines) = (document.root(), Vec::new(self.alloc));
         for node in &misnested(self.alloc, root)? {
             let place = page.place(self.alloc, node.span)?;
             let name = element_at(root, &node.path).map_or("#text", |found| found.tag.resolve());
-            told.push(format!(in self.alloc;
+            lines.push(format!(in self.alloc;
                 "{place}: a browser reads {name:?} otherwise: it {}",
                 node.why
             )?)?;
         }
-        Ok(told)
+        Ok(lines)
     }
 
     /// Returns the HTML text of the document of a page, in which all links must lead.

@@ -22,7 +22,7 @@ pub(crate) struct Settings<'a> {
     pub(crate) title: &'a str,
     /// The language of all texts.
     pub(crate) lang: &'a str,
-    /// Whether to lay the HTML text out.
+    /// Whether to lay out the HTML text.
     pub(crate) pretty: bool,
 }
 

@@ -4,7 +4,7 @@ use Rattle.html_dom_tree.specs.PlainTree.{Plain, branch, plain, put_words, nodes
 use Rattle.html_dom_tree.specs.Tree.{starts, ends, Head, tag_node, text_node, element_node, frame_node, NodesView, none, node, ElementView}
 use Rattle.html_dom_tree.proofs.Basics.{put_twice}
 use Rattle.html_dom_document.specs.DomIndices.{◌then◌, element_count, run_count, dom_index}
-use Rattle.html_dom_document.specs.Places.{PlaceView, children_path, nodes_places}
+use Rattle.html_dom_document.specs.Places.{PlacedTagView, children_path, nodes_places}
 use Rattle.html_dom_document.specs.Paths.{nth, child, follow, ArePlain, holders, Lead, PathsLead}
 use Rattle.html_dom_document.proofs.Recording.{last_off}
 
@@ -70,7 +70,7 @@ follow_more (j ∷ path) i root = by (λ p. follow_more path i p) (child j root)
     by so None = refl
     by so (Some p) = so p
 
-lead_append : (root : Plain) (ps qs : List PlaceView) (es fs : List ElementView) →
+lead_append : (root : Plain) (ps qs : List PlacedTagView) (es fs : List ElementView) →
     Lead root ps es → Lead root qs fs → Lead root (ps ++ qs) (es ++ fs)
 lead_append root [] qs [] fs a b = b
 lead_append root [] qs (e ∷ es) fs a b = absurd a

@@ -4,14 +4,14 @@ use Rattle.std.proofs.lemmas.Option.{none-some, same_Some}
 use Rattle.html_dom_tree.specs.PlainTree.{Plain, element_normal}
 use Rattle.html_dom_tree.specs.Tree.{Head, tag_node, text_node, element_node, frame_node, NodesView, none, node, ElementView}
 use Rattle.html_dom_document.specs.DomIndices.{◌then◌, dom_index}
-use Rattle.html_dom_document.specs.Places.{PositionView, PlaceView, is_named_html, children_path, node_places, nodes_places, document_places, first_position}
+use Rattle.html_dom_document.specs.Places.{PositionView, PlacedTagView, is_named_html, children_path, node_places, nodes_places, document_places, first_position}
 use Rattle.html_dom_document.specs.Introspectors.{IntrospectorView, recorded_view}
 use Rattle.html_dom_document.specs.Paths.{holders, Lead}
 use Rattle.html_dom_document.proofs.Leading.{paths_lead}
 use Rattle.html_dom_document.specs.Documents.{DocumentView, nodes_before, element_at_index}
 use Rattle.html_dom_document.specs.Positions.{first_holder, led_to, PositionsLead}
 
-found_after : (ps qs : List PlaceView) (l : ℕ) → first_position ps l ≡ None →
+found_after : (ps qs : List PlacedTagView) (l : ℕ) → first_position ps l ≡ None →
     first_position (ps ++ qs) l ≡ first_position qs l
 found_after [] qs l absent = refl
 found_after (p ∷ ps) qs l absent = by (found_after ps qs l) (p.location == l) absent
@@ -22,7 +22,7 @@ found_after (p ∷ ps) qs l absent = by (found_after ps qs l) (p.location == l) 
     by so true absent = absurd (none-some p.position (sym absent))
     by so false absent = so absent
 
-found_before : (ps qs : List PlaceView) (l : ℕ) (x : PositionView) →
+found_before : (ps qs : List PlacedTagView) (l : ℕ) (x : PositionView) →
     first_position ps l ≡ Some x → first_position (ps ++ qs) l ≡ Some x
 found_before [] qs l x found = absurd (none-some x found)
 found_before (p ∷ ps) qs l x found = by (found_before ps qs l x) (p.location == l) found
@@ -33,7 +33,7 @@ found_before (p ∷ ps) qs l x found = by (found_before ps qs l x) (p.location =
     by so true found = found
     by so false found = so found
 
-absent_from_both : (ps qs : List PlaceView) (l : ℕ) → first_position (ps ++ qs) l ≡ None →
+absent_from_both : (ps qs : List PlacedTagView) (l : ℕ) → first_position (ps ++ qs) l ≡ None →
     (first_position ps l ≡ None) × (first_position qs l ≡ None)
 absent_from_both [] qs l absent = (refl, absent)
 absent_from_both (p ∷ ps) qs l absent =
@@ -52,7 +52,7 @@ abbrev LeadingPosition : Plain → Option PositionView → ElementView → Type 
 LeadingPosition root found e =
     (x : PositionView) × (found ≡ Some x) × (led_to root x ≡ Some (element_normal e))
 
-first_leads : (root : Plain) (ps : List PlaceView) (es : List ElementView) (l : ℕ)
+first_leads : (root : Plain) (ps : List PlacedTagView) (es : List ElementView) (l : ℕ)
     (e : ElementView) → Lead root ps es → first_holder ps es l ≡ Some e →
     LeadingPosition root (first_position ps l) e
 first_leads root [] es l e lead held = absurd (none-some e held)

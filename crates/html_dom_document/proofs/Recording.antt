@@ -7,7 +7,7 @@ use Rattle.html_dom_tree.proofs.Nodes.{nodes_view-drop}
 use Rattle.html_dom_tree.specs.declared.node.HtmlNode.{HtmlNode}
 use Rattle.html_dom_document.specs.DomIndices.{◌then◌, dom_index}
 use Rattle.html_dom_document.specs.Cursor.{element_index, index_at, cursor_after}
-use Rattle.html_dom_document.specs.Places.{PlaceView, node_places, nodes_places, node_links, nodes_links}
+use Rattle.html_dom_document.specs.Places.{PlacedTagView, node_places, nodes_places, node_links, nodes_links}
 use Rattle.html_dom_document.specs.Paths.{without_last}
 use Rattle.html_dom_document.specs.Records.{Records, places_view, locations_view}
 use Rattle.html_dom_document.specs.declared.cursor.Cursor.{Cursor}
@@ -26,13 +26,13 @@ without_last_is (x ∷ y ∷ ys) =
     let e : length (x ∷ y ∷ ys) - 1 ≡ suc (length (y ∷ ys) - 1) = omega arith in
     rw e (ap (λ l. x ∷ l) (without_last_is (y ∷ ys)))
 
-abbrev pub Recorded : Recorder → Recorder → List PlaceView → List ℕ → Type 0
+abbrev pub Recorded : Recorder → Recorder → List PlacedTagView → List ℕ → Type 0
 Recorded = Records (Ok (tt {0}))
 
 -- with a number more on the path, which is taken off again
 pub recorded_inside :
     (old pushed filled new : Recorder) (index : ℕ)
-    (places : (path : List ℕ) → List PlaceView) (links : List ℕ) →
+    (places : (path : List ℕ) → List PlacedTagView) (links : List ℕ) →
     pushed.path.items ≡ old.path.items ++ index ∷ [] →
     pushed.places ≡ old.places → pushed.links ≡ old.links →
     Recorded pushed filled (places pushed.path.items) links →
@@ -50,7 +50,7 @@ recorded_inside old pushed filled new index places links push p l inside leave q
     }
 
 -- the places of the nodes from a cursor on
-abbrev pub walk_places : (path : List ℕ) → Cursor → List HtmlNode → List PlaceView
+abbrev pub walk_places : (path : List ℕ) → Cursor → List HtmlNode → List PlacedTagView
 walk_places path c [] = []
 walk_places path c (n ∷ ns) =
     node_places path (index_at c (node_view n)) (node_view n)
@@ -83,7 +83,7 @@ walk_places-drop path c ns i n below is =
     ∙ rw (← is, add-one) refl
 
 pub found_step :
-    (start old new : List PlaceView) (path : List ℕ) (c after : Cursor) (ns : List HtmlNode)
+    (start old new : List PlacedTagView) (path : List ℕ) (c after : Cursor) (ns : List HtmlNode)
     (i : ℕ) (n : HtmlNode) (index : ℕ) →
     i < length ns → n ≡ get_or ns i n →
     index ≡ index_at c (node_view n) → after ≡ cursor_after c (node_view n) →
@@ -99,7 +99,7 @@ found_step start old new path c after ns i n index below is at moves before push
     ∙ (ap (λ ps. old ++ ps) (sym (walk_places-drop path c ns i n below is)) ∙ before)))
 
 pub found_end :
-    (start old : List PlaceView) (path : List ℕ) (c : Cursor) (ns : List HtmlNode) (i : ℕ) →
+    (start old : List PlacedTagView) (path : List ℕ) (c : Cursor) (ns : List HtmlNode) (i : ℕ) →
     length ns ≤ i → old ++ walk_places path c (drop i ns) ≡ start → old ≡ start
 found_end start old path c ns i beyond before =
     sym (append-nil old)

@@ -1,12 +1,12 @@
 -- DOM indices by one walk along a list: a cursor counts the elements and the ended runs so far, and
--- knows whether a text stands since the last element.
+-- holds whether there is a text after the last element.
 use Rattle.std.specs.Prelude.{ℕ, suc, List, [], ◌∷◌, true, false, if◌then◌else◌}
 use Rattle.html_dom_tree.specs.Tree.{NodeView, tag_node, text_node, element_node, frame_node}
 use Rattle.html_dom_tree.specs.Views.{node_view}
 use Rattle.html_dom_tree.specs.declared.node.HtmlNode.{HtmlNode}
 use Rattle.html_dom_document.specs.declared.cursor.Cursor.{Cursor}
 
--- before the first node
+-- the cursor before the first node
 abbrev pub first_cursor : Cursor
 first_cursor = record { passed = 0; after_text = false }
 

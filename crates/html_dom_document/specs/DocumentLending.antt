@@ -1,4 +1,4 @@
--- What a document is after a `&mut` to its information, introspector or root was returned.
+-- A document after a mutable borrow of its information, its introspector or its root.
 use Rattle.std.specs.Borrow.{Lends, MutBor, Fml}
 use Rattle.html_dom_tree.specs.declared.node.HtmlElement.{HtmlElement}
 use Rattle.html_dom_tree.specs.contracts.node.HtmlElement as element

@@ -31,7 +31,8 @@ pub record DocumentView : Type 0 where
   pub info : InfoView
   pub introspector : IntrospectorView
 
--- made from an output and information, with the positions and links of its nodes as recorded
+-- the document made from an output and information, with the recorded positions and links of its
+-- nodes
 abbrev pub new_document : OutputView → InfoView → DocumentView
 new_document output info =
     record { output = output; info = info; introspector = recorded_view output.nodes }
@@ -86,7 +87,7 @@ root_of o = element_at_index o.nodes o.root
 abbrev pub with_root : OutputView → ElementView → OutputView
 with_root o e = record o { nodes = with_element o.nodes o.root e }
 
--- an output has a root, so the other case does not occur
+-- the root of an output; an output always has one, so the other case does not occur
 abbrev pub given_root : Option ElementView → ElementView
 given_root None = new_element []
 given_root (Some root) = root

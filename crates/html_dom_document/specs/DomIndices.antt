@@ -17,7 +17,8 @@ element_count (node (text_node s span) ns) = element_count ns
 element_count (node (element_node h children) ns) = suc (element_count ns)
 element_count (node (frame_node f) ns) = suc (element_count ns)
 
--- how many runs of texts begin, after a text or not; tags split no run, and empty texts count
+-- the number of runs of texts that begin, after a text or not; tags split no run, and empty texts
+-- count
 abbrev pub run_count : (after_text : Bool) → NodesView → ℕ
 run_count after_text none = 0
 run_count after_text (node (tag_node t) ns) = run_count after_text ns

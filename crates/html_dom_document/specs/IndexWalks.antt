@@ -4,6 +4,6 @@ use Rattle.html_dom_tree.specs.declared.node.HtmlNode.{HtmlNode}
 use Rattle.html_dom_document.specs.Cursor.{nodes_with_indices}
 use Rattle.html_dom_document.specs.declared.dom_indices.DomIndices.{DomIndices}
 
--- the nodes with their indices
+-- the nodes that are left, with their indices
 abbrev pub pairs_left : DomIndices → List (HtmlNode × ℕ)
 pairs_left walk = nodes_with_indices walk.cursor walk.nodes.now

@@ -13,7 +13,8 @@ use Rattle.html_dom_document.specs.Places.{PositionView, document_places, first_
 use Rattle.html_dom_document.specs.declared.position.HtmlPosition.{HtmlPosition}
 use Rattle.html_dom_document.specs.declared.introspect.HtmlIntrospector.{HtmlIntrospector}
 
--- for each location: its position, whether links lead to it, whether links in frames do, its anchor
+-- for each location its position, whether links lead to it, whether links in frames do, and its
+-- anchor
 pub record IntrospectorView : Type 0 where
   pub position : ℕ → Option PositionView
   pub is_link_target : ℕ → Bool

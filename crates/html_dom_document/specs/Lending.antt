@@ -1,4 +1,4 @@
--- What an output is after a `&mut` to its root was returned.
+-- An output after a mutable borrow of its root.
 use Rattle.std.specs.Borrow.{Lends, MutBor, Fml}
 use Rattle.std.specs.Vec.{with_item}
 use Rattle.html_dom_tree.specs.declared.node.HtmlElement.{HtmlElement}

@@ -1,8 +1,8 @@
--- Paths lead to the elements that hold the tags.
+-- The paths of tags, which lead to the elements that hold the tags.
 use Rattle.std.specs.Prelude.{◌≡◌, ℕ, zero, suc, List, [], ◌∷◌, ◌++◌, true, false, Option, Some, None, option_and_then}
 use Rattle.html_dom_tree.specs.PlainTree.{Plain, words, branch, Plains, no_plains, plain, element_normal}
 use Rattle.html_dom_tree.specs.Tree.{starts, ends, Head, tag_node, text_node, element_node, frame_node, NodesView, none, node, ElementView}
-use Rattle.html_dom_document.specs.Places.{PlaceView, is_named_html, node_places}
+use Rattle.html_dom_document.specs.Places.{PlacedTagView, is_named_html, node_places}
 
 -- the child at an index
 abbrev pub nth : Plains → ℕ → Option Plain
@@ -14,7 +14,7 @@ abbrev pub child : ℕ → Plain → Option Plain
 child i (words s) = None
 child i (branch name attrs children) = nth children i
 
--- down by child indices
+-- the descendant to which child indices lead
 abbrev pub follow : List ℕ → Plain → Option Plain
 follow [] p = Some p
 follow (i ∷ path) p = option_and_then (follow path) (child i p)
@@ -45,7 +45,7 @@ holders e (node (element_node h children) ns) = holders (h, children) children +
 holders e (node (frame_node f) ns) = holders e ns
 
 -- each path, without its last index, leads to the normal form of the element beside it
-abbrev pub Lead : Plain → List PlaceView → List ElementView → Type 0
+abbrev pub Lead : Plain → List PlacedTagView → List ElementView → Type 0
 Lead root [] [] = Unit {0}
 Lead root [] (e ∷ es) = ⊥
 Lead root (p ∷ ps) [] = ⊥

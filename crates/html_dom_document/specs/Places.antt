@@ -11,7 +11,7 @@ pub record PositionView : Type 0 where
   pub point : Option PointView
 
 -- a start tag and its position
-pub record PlaceView : Type 0 where
+pub record PlacedTagView : Type 0 where
   pub location : ℕ
   pub dest : Option ℕ
   pub position : PositionView
@@ -24,22 +24,22 @@ is_named_html h = bytes_eq h.name (codes "html")
 abbrev pub children_path : Head → (path : List ℕ) → (index : ℕ) → List ℕ
 children_path h path index = if is_named_html h then path else path ++ index ∷ []
 
--- a tag at a position: a start tag is recorded
-abbrev pub tag_places : TagView → PositionView → List PlaceView
+-- what is recorded of a tag at a position: a start tag
+abbrev pub tag_places : TagView → PositionView → List PlacedTagView
 tag_places (starts location label dest) position =
     record { location = location; dest = dest; position = position } ∷ []
 tag_places (ends location) position = []
 
 -- the start tags in a frame with that path, in groups too, each with its own point
 unfoldable mutual
-  pub frame_places : (path : List ℕ) → FrameView → List PlaceView
+  pub frame_places : (path : List ℕ) → FrameView → List PlacedTagView
   frame_places path (frame picture items) = items_places path items
 
-  pub items_places : (path : List ℕ) → FrameItemsView → List PlaceView
+  pub items_places : (path : List ℕ) → FrameItemsView → List PlacedTagView
   items_places path no_frame_items = []
   items_places path (placed_item point x rest) = item_places path point x ++ items_places path rest
 
-  pub item_places : (path : List ℕ) → PointView → FrameItemView → List PlaceView
+  pub item_places : (path : List ℕ) → PointView → FrameItemView → List PlacedTagView
   item_places path point (tag_item t) = tag_places t (record { path = path; point = Some point })
   item_places path point (group_item f) = frame_places path f
   item_places path point (link_item link) = []
@@ -47,7 +47,7 @@ unfoldable mutual
 
 -- the start tags in a node with that index, under that path, in document order
 unfoldable mutual
-  pub node_places : (path : List ℕ) → (index : ℕ) → NodeView → List PlaceView
+  pub node_places : (path : List ℕ) → (index : ℕ) → NodeView → List PlacedTagView
   node_places path index (tag_node t) =
       tag_places t (record { path = path ++ index ∷ []; point = None })
   node_places path index (text_node s span) = []
@@ -55,18 +55,18 @@ unfoldable mutual
       nodes_places (children_path h path index) none children
   node_places path index (frame_node f) = frame_places (path ++ index ∷ []) f.inner
 
-  -- and in nodes after others
-  pub nodes_places : (path : List ℕ) → (before : NodesView) → NodesView → List PlaceView
+  -- the start tags in nodes that follow others
+  pub nodes_places : (path : List ℕ) → (before : NodesView) → NodesView → List PlacedTagView
   nodes_places path before none = []
   nodes_places path before (node n ns) =
       node_places path (dom_index before n) n ++ nodes_places path (before then node n none) ns
 
 -- all start tags of the nodes of a document
-abbrev pub document_places : NodesView → List PlaceView
+abbrev pub document_places : NodesView → List PlacedTagView
 document_places ns = nodes_places [] none ns
 
 -- the first recorded position of a location
-abbrev pub first_position : List PlaceView → (location : ℕ) → Option PositionView
+abbrev pub first_position : List PlacedTagView → (location : ℕ) → Option PositionView
 first_position [] location = None
 first_position (p ∷ ps) location =
     if p.location == location then Some p.position else first_position ps location
@@ -77,7 +77,7 @@ leads_to None location = false
 leads_to (Some dest) location = dest == location
 
 -- whether a start tag links to a location
-abbrev pub is_destination : List PlaceView → (location : ℕ) → Bool
+abbrev pub is_destination : List PlacedTagView → (location : ℕ) → Bool
 is_destination ps location = list_any (λ p. leads_to p.dest location) ps
 
 abbrev pub link_targets : Option ℕ → List ℕ

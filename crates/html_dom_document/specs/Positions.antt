@@ -1,13 +1,13 @@
--- The positions of a document lead to the elements that hold the tags.
+-- The positions of a document, which lead to the elements that hold the tags.
 use Rattle.std.specs.Prelude.{◌≡◌, ℕ, List, [], ◌∷◌, true, ◌==◌, if◌then◌else◌, Option, Some, None, option_and_then}
 use Rattle.html_dom_tree.specs.PlainTree.{Plain, element_normal}
 use Rattle.html_dom_tree.specs.Tree.{ElementView}
-use Rattle.html_dom_document.specs.Places.{PositionView, PlaceView, is_named_html, document_places, first_position}
+use Rattle.html_dom_document.specs.Places.{PositionView, PlacedTagView, is_named_html, document_places, first_position}
 use Rattle.html_dom_document.specs.Paths.{follow, ArePlain, without_last, holders}
 use Rattle.html_dom_document.specs.Documents.{OutputView, DocumentView, nodes_before, root_of}
 
 -- the element that holds a location's first start tag, from tags and their elements
-abbrev pub first_holder : List PlaceView → List ElementView → (location : ℕ) → Option ElementView
+abbrev pub first_holder : List PlacedTagView → List ElementView → (location : ℕ) → Option ElementView
 first_holder [] es location = None
 first_holder (p ∷ ps) [] location = None
 first_holder (p ∷ ps) (e ∷ es) location =
@@ -22,7 +22,8 @@ abbrev pub NotBeforeRoot : OutputView → (location : ℕ) → Type 0
 NotBeforeRoot o location =
     first_position (document_places (nodes_before o.nodes o.root)) location ≡ None
 
--- where a position leads by child indices: its path without the last index, which is the tag's own
+-- the node to which a position leads by child indices: those of its path without the last, which is
+-- the tag's own
 abbrev pub led_to : Plain → PositionView → Option Plain
 led_to root position = follow (without_last position.path) root
 

@@ -10,14 +10,14 @@ use Rattle.html_dom_document.specs.Documents.{node_of, is_element_at, with_eleme
 pub view-Element : (e : HtmlElement) → node_view (Element e) ≡ node_of (element_view e)
 view-Element e = search (rules, the_lemmas)
 
--- it is visible there
+-- the view of the list with that element at an index
 pub set_is_seen : (ns : List HtmlNode) (i : ℕ) (e : HtmlElement) →
     nodes_view (set ns i (Element e)) ≡ with_element (nodes_view ns) i (element_view e)
 set_is_seen [] i e = refl
 set_is_seen (n ∷ ns) zero e = ap (λ m. node m (nodes_view ns)) (view-Element e)
 set_is_seen (n ∷ ns) (suc i) e = ap (node (node_view n)) (set_is_seen ns i e)
 
--- it is there
+-- an element is still at the index whose element was replaced
 stands : (ns : NodesView) (i : ℕ) (e : ElementView) → is_element_at ns i ≡ true →
     is_element_at (with_element ns i e) i ≡ true
 stands none i e there = absurd (true≢false (sym there))

@@ -4,7 +4,7 @@ ghost use Rattle.html_dom_document.specs.Cursor.{element_index, index_at, cursor
 
 use html_dom_tree::HtmlNode;
 
-/// Walks along a list of nodes and numbers them.
+/// The state of a walk along a list of nodes that numbers them.
 #[derive(Clone, Copy)]
 pub(crate) struct Cursor {
     /// The number of elements, frames and ended runs of texts so far.

@@ -4,9 +4,9 @@ ghost use Rattle.html_dom_document.specs.Cursor.{element_index};
 use crate::cursor::Cursor;
 use html_dom_tree::HtmlNode;
 
-/// Iterates over a list of nodes with their DOM indices: the index of each among its siblings in a
-/// browser's tree (DOM), where neighbouring texts are one node and tags are none. An empty text
-/// counts as a text here, but not there.
+/// A list of nodes that can be iterated with their DOM indices: the index of each among its
+/// siblings in a browser's tree (DOM), where neighbouring texts are one node and tags are none. An
+/// empty text counts as a text here, but not in a browser.
 pub trait HtmlSliceExt<'a> {
     ghost use Rattle.std.specs.Prelude.{◌≡◌, List};
     ghost use Rattle.std.specs.List.{zip};
@@ -22,7 +22,7 @@ pub trait HtmlSliceExt<'a> {
     ///
     /// The index of an element or frame is the number of elements, frames and runs of texts before
     /// it. Tags do not split a run, and empty texts count. The index of a tag or text is the number
-    /// of elements and frames before it plus that of the runs that these have ended.
+    /// of elements and frames before it, plus the number of runs that these have ended.
     ///
     /// ```
     /// use html_dom::{HtmlElement, HtmlNode, HtmlSliceExt, Span};
@@ -55,7 +55,7 @@ impl<'a> HtmlSliceExt<'a> for &'a [HtmlNode] {
     }
 }
 
-/// The iterator that `iter_with_dom_indices` returns. Ends after as many items as the list has
+/// The iterator that `iter_with_dom_indices` returns. It yields as many items as the list has
 /// nodes.
 #[derive(Clone, Copy)]
 pub struct DomIndices<'a> {

@@ -1,4 +1,4 @@
-//! Laws of this crate's types and definitions, as contracts of functions.
+//! Laws of this crate's types and definitions. The contract of each function is a law.
 
 pub mod document;
 pub mod introspect;

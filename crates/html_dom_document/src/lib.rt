@@ -28,7 +28,7 @@ mod info;
 mod introspect;
 pub mod laws;
 mod output;
-mod place;
+mod placed_tag;
 mod position;
 mod recorder;
 mod tables;

@@ -23,7 +23,7 @@ impl HtmlOutput {
     ghost use Rattle.html_dom_document.specs.Lending.{with_root_element, LendsRoot};
     ghost use Rattle.std.specs.Borrow.{sem};
 
-    /// Creates an output with the root at that index, where an element must stand.
+    /// Creates an output with the root at that index. The node there must be an element.
     pub fn new(nodes: Vec<HtmlNode>, root_index: usize) -> HtmlOutput
         requires { is_element_at (nodes_view nodes.items) root_index ≡ true }
         ensures { output_view result
@@ -89,7 +89,7 @@ impl HtmlOutput {
         &self.nodes[self.root_index]
     }
 
-    /// Returns a copy of all nodes. Fails only if an allocation fails.
+    /// Returns a copy of the output. Fails only if an allocation fails.
     pub fn try_clone(&self) -> Result<HtmlOutput, AllocError>
         ensures { IfOk result (λ copy. output_view copy ≡ output_view self.now) }
     {

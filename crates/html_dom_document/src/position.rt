@@ -21,14 +21,14 @@ impl HtmlPosition {
     ghost use Rattle.html_dom_tree.specs.FrameViews.{point_view};
 
     /// Returns the DOM indices of the elements around the tag, outermost first, without `html`
-    /// elements, and then that of the tag itself; for a tag in a frame, the path of the frame.
+    /// elements, followed by that of the tag itself, or the path of the frame for a tag in a frame.
     pub fn path(&self) -> &[usize]
         ensures { result.now ≡ (position_view self.now).path }
     {
         &self.path
     }
 
-    /// Returns the point of a tag in a frame, or nothing for a tag elsewhere.
+    /// Returns the point of a tag in a frame, or `None` for a tag elsewhere.
     pub fn point(&self) -> Option<Point>
         ensures { option_map point_view result ≡ (position_view self.now).point }
     {

@@ -1,4 +1,4 @@
-//! A walk over a tree.
+//! The walk over a tree that records its start tags and links.
 
 ghost use Rattle.std.specs.Prelude.{◌≡◌, ◌++◌, [], ◌∷◌, option_map, None};
 ghost use Rattle.html_dom_tree.specs.FrameViews.{point_view, tag_view, frame_view, frame_item_view};
@@ -10,7 +10,7 @@ ghost use Rattle.html_dom_document.specs.Records.{Records, location_view};
 
 use crate::cursor::Cursor;
 use crate::element::is_named_html;
-use crate::place::Place;
+use crate::placed_tag::PlacedTag;
 use crate::position::{HtmlPosition, copy_path};
 use html_dom_tree::{Frame, FrameItem, HtmlElement, HtmlNode, Location, Point, Tag};
 use std::alloc::{AllocError, Global};
@@ -20,7 +20,7 @@ use std::alloc::{AllocError, Global};
 pub(crate) struct Recorder {
     /// The path of the current node.
     pub(crate) path: Vec<usize>,
-    pub(crate) places: Vec<Place>,
+    pub(crate) places: Vec<PlacedTag>,
     pub(crate) links: Vec<Location>,
 }
 
@@ -53,7 +53,7 @@ impl Recorder {
             return Ok(());
         };
         let path = copy_path(&self.path)?;
-        self.places.push(Place {
+        self.places.push(PlacedTag {
             location: *location,
             dest: *dest,
             position: HtmlPosition { path, point },

@@ -6,7 +6,7 @@ ghost use Rattle.html_dom_document.specs.Introspectors.{position_in, location_te
 ghost use Rattle.html_dom_document.specs.Places.{first_position, is_destination, is_among};
 ghost use Rattle.html_dom_document.specs.Records.{place_view, places_view, locations_view};
 
-use crate::place::Place;
+use crate::placed_tag::PlacedTag;
 use crate::position::HtmlPosition;
 use html_dom_tree::Location;
 use std::alloc::{AllocError, Global};
@@ -14,7 +14,7 @@ use std::collections::{BTreeMap, BTreeSet};
 
 pub(crate) fn first_positions(
     alloc: Global,
-    places: Vec<Place>,
+    places: Vec<PlacedTag>,
 ) -> Result<BTreeMap<Location, HtmlPosition>, AllocError>
     ensures { IfOk result (λ positions. (location : ℕ) →
         position_in positions location ≡ first_position (places_view places.items) location) }
@@ -28,7 +28,7 @@ pub(crate) fn first_positions(
 
 fn add_position(
     positions: &mut BTreeMap<Location, HtmlPosition>,
-    place: Place,
+    place: PlacedTag,
 ) -> Result<(), AllocError>
     ensures { OnOk result ((location : ℕ) → position_in positions.new location
         ≡ or_else (position_in positions.old location)
@@ -50,7 +50,7 @@ fn add(locations: &mut BTreeSet<Location>, location: Location) -> Result<(), All
 
 pub(crate) fn destinations(
     alloc: Global,
-    places: &[Place],
+    places: &[PlacedTag],
 ) -> Result<BTreeSet<Location>, AllocError>
     ensures { IfOk result (λ locations. (location : ℕ) →
         has_location locations location ≡ is_destination (places_view places.now) location) }

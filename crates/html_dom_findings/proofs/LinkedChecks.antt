@@ -14,7 +14,7 @@ use Rattle.html_dom_link.specs.Distinct.{are_distinct, occurrences}
 use Rattle.html_dom_link.specs.GivenLinks.{AnchorsAreTexts, KnownAnchorsAreShown, LeadsTo}
 use Rattle.html_dom_link.specs.Indicated.{decoding, element_places, indicated_name, is_top, leads, place_names, url_fragment}
 use Rattle.html_dom_link.specs.Links.{Hrefs, attrs_with_href, document_hrefs, head_with_link, href_of, is_open, root_with_links}
-use Rattle.html_dom_link.specs.NewNames.{Name, all_ids, element_names, nodes_names, with_used_name}
+use Rattle.html_dom_link.specs.NewNames.{Name, all_ids, element_names, nodes_names, with_used_name, gathered_names}
 use Rattle.html_dom_link.proofs.ChangedRoots.{root_has_links}
 use Rattle.html_dom_link.proofs.Counting.{shown_count}
 use Rattle.html_dom_link.proofs.Differing.{are_new, at_most_one, distinct_once, new_distinct, once_distinct}
@@ -40,7 +40,7 @@ none_repeated used (p ∷ ps) new =
     by false e so = so
 
 all_names : (e : ElementView) → nodes_names (node (element_node e.0 e.1) none) ≡ element_names e
-unfolding nodes_names
+unfolding gathered_names
 all_names e = ap (λ l. all_ids e.0.attrs ++ l) (append-nil (nodes_names e.1))
 
 ids_differ : (e : ElementView) → are_distinct (element_names e) ≡ true →

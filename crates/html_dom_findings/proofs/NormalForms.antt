@@ -1,4 +1,4 @@
--- What is told of a tree without frames, as its normal form has it.
+-- What is found in a tree without frames is found in its normal form.
 use Rattle.std.proofs.Common.{◌≡◌, ℕ, Bool, true, false, not, cond, List, [], ◌∷◌, ◌++◌, refl, ap, sym, ◌∙◌}
 use Rattle.std.specs.List.{filter}
 use Rattle.std.specs.Prelude.{if◌then◌else◌}
@@ -7,8 +7,8 @@ use Rattle.html_dom_tree.specs.FrameFree.{NodeIsFrameFree, NodesAreFrameFree, El
 use Rattle.html_dom_tree.specs.PlainTree.{Plain, words, branch, Plains, no_plains, plain, put_words, nodes_normal, element_normal}
 use Rattle.html_dom_tree.specs.Tree.{tag_node, text_node, element_node, frame_node, NodesView, none, node, ElementView}
 use Rattle.html_dom_link.specs.Indicated.{element_places, leads, nodes_places, place_names}
-use Rattle.html_dom_link.specs.NewNames.{Name, frame_names, with_used_name}
-use Rattle.html_dom_findings.specs.CheckLaws.{NormalFormsTell, texts_of}
+use Rattle.html_dom_link.specs.NewNames.{Name, frame_names, with_used_name, gathered_names}
+use Rattle.html_dom_findings.specs.CheckLaws.{NormalFormsAgree, texts_of}
 use Rattle.html_dom_findings.specs.Fragments.{dead_among, dead_fragments, fragment_links, fragments}
 use Rattle.html_dom_findings.specs.PlacedTexts.{Placed, TextKind}
 use Rattle.html_dom_findings.specs.RepeatedIds.{ids, placed_ids, repeated}
@@ -53,7 +53,7 @@ abbrev places : TextKind
 places = record { own = place_names; framed = frame_names }
 
 places_are : (ns : NodesView) → nodes_places ns ≡ nodes_texts places ns
-unfolding nodes_places
+unfolding gathered_names
 places_are none = refl
 places_are (node (tag_node t) ns) = places_are ns
 places_are (node (text_node s span) ns) = places_are ns
@@ -108,8 +108,8 @@ repeated_texts : (e : ElementView) →
     texts_of (repeated (stands_in []) (placed_ids e)) ≡ again (stands_in []) (element_texts ids e)
 repeated_texts e = again_are_repeated (stands_in []) (placed_ids e) ∙ rw gathered refl
 
-pub normal_forms_tell : NormalFormsTell
-normal_forms_tell e f e_free f_free same =
+pub normal_forms_agree : NormalFormsAgree
+normal_forms_agree e f e_free f_free same =
     let as' : (kind : TextKind) → element_texts kind e ≡ element_texts kind f =
     λ kind. same_texts kind e f e_free f_free same in
     record {

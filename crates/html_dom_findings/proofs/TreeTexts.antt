@@ -5,7 +5,7 @@ use Rattle.html_dom_tree.specs.FrameFree.{NodeIsFrameFree, NodesAreFrameFree}
 use Rattle.html_dom_tree.specs.Tree.{Head, NodeView, tag_node, text_node, element_node, frame_node, NodesView, none, node, ElementView}
 use Rattle.html_dom_link.specs.Answered.{shown_names}
 use Rattle.html_dom_link.specs.Links.{Hrefs, dest_before, head_with_link, node_with_links, nodes_with_links, root_with_links}
-use Rattle.html_dom_link.specs.NewNames.{Name}
+use Rattle.html_dom_link.specs.NewNames.{Name, gathered_names}
 use Rattle.html_dom_findings.specs.CheckLaws.{PlacedIdsAreIds, texts_of}
 use Rattle.html_dom_findings.specs.PlacedTexts.{Placed, TextKind, element_placed, head_texts, node_placed, nodes_placed, of_elements, placed_at}
 use Rattle.html_dom_findings.specs.RepeatedIds.{ids}
@@ -53,7 +53,7 @@ unfolding node_placed
 gathered kind e = rw (texts_of-append, texts_of-placed, nodes_gathered kind [] 0 e.1) refl
 
 shown_are : (ns : NodesView) → nodes_texts ids ns ≡ shown_names ns
-unfolding shown_names
+unfolding gathered_names
 shown_are none = refl
 shown_are (node (tag_node t) ns) = shown_are ns
 shown_are (node (text_node s span) ns) = shown_are ns
@@ -61,7 +61,7 @@ shown_are (node (element_node h kids) ns) = rw (shown_are kids, shown_are ns) re
 shown_are (node (frame_node f) ns) = rw (shown_are ns) refl
 
 pub placed_ids_are_ids : PlacedIdsAreIds
-unfolding shown_names
+unfolding gathered_names
 placed_ids_are_ids e = rw (gathered, shown_are, append-nil) refl
 
 -- where no frame stands, only elements have texts

@@ -1,4 +1,4 @@
--- What holds of dead fragments and of repeated ids.
+-- Laws of dead fragments and of repeated ids.
 use Rattle.std.specs.List.{All, Contains}
 use Rattle.std.specs.Prelude.{◌≡◌, ℕ, true, List, [], map, Some}
 use Rattle.html_names.specs.Names.{stands_in}
@@ -17,15 +17,15 @@ use Rattle.html_dom_findings.specs.Hyperlinks.{ElementHasNoHyperlink}
 use Rattle.html_dom_findings.specs.PlacedTexts.{Placed, TextKind, head_texts}
 use Rattle.html_dom_findings.specs.RepeatedIds.{ids, placed_ids, repeated_ids, tree_ids}
 
--- what is found, wherever it stands
+-- the texts that are found, without their paths
 abbrev pub texts_of : List Placed → List Name
 texts_of = map (λ (p : Placed). p.1)
 
--- the ids at their places are the ids of the tree
+-- the ids that are found with their paths are the ids of the tree
 abbrev pub PlacedIdsAreIds : Type 0
 PlacedIdsAreIds = (e : ElementView) → texts_of (placed_ids e) ≡ tree_ids e
 
--- where all names of a tree differ, none is repeated
+-- no id is repeated if all names of a tree differ
 abbrev pub DistinctAreNotRepeated : Type 0
 DistinctAreNotRepeated = (e : ElementView) → are_distinct (element_names e) ≡ true →
     repeated_ids e ≡ []
@@ -35,7 +35,7 @@ abbrev pub HrefsLead : Hrefs → ElementView → Type 0
 HrefsLead hrefs e = (location : ℕ) (href : List ℕ) → hrefs location ≡ Some href →
     (name : Name) × LeadsTo (stands_in (element_places e)) href name
 
--- an element stands at the path, and what is found is one of its texts
+-- an element is at the path, and the text that is found is one of its texts
 abbrev pub StandsAt : TextKind → ElementView → Placed → Type 0
 StandsAt kind e p =
     (a : ElementView) × (element_at p.0 e ≡ Some a) × Contains (head_texts kind a.0) p.1
@@ -53,18 +53,19 @@ AllFindingsStand = (e : ElementView) → FindingsStand e
 abbrev pub NoHyperlinkNoDeadFragment : Type 0
 NoHyperlinkNoDeadFragment = (e : ElementView) → ElementHasNoHyperlink e → dead_fragments e ≡ []
 
--- links that are given an `href` add no dead fragment: those of the new tree are those that it had
+-- links that get an `href` add no dead fragment: those of the new tree are those of the old one
 abbrev pub LinksAddNoDeadFragment : Type 0
 LinksAddNoDeadFragment = (hrefs : Hrefs) (e : ElementView) → HrefsLead hrefs e →
     dead_fragments (root_with_links hrefs e) ≡ dead_fragments e
 
--- and they repeat no id
+-- links that get an `href` repeat no id: those of the new tree are those of the old one
 abbrev pub LinksRepeatNoId : Type 0
 LinksRepeatNoId = (hrefs : Hrefs) (e : ElementView) →
     repeated_ids (root_with_links hrefs e) ≡ repeated_ids e
 
--- once the links of a document are resolved, where the anchors that are known stand in its tree, its
--- dead fragments are those that it had; no id is repeated that was not, and none where all differ
+-- once the links of a document are resolved, its dead fragments are those that it had, if the known
+-- anchors stand in its tree; its repeated ids are those that it had, and there are none if all ids
+-- differ
 pub record LinksStaySound (d : DocumentView) : Type 0 where
   pub dead : KnownAnchorsAreShown d →
       dead_fragments (document_root (document_with_links d)) ≡ dead_fragments (document_root d)
@@ -72,16 +73,16 @@ pub record LinksStaySound (d : DocumentView) : Type 0 where
       repeated_ids (document_root (document_with_links d)) ≡ repeated_ids (document_root d)
   pub distinct : IdsAreDistinct d → repeated_ids (document_root (document_with_links d)) ≡ []
 
--- both trees have the same dead fragments and the same repeated ids, wherever these stand
-pub record TellTheSame (e f : ElementView) : Type 0 where
+-- both trees have the same dead fragments and the same repeated ids, apart from their paths
+pub record AgreeOnFindings (e f : ElementView) : Type 0 where
   pub dead : texts_of (dead_fragments e) ≡ texts_of (dead_fragments f)
   pub repeated : texts_of (repeated_ids e) ≡ texts_of (repeated_ids f)
 
--- so it is of trees without frames that have one normal form
-abbrev pub NormalFormsTell : Type 0
-NormalFormsTell = (e f : ElementView) → ElementIsFrameFree e → ElementIsFrameFree f →
-    element_normal e ≡ element_normal f → TellTheSame e f
+-- trees without frames that have the same normal form agree on their findings
+abbrev pub NormalFormsAgree : Type 0
+NormalFormsAgree = (e f : ElementView) → ElementIsFrameFree e → ElementIsFrameFree f →
+    element_normal e ≡ element_normal f → AgreeOnFindings e f
 
--- so it is of each document whose anchors are texts
+-- the links of each document whose anchors are texts stay sound
 abbrev pub ResolvedStaySound : Type 0
 ResolvedStaySound = (d : DocumentView) → AnchorsAreTexts d.introspector.anchor → LinksStaySound d

@@ -1,4 +1,4 @@
--- Findings as pure values: a path, and a text that stands there.
+-- Findings as pure values: a path, and a text of the node at that path.
 use Rattle.std.specs.Prelude.{List, map}
 use Rattle.html_names.specs.Texts.{text_view}
 use Rattle.html_dom_findings.specs.PlacedTexts.{Placed}

@@ -25,6 +25,6 @@ fragment_links = element_placed fragments
 abbrev pub dead_among : (is_place : Name → Bool) → List Placed → List Placed
 dead_among is_place = filter (λ link. not (leads is_place link.1))
 
--- the links to fragments that lead to no place of the tree
+-- the links to fragments that lead neither to a place of the tree nor to the top of the page
 abbrev pub dead_fragments : ElementView → List Placed
 dead_fragments e = dead_among (stands_in (element_places e)) (fragment_links e)

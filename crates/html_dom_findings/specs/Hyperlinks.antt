@@ -9,7 +9,7 @@ is_hyperlink name attrs = bytes_eq name (codes "a") && has_name attrs (codes "hr
 abbrev pub HeadIsNoHyperlink : Head → Type 0
 HeadIsNoHyperlink h = is_hyperlink h.name h.attrs ≡ false
 
--- nor is an element at any depth
+-- no element at any depth is a hyperlink
 abbrev mutual
   pub NodeHasNoHyperlink : NodeView → Type 0
   NodeHasNoHyperlink (tag_node t) = Unit {0}
@@ -21,6 +21,6 @@ abbrev mutual
   NodesHaveNoHyperlink none = Unit {0}
   NodesHaveNoHyperlink (node n ns) = NodeHasNoHyperlink n × NodesHaveNoHyperlink ns
 
--- those of a whole tree, the root among them
+-- no element of a whole tree, including the root, is a hyperlink
 abbrev pub ElementHasNoHyperlink : ElementView → Type 0
 ElementHasNoHyperlink e = HeadIsNoHyperlink e.0 × NodesHaveNoHyperlink e.1

@@ -1,10 +1,10 @@
--- What stands at the places of a tree, in document order. A place is a path of indices of children,
--- from the root on; that of the root is empty.
+-- The texts of a tree with their paths, in document order. A path is the index of each child on the
+-- way from the root, and empty for the root.
 use Rattle.std.specs.Prelude.{◌≡◌, ℕ, suc, List, [], ◌∷◌, ◌++◌, map}
 use Rattle.html_dom_tree.specs.Frames.{HtmlFrameView}
 use Rattle.html_dom_tree.specs.Tree.{TextPair, Head, NodeView, tag_node, text_node, element_node, frame_node, NodesView, none, node, ElementView}
 
--- a path, and a text that stands there
+-- a path, and a text of the node at that path
 abbrev pub Placed : Type 0
 Placed = List ℕ × List ℕ
 
@@ -22,8 +22,8 @@ of_elements own = record { own = own; framed = λ f. [] }
 abbrev pub head_texts : TextKind → Head → List (List ℕ)
 head_texts kind h = kind.own h.name h.attrs
 
--- the texts of each node at its place; children stand behind the path of their parent, from an index
--- on
+-- the texts of each node with its path: that of a child is its parent's path and then its own
+-- index, which is `index` for the first of the nodes
 unfoldable mutual
   pub node_placed : TextKind → (path : List ℕ) → NodeView → List Placed
   node_placed kind path (tag_node t) = []
@@ -37,10 +37,11 @@ unfoldable mutual
   nodes_placed kind parent index (node n ns) =
       node_placed kind (parent ++ index ∷ []) n ++ nodes_placed kind parent (suc index) ns
 
--- those of a whole tree
+-- the texts of a whole tree
 abbrev pub element_placed : TextKind → ElementView → List Placed
 element_placed kind e = node_placed kind [] (element_node e.0 e.1)
 
--- once these are taken, what is made of those that follow is what was made of these and them before
+-- the effect of taking these texts: what is made of any rest after it is what was made of these
+-- texts and that rest before it
 abbrev pub Takes : {Made : Type 0} → (before after : List Placed → Made) → List Placed → Type 0
 Takes before after ps = (rest : List Placed) → after rest ≡ before (ps ++ rest)

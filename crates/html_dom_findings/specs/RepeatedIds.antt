@@ -1,4 +1,4 @@
--- Ids that stand in their tree before (HTML Standard 3.2.6: an `id` is unique in its tree).
+-- Ids that occur earlier in their tree (HTML Standard 3.2.6: an `id` is unique in its tree).
 use Rattle.std.specs.Prelude.{Bool, List, [], ◌∷◌, ◌++◌, codes, if◌then◌else◌, option_to_list}
 use Rattle.html_names.specs.Names.{stands_in}
 use Rattle.html_dom_tree.specs.Attributes.{first}
@@ -14,7 +14,7 @@ ids = record {
   framed = frame_names;
 }
 
--- the ids of a tree at their places
+-- the ids of a tree with their paths
 abbrev pub placed_ids : ElementView → List Placed
 placed_ids = element_placed ids
 
@@ -22,7 +22,7 @@ placed_ids = element_placed ids
 abbrev pub tree_ids : ElementView → List Name
 tree_ids e = shown_names (node (element_node e.0 e.1) none)
 
--- those that stand before, or are passed already
+-- the ids that occur earlier in the list, or are passed already
 unfoldable pub repeated : (is_passed : Name → Bool) → List Placed → List Placed
 repeated is_passed [] = []
 repeated is_passed (p ∷ ps) =

@@ -1,5 +1,4 @@
--- The texts of a tree that are looked for; those of its elements alone tell where links between pages
--- lead.
+-- The wanted texts of a tree. Those of its elements alone show where links between pages lead.
 use Rattle.std.specs.Prelude.{ℕ, Bool, ◌||◌, List, [], codes, bytes_eq, if◌then◌else◌, Option, Some, None, option_to_list}
 use Rattle.html_dom_tree.specs.Attributes.{first}
 use Rattle.html_dom_link.specs.Indicated.{link_name, unless_empty}
@@ -21,7 +20,7 @@ linked_ids = of_elements (λ name attrs. filled (first attrs (codes "id")))
 abbrev pub linked_names : TextKind
 linked_names = of_elements (λ name attrs. filled (link_name name attrs))
 
--- such an element is a link, if it has an `href` (HTML Standard 4.6.1)
+-- whether an element of that name is a link if it has an `href` (HTML Standard 4.6.1)
 abbrev pub may_link : (name : List ℕ) → Bool
 may_link name = bytes_eq name (codes "a") || bytes_eq name (codes "area")
 

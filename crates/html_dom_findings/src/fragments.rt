@@ -8,7 +8,7 @@ ghost use Rattle.html_dom_findings.specs.Fragments.{dead_among, dead_fragments};
 ghost use Rattle.html_dom_findings.specs.PlacedTexts.{Placed};
 
 use crate::text_sink::TextSink;
-use crate::walk::tell_texts;
+use crate::walk::report_texts;
 use crate::wanted::Wanted;
 use html_dom_link::{fragment_leads, place_names};
 use html_dom_tree::HtmlElement;
@@ -18,21 +18,22 @@ use std::collections::BTreeSet;
 /// A link to a fragment of its own page that leads nowhere.
 #[derive(Debug, Drop, PartialEq, Eq, Hash)]
 pub struct DeadFragment {
-    /// The index of each child on the way to the link, from the root on; the root's path is empty.
-    /// [`element_at`](crate::element_at) gives the link.
+    /// The path to the link: the index of each child on the way from the root, and empty for the
+    /// root. [`element_at`](crate::element_at) returns the link.
     pub path: Vec<usize>,
-    /// What stands behind `#`, as [`fragment_in`](html_dom_link::fragment_in) takes it from the `href`.
+    /// The text behind `#`, as [`fragment_in`](html_dom_link::fragment_in) returns it for the
+    /// `href`.
     pub fragment: String,
 }
 
-/// The links of a tree to fragments of their own page that lead nowhere, in document order, the root
-/// among them. Such a link is an `a` whose first `href` has a fragment
-/// ([`fragment_in`](html_dom_link::fragment_in)) which leads to none of the places of the tree
-/// ([`place_names`]), nor to the top, as a browser finds it ([`fragment_leads`]).
+/// Returns the links of a tree to fragments of their own page that lead nowhere, in document order,
+/// including the root. Such a link is an `a` whose first `href` has a fragment
+/// ([`fragment_in`](html_dom_link::fragment_in)) that leads neither to a place of the tree
+/// ([`place_names`]) nor to the top in a browser ([`fragment_leads`]).
 ///
-/// It takes time for each place and each such link by the logarithm of how many places there are, and
-/// for each that is found its depth. Beside what it gives it holds a copy of the places' names. It fails only where
-/// an allocation does.
+/// Takes time logarithmic in the number of places for each place and each link to a fragment, and
+/// time linear in its depth for each dead link. Holds a copy of the places' names besides the
+/// result. Fails only if an allocation fails.
 ///
 /// ```
 /// use typst_html::{dead_fragments, read_html};
@@ -50,22 +51,23 @@ pub struct DeadFragment {
 pub fn dead_fragments(alloc: Global, root: &HtmlElement) -> Result<Vec<DeadFragment>, AllocError>
     ensures { IfOk result (λ dead. dead_view dead.items ≡ dead_fragments (element_view root.now)) }
 {
-    let dead = tell_dead_fragments(alloc, root, Vec::new(alloc))?;
+    let dead = report_dead_fragments(alloc, root, Vec::new(alloc))?;
     Ok(dead)
 }
 
-/// Tells a sink the same links as it finds them, by their fragments, and gives it back.
-pub fn tell_dead_fragments<S: TextSink>(
+/// Reports the links that [`dead_fragments`] returns to a sink as it finds them, each by its path
+/// and its fragment, and returns the sink.
+pub fn report_dead_fragments<S: TextSink>(
     alloc: Global,
     root: &HtmlElement,
     sink: S,
 ) -> Result<S, AllocError>
-    ensures { IfOk result (λ told.
-        S.made_with told [] ≡ S.made_with sink (dead_fragments (element_view root.now))) }
+    ensures { IfOk result (λ given.
+        S.made_with given [] ≡ S.made_with sink (dead_fragments (element_view root.now))) }
 {
     let places = place_names(alloc, root)?;
     let links = Links { places, dead: sink };
-    let Links { dead, .. } = tell_texts(alloc, root, Wanted::Fragments, links)?;
+    let Links { dead, .. } = report_texts(alloc, root, Wanted::Fragments, links)?;
     Ok(dead)
 }
 
@@ -82,7 +84,7 @@ impl TextSink for Vec<DeadFragment> {
     }
 }
 
-/// Of fragments to which links lead, it passes those on that are no name of a place.
+/// A sink that passes on only the fragments that lead nowhere, given the names of the places.
 #[derive(Drop)]
 struct Links<S> {
     places: BTreeSet<String>,

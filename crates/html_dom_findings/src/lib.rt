@@ -1,5 +1,5 @@
-//! The texts of a tree by their places; what is wrong with its links: fragments that lead nowhere, and
-//! ids that come twice; and what stands there.
+//! The texts of a tree with their paths, the faults of its links (fragments that lead nowhere, and
+//! repeated ids), and the elements at paths.
 #![tactic(auto)]
 
 mod fragments;
@@ -10,9 +10,9 @@ mod text_sink;
 mod walk;
 mod wanted;
 
-pub use fragments::{DeadFragment, dead_fragments, tell_dead_fragments};
+pub use fragments::{DeadFragment, dead_fragments, report_dead_fragments};
 pub use path::element_at;
-pub use repeated::{RepeatedId, repeated_ids, tell_repeated_ids};
+pub use repeated::{RepeatedId, repeated_ids, report_repeated_ids};
 pub use text_sink::TextSink;
-pub use walk::tell_texts;
+pub use walk::report_texts;
 pub use wanted::Wanted;

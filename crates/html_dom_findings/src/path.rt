@@ -7,12 +7,12 @@ ghost use Rattle.html_dom_findings.specs.ElementPaths.{element_at};
 
 use html_dom_tree::{HtmlElement, HtmlNode};
 
-/// The element that stands at a path: the index of each child on the way to it, from the root on, as
-/// [`DeadFragment::path`](crate::DeadFragment::path) and [`RepeatedId::path`](crate::RepeatedId::path)
-/// tell it. The empty path is the root's. None is given where a text, a tag or a frame stands there, or
-/// nothing.
+/// Returns the element at a path: the index of each child on the way from the root, as in
+/// [`DeadFragment::path`](crate::DeadFragment::path) and
+/// [`RepeatedId::path`](crate::RepeatedId::path). The empty path leads to the root. Returns `None`
+/// if the path leads to a text, a tag or a frame, or to nothing.
 ///
-/// It takes time for each index of the path, and copies nothing.
+/// Takes time linear in the length of the path, and copies nothing.
 ///
 /// ```
 /// use typst_html::{HtmlElement, HtmlNode, Span, attr, dead_fragments, element_at, tag};
@@ -38,7 +38,7 @@ pub fn element_at<'a>(root: &'a HtmlElement, path: &[usize]) -> Option<&'a HtmlE
     Some(element)
 }
 
-/// The element that is the child of that index.
+/// Returns the child at that index, if it is an element.
 #[tactic(auto, using(crate::proofs::ElementPaths::node_within, crate::proofs::ElementPaths::none_past))]
 fn child_at(children: &[HtmlNode], index: usize) -> Option<&HtmlElement>
     ensures { option_map (λ e. element_view e.now) result

@@ -1,4 +1,4 @@
-//! Ids that come twice.
+//! Repeated ids.
 
 ghost use Rattle.std.specs.Prelude.{◌≡◌, List, [], ◌++◌, IfOk};
 ghost use Rattle.html_dom_tree.specs.Views.{element_view};
@@ -8,31 +8,31 @@ ghost use Rattle.html_dom_findings.specs.PlacedTexts.{Placed};
 ghost use Rattle.html_dom_findings.specs.RepeatedIds.{repeated, repeated_ids};
 
 use crate::text_sink::TextSink;
-use crate::walk::tell_texts;
+use crate::walk::report_texts;
 use crate::wanted::Wanted;
 use html_dom_link::{is_used, put_in_use};
 use html_dom_tree::HtmlElement;
 use std::alloc::{AllocError, Global};
 use std::collections::BTreeSet;
 
-/// An id that stands before in its tree.
+/// An id that occurs earlier in its tree.
 #[derive(Debug, Drop, PartialEq, Eq, Hash)]
 pub struct RepeatedId {
-    /// The index of each child on the way to the node that has the id, from the root on; the root's
-    /// path is empty. Where the node is an element, [`element_at`](crate::element_at) gives it.
+    /// The path to the node that has the id: the index of each child on the way from the root, and
+    /// empty for the root. If the node is an element, [`element_at`](crate::element_at) returns it.
     pub path: Vec<usize>,
     /// The id.
     pub id: String,
 }
 
-/// The ids of a tree that stand before in it, in document order: an `id` is to be unique in its tree
-/// (HTML Standard 3.2.6), and a link leads to the first.
+/// Returns each id of a tree that occurs earlier in it, in document order. The HTML Standard
+/// (3.2.6) requires each `id` to be unique in its tree; a link leads to the first.
 ///
-/// An id is the first `id` of an element, the root among them, the `id` of a frame, or the name of a
-/// frame's anchor, an empty one too.
+/// An id is the first `id` of an element, including the root, the `id` of a frame, or the name of a
+/// frame's anchor. Empty ones count too.
 ///
-/// It takes time for each id by the logarithm of how many there are, and for each that is found its
-/// depth. Beside what it gives it holds a copy of the ids. It fails only where an allocation does.
+/// Takes time logarithmic in the number of ids for each id, and time linear in its depth for each
+/// repeated one. Holds a copy of the ids besides the result. Fails only if an allocation fails.
 ///
 /// ```
 /// use typst_html::{read_html, repeated_ids};
@@ -51,24 +51,25 @@ pub fn repeated_ids(alloc: Global, root: &HtmlElement) -> Result<Vec<RepeatedId>
     ensures { IfOk result (λ repeated.
         repeated_view repeated.items ≡ repeated_ids (element_view root.now)) }
 {
-    let repeated = tell_repeated_ids(alloc, root, Vec::new(alloc))?;
+    let repeated = report_repeated_ids(alloc, root, Vec::new(alloc))?;
     Ok(repeated)
 }
 
-/// Tells a sink the same ids as it finds them, and gives it back.
-pub fn tell_repeated_ids<S: TextSink>(
+/// Reports the ids that [`repeated_ids`] returns to a sink as it finds them, each with its path,
+/// and returns the sink.
+pub fn report_repeated_ids<S: TextSink>(
     alloc: Global,
     root: &HtmlElement,
     sink: S,
 ) -> Result<S, AllocError>
-    ensures { IfOk result (λ told.
-        S.made_with told [] ≡ S.made_with sink (repeated_ids (element_view root.now))) }
+    ensures { IfOk result (λ given.
+        S.made_with given [] ≡ S.made_with sink (repeated_ids (element_view root.now))) }
 {
     let ids = Ids {
         passed: BTreeSet::new(alloc),
         repeated: sink,
     };
-    let Ids { repeated, .. } = tell_texts(alloc, root, Wanted::Ids, ids)?;
+    let Ids { repeated, .. } = report_texts(alloc, root, Wanted::Ids, ids)?;
     Ok(repeated)
 }
 
@@ -84,7 +85,7 @@ impl TextSink for Vec<RepeatedId> {
     }
 }
 
-/// Passes on the ids that it took before.
+/// A sink that passes on the ids that it took before.
 #[derive(Drop)]
 struct Ids<S> {
     passed: BTreeSet<String>,

@@ -1,4 +1,4 @@
-//! What takes the texts that are found in a tree.
+//! Receivers of the texts that are found in a tree.
 
 ghost use Rattle.std.specs.Prelude.{List, [], ◌∷◌, OnOk};
 ghost use Rattle.html_names.specs.Texts.{text_view};
@@ -6,16 +6,15 @@ ghost use Rattle.html_dom_findings.specs.PlacedTexts.{Placed, Takes};
 
 use std::alloc::{AllocError, Global};
 
-/// Takes the texts that are found in a tree, in document order.
+/// A receiver of the texts that are found in a tree, in document order.
 pub trait TextSink: Drop {
-    /// What is made of texts.
+    /// The type of the value that the sink makes of texts.
     ghost Made: { Type 0 };
 
-    /// What is made in the end if exactly these texts are still taken.
+    /// The value that the sink makes in the end if it takes exactly these further texts.
     ghost made_with: { Self → List Placed → Made };
 
-    /// Takes the next text, which stands at that path: the index of each child on the way, from the root
-    /// on.
+    /// Takes the next text and its path: the index of each child on the way from the root.
     fn take(&mut self, alloc: Global, path: &[usize], text: String) -> Result<(), AllocError>
         ensures { OnOk result (Takes (made_with self.old) (made_with self.new)
             ((path.now, text_view text) ∷ [])) };

@@ -21,15 +21,15 @@ struct TextWalk<S> {
     sink: S,
 }
 
-/// Reports the wanted texts of a tree to a sink, the root's among them, in document order, and returns
-/// the sink. It fails only where an allocation does, or the sink.
-pub fn tell_texts<S: TextSink>(
+/// Reports the wanted texts of a tree, including the root's, to a sink in document order, and
+/// returns the sink. Fails only if an allocation or the sink fails.
+pub fn report_texts<S: TextSink>(
     alloc: Global,
     root: &HtmlElement,
     wanted: Wanted,
     sink: S,
 ) -> Result<S, AllocError>
-    ensures { IfOk result (λ told. S.made_with told []
+    ensures { IfOk result (λ given. S.made_with given []
         ≡ S.made_with sink (element_placed (kind_of wanted) (element_view root.now))) }
 {
     let mut walk = TextWalk {
@@ -104,8 +104,8 @@ fn pass_frame<S: TextSink>(
     }
 }
 
-/// Gives the sink the text of an element. What that takes is no part of the walk's own frame, of which
-/// one stands for each level.
+/// Passes the wanted text of an element to the sink. Stays out of the recursion, so that a level of
+/// the walk takes less stack.
 #[inline(never)]
 fn pass_own<S: TextSink>(
     element: &HtmlElement,
@@ -120,7 +120,7 @@ fn pass_own<S: TextSink>(
     pass_optional(own_text(walk.alloc, element, wanted)?, walk)
 }
 
-// Each node stands first among the parameters: its depth shows that the calls end.
+// The node comes first among the parameters: its depth proves that the recursion ends.
 
 #[cycle(walk)]
 fn pass_element<S: TextSink>(

@@ -1,4 +1,4 @@
-//! The texts of an element that are looked for.
+//! The wanted texts of an element.
 
 ghost use Rattle.std.specs.Prelude.{◌≡◌, IfOk, option_map, option_to_list};
 ghost use Rattle.html_dom_tree.specs.Views.{element_view, text_view};
@@ -12,12 +12,12 @@ use html_dom_tree::HtmlElement;
 use html_names::{attr, tag};
 use std::alloc::{AllocError, Global};
 
-/// Which texts are looked for. Of two attributes of one name the first counts.
+/// The texts to look for. If an element has several attributes of one name, the first counts.
 #[derive(Clone, Copy)]
 pub enum Wanted {
     /// The fragments of their page to which `a` elements lead.
     Fragments,
-    /// The ids of elements, and the ids and anchors of frames, empty ones too.
+    /// The ids of elements, and the ids and anchors of frames, including empty ones.
     Ids,
     /// The ids of elements to which links may lead: all but empty ones.
     LinkedIds,
@@ -27,7 +27,7 @@ pub enum Wanted {
     Hrefs,
 }
 
-/// The text of an element.
+/// Returns the wanted text of an element, if it has one.
 pub(crate) fn own_text(
     alloc: Global,
     element: &HtmlElement,
@@ -45,7 +45,7 @@ pub(crate) fn own_text(
     }
 }
 
-/// The fragment to which an `a` leads, by its first `href`.
+/// Returns the fragment to which an `a` leads, by its first `href`.
 #[tactic(auto, unfolding(html_names::specs::Tables::known_tags, html_names::specs::Tables::known_attrs))]
 fn fragment(alloc: Global, element: &HtmlElement) -> Result<Option<String>, AllocError>
     ensures { IfOk result (λ fragment. option_to_list (option_map text_view fragment)
@@ -72,7 +72,7 @@ fn link_href(element: &HtmlElement) -> Option<&String>
     }
 }
 
-/// Whether an `href` would make it a link.
+/// Returns whether an `href` makes the element a link.
 #[tactic(auto, unfolding(html_names::specs::Tables::known_tags))]
 fn may_link(element: &HtmlElement) -> bool
     ensures { result ≡ may_link (element_view element.now).0.name }
@@ -80,7 +80,7 @@ fn may_link(element: &HtmlElement) -> bool
     element.tag == tag::a || element.tag == tag::area
 }
 
-/// The value, unless it is empty.
+/// Returns the value, unless it is empty.
 fn filled(value: Option<&String>) -> Option<&String>
     ensures { option_to_list (option_map (λ value. text_view value.now) result)
         ≡ filled (option_map (λ value. text_view value.now) value.entry) }

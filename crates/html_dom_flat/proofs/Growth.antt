@@ -9,7 +9,7 @@ use Rattle.std.specs.declared.alloc.Global.{Global}
 use Rattle.html_names.specs.Texts.{text_view, TextPair}
 use Rattle.html_names.specs.NameTables.{NamesView, Numbers, name_at, with_name, with_tag, with_attr}
 use Rattle.html_names.specs.declared.html_attr.HtmlAttr.{HtmlAttr}
-use Rattle.html_names.proofs.NameTables.{with_name-long, name_at-with_name, name_at-told}
+use Rattle.html_names.proofs.NameTables.{with_name-long, name_at-with_name, name_at-added}
 use Rattle.html_dom_tree.specs.Views.{pair_view}
 use Rattle.html_dom_flat.specs.FlatViews.{FlatPair, flat_pair, flat_head, flat_node_view, flat_nodes_view, is_pair_given, is_given, is_node_given, are_given}
 use Rattle.html_dom_flat.specs.Numbering.{AreKept, Grows, ArePairsOf}
@@ -26,8 +26,8 @@ kept_on old mid new first second =
     let before = first number below in
     let after = second number before.0 in (after.0, after.1 ∙ before.1)
 
-kept_told : (names : List (List ℕ)) (name : List ℕ) → AreKept names (with_name names name)
-kept_told names name =
+kept_added : (names : List (List ℕ)) (name : List ℕ) → AreKept names (with_name names name)
+kept_added names name =
     λ number below.
     (omega (arith, below, with_name-long names name), name_at-with_name names name number below)
 
@@ -45,14 +45,14 @@ pub grows_tag : (result : Result ℕ AllocError) (old new : NamesView) (tag : Li
     Numbers result old.tags new.tags tag old new (with_tag old tag) → Grows old new
 grows_tag (Ok number) old new tag asked =
     subst (Grows old) (sym asked.names)
-    (record { tags = kept_told old.tags tag; attrs = kept_all old.attrs })
+    (record { tags = kept_added old.tags tag; attrs = kept_all old.attrs })
 grows_tag (Err fault) old new tag asked = subst (Grows old) (sym asked.kept) (grows_all old)
 
 pub grows_attr : (result : Result ℕ AllocError) (old new : NamesView) (attr : List ℕ) →
     Numbers result old.attrs new.attrs attr old new (with_attr old attr) → Grows old new
 grows_attr (Ok number) old new attr asked =
     subst (Grows old) (sym asked.names)
-    (record { tags = kept_all old.tags; attrs = kept_told old.attrs attr })
+    (record { tags = kept_all old.tags; attrs = kept_added old.attrs attr })
 grows_attr (Err fault) old new attr asked = subst (Grows old) (sym asked.kept) (grows_all old)
 
 pub tag_kept : (old mid new : NamesView) (tag : List ℕ) (number : ℕ) →
@@ -61,7 +61,7 @@ pub tag_kept : (old mid new : NamesView) (tag : List ℕ) (number : ℕ) →
 tag_kept old mid new tag number asked grows =
     let table : mid.tags ≡ with_name old.tags tag = ap (λ n. n.tags) asked.names in
     let kept = grows.tags number asked.below in
-    (kept.0, kept.1 ∙ rw (table, asked.number) (name_at-told old.tags tag))
+    (kept.0, kept.1 ∙ rw (table, asked.number) (name_at-added old.tags tag))
 
 pub pairs_stay : (old new : NamesView) (pairs : List FlatPair) (attrs : List TextPair) →
     Grows old new → ArePairsOf old pairs attrs → ArePairsOf new pairs attrs
@@ -86,7 +86,7 @@ pairs_more old new pairs attrs attr number value made asked =
     let kept = pairs_stay old new pairs attrs (grows_attr (Ok number) old new attr asked) made in
     let table : new.attrs ≡ with_name old.attrs attr = ap (λ n. n.attrs) asked.names in
     record {
-      same = rw (map-append, kept.same, table, asked.number, name_at-told old.attrs attr) refl;
+      same = rw (map-append, kept.same, table, asked.number, name_at-added old.attrs attr) refl;
       given = list_all-append (is_pair_given new) pairs ((number, value) ∷ [])
           ∙ and_from (list_all (is_pair_given new) pairs) _ kept.given
           (and_from (is_pair_given new (number, value)) true

@@ -1,4 +1,4 @@
--- A tree's list while it is made.
+-- The list of a flat tree while it is built.
 use Rattle.std.specs.Prelude.{List}
 use Rattle.html_dom_flat.specs.Flat.{FlatNodeView}
 use Rattle.html_dom_flat.specs.FlatViews.{flat_nodes_view}

@@ -3,7 +3,7 @@ use Rattle.std.specs.Prelude.{◌≡◌, ℕ, zero, suc, ◌+◌, ◌-◌, List,
 use Rattle.html_dom_tree.specs.Frames.{HtmlFrameView}
 use Rattle.html_dom_tree.specs.Tree.{TagView, Head, NodeView, tag_node, text_node, element_node, frame_node, NodesView, none, node, ElementView}
 
--- an element has the index after the last node inside it
+-- a node in the list; an element has the index after the last node inside it
 pub data FlatNodeView : Type 0 where
   flat_tag : TagView → FlatNodeView
   flat_text : (content : List ℕ) (span : ℕ) → FlatNodeView
@@ -11,7 +11,7 @@ pub data FlatNodeView : Type 0 where
   flat_element : (head : Head) (past : ℕ) → FlatNodeView
   deriving IsSet as FlatNodeView-set
 
--- how many nodes, at all depths
+-- the number of nodes at all depths
 unfoldable mutual
   pub node_count : NodeView → ℕ
   node_count (tag_node t) = 1
@@ -23,7 +23,7 @@ unfoldable mutual
   nodes_count none = 0
   nodes_count (node n ns) = node_count n + nodes_count ns
 
--- the list of nodes, of which the first stands at that index
+-- the list of nodes, whose first item has that index
 unfoldable mutual
   pub node_flat : (index : ℕ) → NodeView → List FlatNodeView
   node_flat index (tag_node t) = flat_tag t ∷ []
@@ -40,7 +40,7 @@ abbrev pub element_flat : (index : ℕ) → ElementView → List FlatNodeView
 element_flat index e =
     flat_element e.0 (index + 1 + nodes_count e.1) ∷ nodes_flat (index + 1) e.1
 
--- the first of the nodes, which have so many nodes in all, and the nodes after them
+-- the leading nodes that make `count` nodes at all depths, and the nodes after them
 unfoldable pub front : (count : ℕ) → NodesView → NodesView
 front zero ns = none
 front (suc k) none = none
@@ -51,8 +51,8 @@ back zero ns = ns
 back (suc k) none = none
 back (suc k) (node n ns) = back (suc k - node_count n) ns
 
--- the nodes that a list spells, of which the first stands at that index: an element's children are
--- those before its `past`
+-- the nodes that a list spells, whose first item has that index: an element's children are the
+-- nodes before its `past`
 unfoldable pub spelled_nodes : (index : ℕ) → List FlatNodeView → NodesView
 spelled_nodes index [] = none
 spelled_nodes index (flat_tag t ∷ fs) = node (tag_node t) (spelled_nodes (index + 1) fs)
@@ -64,11 +64,11 @@ spelled_nodes index (flat_element h past ∷ fs) =
     let count = past - (index + 1) in
     node (element_node h (front count others)) (back count others)
 
--- a list spells nodes, of which the first stands at that index
+-- a list, whose first item has that index, is the list of the nodes that it spells
 abbrev pub IsSpelling : (index : ℕ) → List FlatNodeView → Type 0
 IsSpelling index fs = nodes_flat index (spelled_nodes index fs) ≡ fs
 
--- the index after a node and all that is inside it, where `next` is the index after it alone
+-- the index after a node and everything inside it, given the index `next` after the node alone
 abbrev pub past_of : (next : ℕ) → FlatNodeView → ℕ
 past_of next (flat_tag t) = next
 past_of next (flat_text s span) = next

@@ -1,4 +1,4 @@
--- What a flat tree spells.
+-- The nodes that a flat tree spells.
 use Rattle.std.specs.Prelude.{◌≡◌, true, List, length}
 use Rattle.html_dom_tree.specs.Tree.{NodesView}
 use Rattle.html_dom_flat.specs.Flat.{FlatNodeView, nodes_count, nodes_flat, spelled_nodes}
@@ -13,8 +13,8 @@ tree_view tree = flat_nodes_view tree.names tree.nodes.items
 abbrev pub tree_nodes : FlatTree → NodesView
 tree_nodes tree = spelled_nodes 0 (tree_view tree)
 
--- the nodes of a tree, whose numbers its table has given: they stand in the order in which the
--- nodes that it spells are written, as many as these are
+-- the list of a tree: the nodes that it spells, in the order in which they are written and as many
+-- as they are, with numbers that are in its table
 pub record IsListOf (tree : FlatTree) (nodes : List FlatNode) : Type 0 where
   pub list : flat_nodes_view tree.names nodes ≡ nodes_flat 0 (tree_nodes tree)
   pub given : are_given tree.names nodes ≡ true

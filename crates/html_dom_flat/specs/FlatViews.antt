@@ -1,4 +1,4 @@
--- The pure values of nodes in a list, by the table that their numbers are of.
+-- The pure values of nodes in a list, given the name table to which their numbers refer.
 use Rattle.std.specs.Prelude.{ℕ, Bool, true, ◌&&◌, nat_lt, List, map, length, option_map, String}
 use Rattle.std.specs.List.{list_all}
 use Rattle.std.specs.declared.alloc.Global.{Global}
@@ -39,11 +39,11 @@ flat_node_view names (Element e) = flat_element (flat_head names e) e.past
 abbrev pub flat_nodes_view : NamesView → List FlatNode → List FlatNodeView
 flat_nodes_view names = map (flat_node_view names)
 
--- whether the table has given the number of an attribute's name
+-- whether the number of an attribute's name is in the table
 abbrev pub is_pair_given : NamesView → FlatPair → Bool
 is_pair_given names pair = nat_lt pair.0 (length names.attrs)
 
--- whether it has given those of an element
+-- whether the numbers of an element's tag and attributes are in the table
 abbrev pub is_given : NamesView → FlatElement → Bool
 is_given names e = nat_lt e.tag (length names.tags) && list_all (is_pair_given names) e.attrs.items
 

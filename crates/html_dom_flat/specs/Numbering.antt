@@ -1,4 +1,4 @@
--- What is kept when a table gives more numbers, and what is made with its numbers.
+-- Names that keep their numbers when a table grows, and values with its numbers.
 use Rattle.std.specs.Prelude.{◌≡◌, ℕ, true, ◌<◌, List, map, length}
 use Rattle.std.specs.List.{list_all}
 use Rattle.html_names.specs.NameTables.{NamesView, name_at}
@@ -17,13 +17,13 @@ pub record Grows (old new : NamesView) : Type 0 where
   pub tags : AreKept old.tags new.tags
   pub attrs : AreKept old.attrs new.attrs
 
--- the pairs, with numbers that the table has given
+-- the attributes as pairs of a value and the number of its name, which is in the table
 pub record ArePairsOf (names : NamesView) (pairs : List FlatPair) (attrs : List TextPair) : Type 0
   where
     pub same : map (flat_pair names) pairs ≡ attrs
     pub given : list_all (is_pair_given names) pairs ≡ true
 
--- the number of that tag, and the pairs, which the table has given
+-- the number of that tag and the pairs of the attributes, with numbers that are in the table
 pub record AreNumbersOf
     (names : NamesView) (number : ℕ) (pairs : List FlatPair) (tag : List ℕ) (attrs : List TextPair) :
     Type 0 where
@@ -31,7 +31,7 @@ pub record AreNumbersOf
   pub same : name_at names.tags number ≡ tag
   pub pairs_are : ArePairsOf names pairs attrs
 
--- with that end, if it is an element
+-- the node with that `past`, if it is an element
 abbrev pub node_with_past : (past : ℕ) → FlatNode → FlatNode
 node_with_past past (Tag t) = Tag t
 node_with_past past (Text s span) = Text s span

@@ -11,7 +11,7 @@ use Rattle.html_dom_flat.specs.declared.siblings.Node.{Node}
 use Rattle.html_dom_flat.specs.declared.siblings.Node.TheVariants as kind
 use Rattle.html_dom_flat.specs.declared.siblings.Siblings.{Siblings}
 
--- the nodes that follow one another
+-- the nodes of consecutive siblings
 abbrev pub siblings_view : Siblings → NodesView
 siblings_view s = spelled_nodes s.first (flat_nodes_view s.names.now s.nodes.now)
 
@@ -35,7 +35,7 @@ node_with (flat_text s span) ns = text_node s span
 node_with (flat_frame f) ns = frame_node f
 node_with (flat_element h past) ns = element_node h ns
 
--- the first of these nodes, and the siblings after it
+-- the option holds the first of these nodes and the siblings after it, if there is a node
 abbrev pub SplitsFirst : NodesView → Option (Node × Siblings) → Type 0
 SplitsFirst ns None = ns ≡ none
 SplitsFirst ns (Some parts) = ns ≡ node (node_view parts.0) (siblings_view parts.1)

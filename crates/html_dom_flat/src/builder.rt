@@ -1,4 +1,4 @@
-//! Making a tree's list.
+//! The builder of a flat tree's list.
 
 ghost use Rattle.std.specs.Prelude.{◌≡◌, true, reverse};
 ghost use Rattle.html_dom_flat.specs.FlatViews.{are_given};
@@ -10,7 +10,7 @@ use html_dom_tree::{HtmlAttrs, HtmlElement, HtmlFrame, HtmlNode, Span, Tag};
 use html_names::{HtmlTag, NameTable};
 use std::alloc::{AllocError, Global};
 
-/// A tree's list while it is made: each element that is not closed yet ends at index 0.
+/// The list of a flat tree while it is built. An element that is not closed yet has the `past` 0.
 #[derive(Drop)]
 pub(crate) struct Builder {
     pub(crate) nodes: Vec<FlatNode>,
@@ -29,7 +29,7 @@ impl Builder {
     ghost use Rattle.html_dom_flat.specs.ClosedElements.{closed_at};
     ghost use Rattle.html_dom_flat.specs.Numbering.{AreNumbersOf};
 
-    /// An empty list with room for that many nodes.
+    /// Creates an empty list with room for that many nodes.
     pub(crate) fn with_room(alloc: Global, room: usize) -> Result<Builder, AllocError>
         ensures list { IfOk result (λ builder. builder_view builder ≡ []) }
         ensures count { IfOk result (λ builder. vec_len builder.nodes ≡ 0) }
@@ -77,8 +77,8 @@ impl Builder {
         set_past(&mut self.nodes[index], past);
     }
 
-    // A tree is moved by a call for each level. What moves one node alone is kept out of it, so that a
-    // level takes less of the stack.
+    // Moving a tree recurses at each level. Code that moves one node alone stays out of the
+    // recursion, so that a level takes less stack.
 
     #[inline(never)]
     fn push_tag(&mut self, tag: Tag) -> Result<(), AllocError>
@@ -107,7 +107,7 @@ impl Builder {
         self.push(FlatNode::Frame(Box::new(alloc, frame)?))
     }
 
-    /// Adds an element that is not closed yet, and gives the nodes in it.
+    /// Appends an element that is not closed yet, and returns its children.
     #[inline(never)]
     fn open_element(
         &mut self,
@@ -141,7 +141,7 @@ impl Builder {
         Ok(children)
     }
 
-    /// `move_node` by a call, which takes less where a list is short.
+    /// Calls `move_node` without inlining it, which costs less in a short list.
     #[cycle(flatten)]
     #[inline(never)]
     fn move_one(&mut self, alloc: Global, node: HtmlNode) -> Result<(), AllocError>
@@ -216,7 +216,7 @@ impl Builder {
         Ok(())
     }
 
-    /// The memory of the nodes that were added is given back on the way.
+    /// Moves the nodes in order, and frees the room of moved nodes on the way (`give_back`).
     #[cycle(flatten)]
     #[tactic(auto, unfolding(crate::specs::Flat::nodes_flat, crate::specs::Flat::nodes_count))]
     fn move_many(&mut self, alloc: Global, mut nodes: Vec<HtmlNode>) -> Result<(), AllocError>
@@ -247,7 +247,7 @@ impl Builder {
     }
 }
 
-/// How many nodes they are with all that is inside them. It is only a hint how much room they take.
+/// Returns the number of these nodes and all below them. It is only a hint for a list's capacity.
 #[cycle(counting)]
 pub(crate) fn room_for(nodes: &[HtmlNode]) -> usize {
     let mut room = nodes.len();

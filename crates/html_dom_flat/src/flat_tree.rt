@@ -13,8 +13,8 @@ use html_names::NameTable;
 use std::alloc::{AllocError, Global};
 use std::fmt;
 
-/// A tree as one list: its nodes, at all depths, in the order in which they are written. An element
-/// has the index up to which the nodes inside it stand.
+/// A tree as one list of its nodes at all depths, in the order in which they are written. An
+/// element holds the index after the last node inside it.
 ///
 /// ```
 /// use html_dom::{FlatNode, FlatTree, HtmlElement, HtmlNode, Span};
@@ -26,7 +26,7 @@ use std::fmt;
 /// let tree = FlatTree::from_element(alloc, &paragraph)?;
 /// assert_eq!(rt; tree.nodes().len(), 2);
 /// if let Some(FlatNode::Element(element)) = tree.nodes().first() {
-///     assert_eq!(rt; element.past, 2); // where the next node stands that is not in it
+///     assert_eq!(rt; element.past, 2); // the index after the last node inside it
 ///     let names = tree.names();
 ///     assert!(rt; element.tag < names.tags());
 ///     assert!(rt; *names.tag_at(element.tag) == tag::p);
@@ -47,7 +47,8 @@ impl FlatTree {
     ghost use Rattle.html_dom_tree.specs.Views.{element_view, nodes_view};
     ghost use Rattle.html_dom_flat.specs.FlatTrees.{tree_nodes, IsListOf};
 
-    /// The list of these nodes and of all below them. It fails only where an allocation does.
+    /// Creates the list of these nodes and all below them, which are copied. Fails only if an
+    /// allocation fails.
     ///
     /// Cost: grows with the number of nodes and the length of their texts.
     pub fn from_nodes(alloc: Global, nodes: &[HtmlNode]) -> Result<FlatTree, AllocError>
@@ -59,7 +60,8 @@ impl FlatTree {
         Ok(FlatTree { nodes, names })
     }
 
-    /// The list of this element and of all nodes below it. It fails only where an allocation does.
+    /// Creates the list of this element and all nodes below it, which are copied. Fails only if an
+    /// allocation fails.
     ///
     /// Cost: grows with the number of nodes and the length of their texts.
     pub fn from_element(alloc: Global, element: &HtmlElement) -> Result<FlatTree, AllocError>
@@ -69,21 +71,21 @@ impl FlatTree {
         flat_tree_of(alloc, element.try_clone()?)
     }
 
-    /// The nodes at all depths, in the order in which they are written.
+    /// Returns the nodes at all depths, in the order in which they are written.
     pub fn nodes(&self) -> &[FlatNode]
         ensures { IsListOf self.now result.now }
     {
         &self.nodes
     }
 
-    /// The table that the numbers of the nodes are of.
+    /// Returns the name table to which the numbers in the nodes refer.
     pub fn names(&self) -> &NameTable
         ensures { result.now ≡ self.now.names }
     {
         &self.names
     }
 
-    /// The nodes that the list was made of. It fails only where an allocation does.
+    /// Returns a copy of the nodes from which the list was made. Fails only if an allocation fails.
     ///
     /// Cost: grows with the number of nodes and the length of their texts.
     pub fn to_nodes(&self) -> Result<Vec<HtmlNode>, AllocError>
@@ -93,7 +95,7 @@ impl FlatTree {
     }
 }
 
-/// `FlatTree`
+/// Writes `FlatTree`.
 impl fmt::Debug for FlatTree {
     ghost use Rattle.std.specs.Prelude.{codes, Some};
 

@@ -1,5 +1,5 @@
-//! A tree as one list: its nodes, at all depths, in the order in which they are written. Each name
-//! is a number, so that what is known of a name is found by an index.
+//! A tree as one list of its nodes at all depths, in the order in which they are written. Each name
+//! is a number, so that facts about a name are found by index.
 //!
 //! See [`FlatTree`] for an example.
 #![tactic(auto)]

@@ -1,4 +1,4 @@
-//! The list of a tree that is not needed any more.
+//! The list of a tree that is consumed.
 
 ghost use Rattle.std.specs.Prelude.{◌≡◌, IfOk};
 ghost use Rattle.html_dom_tree.specs.Tree.{node, none, element_node};
@@ -10,13 +10,14 @@ use crate::flat_tree::FlatTree;
 use html_dom_tree::{HtmlElement, HtmlNode};
 use std::alloc::{AllocError, Global};
 
-/// After how many nodes that are taken memory is given back.
+/// The number of removed nodes after which the room of a list is reduced. A shorter list keeps its
+/// room until all its nodes are moved.
 pub(crate) const STEP: usize = 4096;
 
-/// The list of this element and of all nodes below it, which are moved into it. It fails only where
-/// an allocation does; the tree is then gone.
+/// Consumes an element and returns the list of it and all nodes below it. Fails only if an
+/// allocation fails, and then drops the element.
 ///
-/// Cost: grows with the number of nodes and of their attributes. No text is copied.
+/// Cost: grows with the number of nodes and of their attributes. Copies no text.
 pub fn flat_tree_of(alloc: Global, element: HtmlElement) -> Result<FlatTree, AllocError>
     ensures { let e = element_view element in
         IfOk result (λ tree. tree_nodes tree ≡ node (element_node e.0 e.1) none) }
@@ -28,9 +29,9 @@ pub fn flat_tree_of(alloc: Global, element: HtmlElement) -> Result<FlatTree, All
     Ok(FlatTree { nodes, names })
 }
 
-/// Gives back memory that a list does not need, where its length is a multiple of 4,096. So a list from
-/// which all nodes are taken, the last first, has room for fewer than so many that are gone, and nodes
-/// that are moved into another list do not stand in memory twice.
+/// Frees the memory that a list does not need, if its length is a multiple of 4,096. If this is
+/// called after each `pop`, a list has room for fewer than 4,096 removed nodes, so that nodes that
+/// move to another list do not take memory twice.
 #[inline(never)]
 pub fn give_back(nodes: &mut Vec<HtmlNode>)
     ensures { nodes.new.items ≡ nodes.old.items }

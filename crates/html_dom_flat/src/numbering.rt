@@ -1,4 +1,4 @@
-//! Attributes with numbers for names, and where an element ends.
+//! Attributes with numbers for names, and the index at which an element ends.
 
 ghost use Rattle.std.specs.Prelude.{◌≡◌, IfOk};
 ghost use Rattle.html_dom_tree.specs.Views.{attrs_view};

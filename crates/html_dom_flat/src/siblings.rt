@@ -12,14 +12,14 @@ use crate::flat_tree::FlatTree;
 use html_dom_tree::{HtmlFrame, Span, Tag};
 use html_names::{HtmlTag, NameTable};
 
-/// Nodes of a flat tree that follow one another, with all that is inside them.
+/// Consecutive siblings in a flat tree, with everything inside them.
 #[derive(Clone, Copy)]
 pub struct Siblings<'a> {
-    /// The table that the numbers are of.
+    /// The name table to which the numbers in the nodes refer.
     pub names: &'a NameTable,
     /// The nodes at all depths.
     pub(crate) nodes: &'a [FlatNode],
-    /// The index of the first in the tree.
+    /// The index of the first node in the tree's list.
     pub(crate) first: usize,
     ghost fits: { first + length nodes.now < 2 ^ 64 },
     ghost given: { are_given names.now nodes.now ≡ true },
@@ -27,12 +27,12 @@ pub struct Siblings<'a> {
         IsSpelling first list } by { Prim.hlevel (props, flat_node_is_set) },
 }
 
-/// A node of a flat tree, with all that is inside it.
+/// A node of a flat tree, with everything inside it.
 #[derive(Clone, Copy)]
 pub enum Node<'a> {
-    /// Where a located element starts or ends.
+    /// The start or end of a located element.
     Tag(&'a Tag),
-    /// A text, and where it comes from.
+    /// A text and its place in the source.
     Text(&'a String, Span),
     /// A laid-out frame.
     Frame(&'a HtmlFrame),
@@ -40,7 +40,7 @@ pub enum Node<'a> {
     Element(Element<'a>),
 }
 
-/// An element of a flat tree, with all that is inside it.
+/// An element of a flat tree, with everything inside it.
 #[derive(Clone, Copy)]
 pub struct Element<'a> {
     /// The element apart from its children.
@@ -54,7 +54,7 @@ impl<'a> Siblings<'a> {
     ghost use Rattle.html_dom_flat.specs.FlatTrees.{tree_nodes};
     ghost use Rattle.html_dom_flat.specs.Siblings.{siblings_view, SplitsFirst};
 
-    /// The nodes of a tree that are inside no other.
+    /// Returns the nodes of a tree that are inside no other node.
     pub fn of(tree: &'a FlatTree) -> Siblings<'a>
         ensures { siblings_view result ≡ tree_nodes tree.now }
     {
@@ -65,7 +65,7 @@ impl<'a> Siblings<'a> {
         }
     }
 
-    /// The first node, and the siblings after it, or `None` if there is no node.
+    /// Returns the first node and the siblings after it, or `None` if there is no node.
     ///
     /// Cost: constant.
     #[inline(always)]
@@ -114,14 +114,14 @@ impl<'a> Node<'a> {
 impl<'a> Element<'a> {
     ghost use Rattle.html_dom_flat.specs.Siblings.{head_view};
 
-    /// The table that the numbers of its names are of.
+    /// Returns the name table to which the numbers of its names refer.
     pub fn names(&self) -> &'a NameTable
         ensures { result.now ≡ self.now.children.names.now }
     {
         self.children.names
     }
 
-    /// The tag.
+    /// Returns the tag.
     pub fn tag(&self) -> &'a HtmlTag
         ensures { result.now ≡ (head_view self.now).name }
     {
@@ -129,7 +129,8 @@ impl<'a> Element<'a> {
     }
 }
 
-/// The index after a node and all that is inside it, where `next` is the index after it alone.
+/// Returns the index after a node and everything inside it, given the index `next` after the node
+/// alone.
 fn past_of(flat: &FlatNode, next: usize) -> usize
     ensures { (names : NamesView) → result ≡ past_of next (flat_node_view names flat.now) }
 {

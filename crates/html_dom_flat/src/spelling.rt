@@ -1,4 +1,4 @@
-//! Making nodes of a tree's list, from its end to its start.
+//! The nodes that a flat tree's list spells. They are made from the end of the list to its start.
 
 ghost use Rattle.std.specs.Prelude.{◌≡◌, true, IfOk, OnOk, map, option_map};
 ghost use Rattle.std.specs.List.{list_all};
@@ -85,7 +85,8 @@ fn take_before(
     Ok(nodes)
 }
 
-/// The node that is made of one of a list, where a stack holds what follows it.
+/// Makes a node from one of the list. Pops its children from the stack, which holds the nodes that
+/// follow it.
 fn made_node(
     alloc: Global,
     names: &NameTable,

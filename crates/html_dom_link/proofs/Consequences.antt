@@ -6,7 +6,7 @@ use Rattle.html_dom_tree.specs.Frames.{PointView, FrameView, frame, FrameItemsVi
 use Rattle.html_dom_tree.specs.Tree.{starts, ends, tag_node, text_node, element_node, frame_node, NodesView, none, node}
 use Rattle.html_dom_tree.proofs.Basics.{or_else-none}
 use Rattle.html_names.specs.Names.{stands_in}
-use Rattle.html_dom_link.specs.NewNames.{Name, element_names}
+use Rattle.html_dom_link.specs.NewNames.{Name, element_names, gathered_names}
 use Rattle.html_dom_link.specs.Events.{Targets, with_frame_start, items_starts, frame_starts}
 use Rattle.html_dom_link.specs.Namings.{Naming}
 use Rattle.html_dom_link.specs.Anchors.{text_in_span, span_before, nodes_size, nodes_with_anchors, element_namings, element_with_anchors}
@@ -40,7 +40,7 @@ unfolding element_with_anchors
 stays_frame_free x e f = free-anchored e.1 (element_namings x e) f
 
 pub shown_first : (ns : NodesView) → NodesAreFrameFree ns → shown_names ns ≡ first_ids ns
-unfolding shown_names first_ids NodeIsFrameFree NodesAreFrameFree
+unfolding gathered_names NodeIsFrameFree NodesAreFrameFree
 shown_first none f = refl
 shown_first (node (tag_node t) ns) f = shown_first ns f.1
 shown_first (node (text_node s span) ns) f = shown_first ns f.1

@@ -14,7 +14,7 @@ use Rattle.html_dom_link.specs.Fresh.{all_made, names_made}
 use Rattle.html_dom_link.specs.Groups.{is_in_group, first_label, label_of}
 use Rattle.html_dom_link.specs.Links.{Hrefs, attrs_with_href, dest_before, head_with_link, href_of, node_with_links, nodes_with_links, open_dest}
 use Rattle.html_dom_link.specs.Namings.{Naming, made_for, start_pairs, with_made}
-use Rattle.html_dom_link.specs.NewNames.{Name, all_ids, anchor_names, element_names, first_id, frame_names, nodes_names}
+use Rattle.html_dom_link.specs.NewNames.{Name, all_ids, anchor_names, element_names, first_id, frame_names, nodes_names, gathered_names}
 use Rattle.html_dom_link.proofs.Differing.{at_most_one, distinct_once, new_once, occurrences-append, occurrences-none, once_distinct, stands_occurs}
 use Rattle.html_dom_link.proofs.States.{Groups, naming_at, step, finished, makes, makes_is, makes-append, drop-events}
 
@@ -27,13 +27,13 @@ made-append (a ∷ as') bs =
 -- the names of what was put in
 names_before : (made : Option Name) (ns : NodesView) →
     nodes_names (span_before made ns) ≡ option_to_list made ++ nodes_names ns
-unfolding nodes_names
+unfolding gathered_names
 names_before None ns = refl
 names_before (Some n) ns = refl
 
 names_around : (made : Option Name) (s : List ℕ) (span : ℕ) (ns : NodesView) →
     nodes_names (node (text_in_span made s span) ns) ≡ option_to_list made ++ nodes_names ns
-unfolding nodes_names
+unfolding gathered_names
 names_around None s span ns = refl
 names_around (Some n) s span ns = refl
 
@@ -119,7 +119,7 @@ module _ (n : Name) where
   all_count : (x : Targets) (ns : NodesView) (g : Groups) (more : List Naming) →
       count (nodes_names (nodes_with_anchors (makes g (events x ns) ++ more) ns))
       ≡ count (nodes_names ns) + count (all_made (makes g (events x ns)))
-  unfolding events nodes_with_anchors nodes_names
+  unfolding events nodes_with_anchors gathered_names
   all_count x none g more = omega (arith, occurrences-none n)
   all_count x (node (tag_node (starts l label dest)) ns) g more =
       let later = makes (step g (start_event (x.is_target l) l label)) (events x ns) in
@@ -211,7 +211,7 @@ module _ (n : Name) where
       by false so = so
 
   pub shown_count : (ns : NodesView) → count (shown_names ns) ≤ count (nodes_names ns)
-  unfolding shown_names nodes_names
+  unfolding gathered_names
   shown_count none = omega arith
   shown_count (node (tag_node t) ns) = shown_count ns
   shown_count (node (text_node s span) ns) = shown_count ns
@@ -269,7 +269,7 @@ ids_stay hrefs dest h = by (href_of hrefs (open_dest h dest))
 
 nodes_stay : (hrefs : Hrefs) (before : List NodeView) (ns : NodesView) →
     nodes_names (nodes_with_links hrefs before ns) ≡ nodes_names ns
-unfolding nodes_with_links node_with_links nodes_names
+unfolding nodes_with_links node_with_links gathered_names
 nodes_stay hrefs before none = refl
 nodes_stay hrefs before (node (tag_node t) ns) = nodes_stay hrefs (tag_node t ∷ before) ns
 nodes_stay hrefs before (node (text_node s span) ns) =

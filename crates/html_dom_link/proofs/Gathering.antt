@@ -13,7 +13,7 @@ use Rattle.html_dom_tree.specs.declared.introspection.Tag.{Tag}
 use Rattle.html_dom_tree.specs.declared.node.HtmlNode.{HtmlNode}
 use Rattle.html_dom_tree.specs.declared.span.Span.{Span}
 use Rattle.html_dom_tree.proofs.Basics.{node_view-Tag, node_view-Text}
-use Rattle.html_dom_link.specs.NewNames.{Name, with_used_name, all_ids, anchor_names, frame_names, nodes_names}
+use Rattle.html_dom_link.specs.NewNames.{Name, with_used_name, all_ids, anchor_names, frame_names, nodes_names, gathered_names}
 use Rattle.html_dom_link.specs.UsedNames.{with_names}
 
 or-swap : (a b c : Bool) → ((a || b) || c) ≡ (b || (a || c))
@@ -84,7 +84,7 @@ ids_split p ps = by_name (bytes_eq p.0 (codes "id"))
 
 pub nodes_split : (n : NodeView) (ns : NodesView) →
     nodes_names (node n ns) ≡ nodes_names (node n none) ++ nodes_names ns
-unfolding nodes_names
+unfolding gathered_names
 nodes_split (tag_node t) ns = refl
 nodes_split (text_node s span) ns = refl
 nodes_split (element_node h kids) ns =
@@ -98,7 +98,7 @@ nodes_split (frame_node f) ns =
 pub element_listed : (h : Head) (kids : NodesView) (old mid new : List Name) →
     mid ≡ old ++ all_ids h.attrs → new ≡ mid ++ nodes_names kids →
     new ≡ old ++ nodes_names (node (element_node h kids) none)
-unfolding nodes_names
+unfolding gathered_names
 element_listed h kids old mid new mid_is new_is =
     new_is
     ∙ (ap (λ l. l ++ nodes_names kids) mid_is
@@ -109,7 +109,7 @@ element_listed h kids old mid new mid_is new_is =
 pub frame_listed : (f : HtmlFrameView) (old mid new : List Name) →
     mid ≡ old ++ option_to_list f.id → new ≡ mid ++ anchor_names f.anchors →
     new ≡ old ++ nodes_names (node (frame_node f) none)
-unfolding nodes_names
+unfolding gathered_names
 frame_listed f old mid new mid_is new_is =
     new_is
     ∙ (ap (λ l. l ++ anchor_names f.anchors) mid_is
@@ -118,12 +118,12 @@ frame_listed f old mid new mid_is new_is =
 
 -- a tag and a text have none
 tag_listed : (t : TagView) (old : List Name) → old ≡ old ++ nodes_names (node (tag_node t) none)
-unfolding nodes_names
+unfolding gathered_names
 tag_listed t old = sym (append-nil old)
 
 text_listed : (s : List ℕ) (span : ℕ) (old : List Name) →
     old ≡ old ++ nodes_names (node (text_node s span) none)
-unfolding nodes_names
+unfolding gathered_names
 text_listed s span old = sym (append-nil old)
 
 pub tag_passed : (n : HtmlNode) (t : Tag) (old : List Name) → n ≡ HtmlNode.Tag t →

@@ -22,7 +22,7 @@ use Rattle.html_dom_link.specs.Distinct.{IdsAreDistinct, GivenLinksLeadToOne, Le
 use Rattle.html_dom_link.specs.GivenLinks.{KnownAnchorsAreShown, AnchorsAreTexts, EveryLinkLeads, GivenLinksLead, LeadsAmong, given_by, given_link, links_without, node_given_links, nodes_given_links}
 use Rattle.html_dom_link.specs.Indicated.{element_places, link_name, nodes_places, place_names}
 use Rattle.html_dom_link.specs.Links.{Anchors, Hrefs, anchor_hrefs, attrs_with_href, dest_before, document_dead_links, document_hrefs, document_with_links, head_with_link, href_of, is_open, node_with_links, nodes_with_links, some_name}
-use Rattle.html_dom_link.specs.NewNames.{Name, element_names, first_id, frame_names}
+use Rattle.html_dom_link.specs.NewNames.{Name, element_names, first_id, frame_names, gathered_names}
 use Rattle.html_dom_link.specs.Spellings.{leading_href}
 use Rattle.html_dom_link.specs.declared.dead.DeadLink.{DeadLink}
 use Rattle.html_dom_link.proofs.ChangedRoots.{root_has_links}
@@ -68,7 +68,7 @@ in_three as' bs cs n =
 
 shown_are_places : (ns : NodesView) (n : Name) → stands_in (shown_names ns) n ≡ true →
     stands_in (nodes_places ns) n ≡ true
-unfolding shown_names nodes_places
+unfolding gathered_names
 shown_are_places none n e = e
 shown_are_places (node (tag_node t) ns) n e = shown_are_places ns n e
 shown_are_places (node (text_node s span) ns) n e = shown_are_places ns n e
@@ -239,8 +239,8 @@ left_in_document d new is =
 pub every_link_leads : (d : HtmlDocument) (dead : List DeadLink) →
     dead_links_view dead ≡ document_dead_links (document_view d) → dead ≡ [] →
     EveryLinkLeads (document_view d)
-every_link_leads d dead told nothing = record {
+every_link_leads d dead agrees nothing = record {
   none_left =
-      left_in_document (document_view d) _ refl ∙ (sym told ∙ ap dead_links_view nothing);
+      left_in_document (document_view d) _ refl ∙ (sym agrees ∙ ap dead_links_view nothing);
   given = document_links_lead d _ refl;
 }

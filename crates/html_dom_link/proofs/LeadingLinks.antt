@@ -3,7 +3,7 @@ use Rattle.std.proofs.Common.{◌≡◌, ◌&&◌, ℕ, List, [], ◌∷◌, ◌
 use Rattle.std.specs.Prelude.{if◌then◌else◌, option_to_list}
 use Rattle.html_dom_tree.specs.Tags.{starts, ends}
 use Rattle.html_dom_tree.specs.Tree.{Head, NodeView, tag_node, text_node, element_node, frame_node, NodesView, none, node}
-use Rattle.html_dom_link.specs.NewNames.{first_id, frame_names}
+use Rattle.html_dom_link.specs.NewNames.{first_id, frame_names, gathered_names}
 use Rattle.html_dom_link.specs.Answered.{shown_names, first_ids}
 use Rattle.html_dom_link.specs.Indicated.{nodes_places, place_names}
 use Rattle.html_dom_link.specs.LinkLaws.{LeftAreDead, NamesStay}
@@ -29,7 +29,7 @@ place_names_stay hrefs dest h = by (href_of hrefs (open_dest h dest))
     by (Some href) = refl
 
 pub names_stay : NamesStay
-unfolding nodes_with_links shown_names first_ids nodes_places
+unfolding nodes_with_links gathered_names
 names_stay hrefs before none = record { shown = refl; first = refl; places = refl }
 names_stay hrefs before (node (tag_node t) ns) =
     let behind = names_stay hrefs (tag_node t ∷ before) ns in

@@ -54,11 +54,11 @@ pub one_more_with_links : (hrefs : Hrefs) (dest : Option ℕ) (before made : Lis
     m ≡ node_with_links hrefs dest n → left ≡ n ∷ rest →
     made ++ list_with_links hrefs before left ≡ whole →
     (made ++ m ∷ []) ++ list_with_links hrefs (n ∷ before) rest ≡ whole
-one_more_with_links hrefs dest before made n m left rest whole behind is left_is told =
+one_more_with_links hrefs dest before made n m left rest whole behind is left_is agrees =
     append_assoc made (m ∷ []) (list_with_links hrefs (n ∷ before) rest)
     ∙ (ap (λ k. made ++ k ∷ list_with_links hrefs (n ∷ before) rest)
     (is ∙ ap (λ d. node_with_links hrefs d n) behind)
-    ∙ (ap (λ l. made ++ list_with_links hrefs before l) (sym left_is) ∙ told))
+    ∙ (ap (λ l. made ++ list_with_links hrefs before l) (sym left_is) ∙ agrees))
 
 -- the dead links of an element are its own and those below it
 pub element_dead : (hrefs : Hrefs) (dest own : Option ℕ) (h : Head) (kids : NodesView)
@@ -79,13 +79,13 @@ pub one_more_dead : (hrefs : Hrefs) (dest : Option ℕ) (before : List NodeView)
     old ++ nodes_dead_links hrefs before left ≡ whole →
     new ++ nodes_dead_links hrefs (n ∷ before) rest ≡ whole
 unfolding nodes_dead_links
-one_more_dead hrefs dest before n left rest old new whole behind new_is left_is told =
+one_more_dead hrefs dest before n left rest old new whole behind new_is left_is agrees =
     let others = nodes_dead_links hrefs (n ∷ before) rest in
     ap (λ l. l ++ others) (new_is ∙ ap (λ d. old ++ node_dead_links hrefs d n) behind)
     ∙ (append_assoc old (node_dead_links hrefs (dest_before before) n) others
-    ∙ (ap (λ l. old ++ nodes_dead_links hrefs before l) (sym left_is) ∙ told))
+    ∙ (ap (λ l. old ++ nodes_dead_links hrefs before l) (sym left_is) ∙ agrees))
 
 pub no_more_dead : (hrefs : Hrefs) (before : List NodeView) (old whole : List DeadLinkView) →
     old ++ nodes_dead_links hrefs before none ≡ whole → old ≡ whole
 unfolding nodes_dead_links
-no_more_dead hrefs before old whole told = sym (append-nil old) ∙ told
+no_more_dead hrefs before old whole agrees = sym (append-nil old) ∙ agrees

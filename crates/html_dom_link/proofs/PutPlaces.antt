@@ -14,7 +14,7 @@ use Rattle.html_dom_tree.specs.declared.span.Span.{Span}
 use Rattle.html_dom_tree.proofs.Basics.{node_view-Tag, node_view-Text}
 use Rattle.html_dom_tree.proofs.Nodes.{nodes_view-drop}
 use Rattle.html_dom_link.specs.Indicated.{element_places, link_name, nodes_places, place_names}
-use Rattle.html_dom_link.specs.NewNames.{Name, anchor_names, first_id, frame_names}
+use Rattle.html_dom_link.specs.NewNames.{Name, anchor_names, first_id, frame_names, gathered_names}
 use Rattle.html_dom_link.specs.UsedNames.{with_names}
 use Rattle.html_dom_link.proofs.Gathering.{with-append, with-none}
 
@@ -30,7 +30,7 @@ anchors_in_turn xs i x within is =
 
 places_split : (n : NodeView) (ns : NodesView) →
     nodes_places (node n ns) ≡ nodes_places (node n none) ++ nodes_places ns
-unfolding nodes_places
+unfolding gathered_names
 places_split (tag_node t) ns = refl
 places_split (text_node s span) ns = refl
 places_split (element_node h kids) ns =
@@ -62,7 +62,7 @@ pub element_put : (h : Head) (kids : NodesView) (old ided mid new : Name → Boo
     mid ≡ with_names (option_to_list (link_name h.name h.attrs)) ided →
     new ≡ with_names (nodes_places kids) mid →
     new ≡ with_names (nodes_places (node (element_node h kids) none)) old
-unfolding nodes_places
+unfolding gathered_names
 element_put h kids old ided mid new first second next =
     let own = place_names h.name h.attrs in
     both_put own (nodes_places kids) old mid new
@@ -74,7 +74,7 @@ element_put h kids old ided mid new first second next =
 pub frame_put : (f : HtmlFrameView) (old mid new : Name → Bool) →
     mid ≡ with_names (option_to_list f.id) old → new ≡ with_names (anchor_names f.anchors) mid →
     new ≡ with_names (nodes_places (node (frame_node f) none)) old
-unfolding nodes_places
+unfolding gathered_names
 frame_put f old mid new first next =
     both_put (option_to_list f.id) (anchor_names f.anchors) old mid new first next
     ∙ ap (λ l. with_names l old) (sym (append-nil (frame_names f)))
@@ -82,7 +82,7 @@ frame_put f old mid new first next =
 -- a tag and a text have none
 pub tag_put : (n : HtmlNode) (t : Tag) (used : Name → Bool) → n ≡ HtmlNode.Tag t →
     used ≡ with_names (nodes_places (node (node_view n) none)) used
-unfolding nodes_places
+unfolding gathered_names
 tag_put n t used is =
     sym (with-none used)
     ∙ ap (λ m. with_names (nodes_places (node m none)) used)
@@ -90,7 +90,7 @@ tag_put n t used is =
 
 pub text_put : (n : HtmlNode) (s : String Global) (span : Span) (used : Name → Bool) →
     n ≡ HtmlNode.Text s span → used ≡ with_names (nodes_places (node (node_view n) none)) used
-unfolding nodes_places
+unfolding gathered_names
 text_put n s span used is =
     sym (with-none used)
     ∙ ap (λ m. with_names (nodes_places (node m none)) used)
@@ -99,7 +99,7 @@ text_put n s span used is =
 -- behind the last node there are none
 pub no_more_put : (ns : List HtmlNode) (i : ℕ) (used all : Name → Bool) → length ns ≤ i →
     with_names (nodes_places (nodes_view (drop i ns))) used ≡ all → used ≡ all
-unfolding nodes_places
+unfolding gathered_names
 no_more_put ns i used all past so_far =
     sym (with-none used)
     ∙ (ap (λ l. with_names (nodes_places (nodes_view l)) used) (sym (drop_all i ns past)) ∙ so_far)
@@ -122,5 +122,5 @@ no_anchor_put xs i used all past so_far =
 -- those of the root are those of a list of it alone
 pub places_of_root : (e : ElementView) →
     nodes_places (node (element_node e.0 e.1) none) ≡ element_places e
-unfolding nodes_places
+unfolding gathered_names
 places_of_root e = ap (λ l. place_names e.0.name e.0.attrs ++ l) (append-nil (nodes_places e.1))

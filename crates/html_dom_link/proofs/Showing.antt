@@ -9,7 +9,7 @@ use Rattle.html_dom_tree.specs.Frames.{PointView}
 use Rattle.html_dom_tree.specs.Tree.{Head, starts, ends, tag_node, text_node, element_node, frame_node, NodesView, none, node}
 use Rattle.html_names.specs.Names.{stands_in}
 use Rattle.html_names.proofs.NameTables.{stands_in-append}
-use Rattle.html_dom_link.specs.NewNames.{Name, with_used_name, new_name, anchor_names, first_id, element_names}
+use Rattle.html_dom_link.specs.NewNames.{Name, with_used_name, new_name, anchor_names, first_id, element_names, gathered_names}
 use Rattle.html_dom_link.specs.Events.{Start, FrameStart, end_tag, element, text, html_frame, Targets, start_event, frame_starts, events}
 use Rattle.html_dom_link.specs.Groups.{is_in_group, first_label, label_of}
 use Rattle.html_dom_link.specs.Namings.{Naming, made_for, group_answers, start_pairs, start_answers, with_made, all_answers, last_name}
@@ -100,7 +100,7 @@ text_shows : (label : Option Name) (used : Name → Bool) (q : List Start) (s : 
     (ns : NodesView) (xs : List (ℕ × Name)) → let made = made_for None label used q in
     AreAmong xs (shown_names ns) →
     AreAmong ((group_answers made q ++ []) ++ xs) (shown_names (node (text_in_span made s span) ns))
-unfolding shown_names
+unfolding gathered_names
 text_shows label used [] t span ns xs h = h
 text_shows label used (s ∷ ss) t span ns xs h =
     let n = Some (new_name label used) in
@@ -112,7 +112,7 @@ end_shows : (label : Option Name) (used : Name → Bool) (q : List Start)
     (ns : NodesView) (xs : List (ℕ × Name)) → let made = made_for None label used q in
     AreAmong xs (shown_names ns) →
     AreAmong ((group_answers made q ++ []) ++ xs) (shown_names (span_before made ns))
-unfolding shown_names
+unfolding gathered_names
 end_shows label used [] ns xs h = h
 end_shows label used (s ∷ ss) ns xs h =
     let n = Some (new_name label used) in
@@ -130,7 +130,7 @@ start_shows false l label g ns xs h = h
 all_shown : (x : Targets) (ns : NodesView) (g : Groups) (more : List Naming) →
     AreAmong (all_answers (makes g (events x ns)))
     (shown_names (nodes_with_anchors (makes g (events x ns) ++ more) ns))
-unfolding events nodes_with_anchors shown_names
+unfolding events nodes_with_anchors gathered_names
 all_shown x none g more = tt
 all_shown x (node (tag_node (starts l label dest)) ns) g more =
     let later = makes (step g (start_event (x.is_target l) l label)) (events x ns) in

@@ -64,7 +64,7 @@ more_blanks (b ∷ bs) c all one =
 pub record IsTaken (end blanks rest whole : List ℕ) : Type 0 where
   pub utf8 : IsUtf8 rest
   pub blank : list_all is_control_or_space blanks ≡ true
-  pub told : end ++ without_end_blanks (blanks ++ filter is_kept (chars rest)) ≡ url_end whole
+  pub agrees : end ++ without_end_blanks (blanks ++ filter is_kept (chars rest)) ≡ url_end whole
 
 module _ (end blanks rest later whole : List ℕ) (c : ℕ) (so_far : IsTaken end blanks rest whole)
     (parts : rest ≡ encode c ++ later) (u : IsUtf8 later) where
@@ -75,8 +75,8 @@ module _ (end blanks rest later whole : List ℕ) (c : ℕ) (so_far : IsTaken en
   dropped e = record {
     utf8 = u;
     blank = so_far.blank;
-    told = ap (λ l. end ++ without_end_blanks (blanks ++ l)) (sym (left ∙ rw e refl))
-        ∙ so_far.told;
+    agrees = ap (λ l. end ++ without_end_blanks (blanks ++ l)) (sym (left ∙ rw e refl))
+        ∙ so_far.agrees;
   }
 
   pub held : is_dropped c ≡ false → is_control_or_space c ≡ true →
@@ -84,24 +84,24 @@ module _ (end blanks rest later whole : List ℕ) (c : ℕ) (so_far : IsTaken en
   held e b = record {
     utf8 = u;
     blank = more_blanks blanks c so_far.blank b;
-    told = ap (λ l. end ++ without_end_blanks l)
+    agrees = ap (λ l. end ++ without_end_blanks l)
         (append_assoc blanks (c ∷ []) (filter is_kept (chars later))
         ∙ ap (λ l. blanks ++ l) (sym (left ∙ rw e refl)))
-        ∙ so_far.told;
+        ∙ so_far.agrees;
   }
 
   pub written : is_control_or_space c ≡ false → IsTaken ((end ++ blanks) ++ c ∷ []) [] later whole
   written b = record {
     utf8 = u;
     blank = refl;
-    told = ap (λ l. l ++ without_end_blanks (filter is_kept (chars later)))
+    agrees = ap (λ l. l ++ without_end_blanks (filter is_kept (chars later)))
         (append_assoc end blanks (c ∷ []))
         ∙ (append_assoc end (blanks ++ c ∷ []) (without_end_blanks (filter is_kept (chars later)))
         ∙ (ap (λ l. end ++ l)
         (append_assoc blanks (c ∷ []) (without_end_blanks (filter is_kept (chars later)))
         ∙ (sym (blanks_stay blanks c (filter is_kept (chars later)) b)
         ∙ ap (λ l. without_end_blanks (blanks ++ l)) (sym (left ∙ rw (no_blank_is_kept c b) refl))))
-        ∙ so_far.told));
+        ∙ so_far.agrees));
   }
 
 pub all_taken : (end blanks rest whole : List ℕ) → IsTaken end blanks rest whole → rest ≡ [] →
@@ -112,7 +112,7 @@ all_taken end blanks rest whole so_far none =
     ∙ (ap without_end_blanks (sym (append-nil blanks))
     ∙ ap (λ l. without_end_blanks (blanks ++ filter is_kept l))
     (sym (ap chars none ∙ chars-nil))))
-    ∙ so_far.told)
+    ∙ so_far.agrees)
 
 pub none_unless : (s text : List ℕ) → length s ≡ 0 → chars s ≡ text → [] ≡ unless_empty text
 none_unless [] text e is = ap unless_empty (sym chars-nil ∙ is)

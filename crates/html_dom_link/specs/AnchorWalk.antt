@@ -1,6 +1,6 @@
--- The tree with anchors in one walk, whose state has what waits for a server: the locations of the
--- start tags and, for each location, the label of its first one. It equals the definition by groups
--- (`OneWalkServes`, proved).
+-- The tree with anchors in one walk, whose state holds what waits for a server: the locations of
+-- the start tags and, for each location, the label of its first one. It equals the definition by
+-- groups (`OneWalkServes`, proved).
 use Rattle.std.specs.Prelude.{◌≡◌, ℕ, Bool, ◌==◌, if◌then◌else◌, List, ◌++◌, [], ◌∷◌, Option, Some, None}
 use Rattle.html_dom_tree.specs.Attributes.{or_else}
 use Rattle.html_dom_tree.specs.Tree.{starts, ends, NodeView, tag_node, text_node, element_node, frame_node, NodesView, none, node, ElementView}
@@ -13,7 +13,7 @@ use Rattle.html_dom_link.specs.Anchors.{with_id, named_frame, text_in_span, span
 pub record WalkState : Type 0 where
   -- the locations of the start tags that wait, in order
   pub waiting : List ℕ
-  -- for each location that waits
+  -- the label of the first start tag of each location that waits
   pub labels : ℕ → Option (Option Name)
   pub used : Name → Bool
   -- the last name of each location
@@ -44,7 +44,7 @@ abbrev pub put_each : Name → List ℕ → (ℕ → Option Name) → ℕ → Op
 put_each n [] answers = answers
 put_each n (l ∷ ls) answers = put_each n ls (with_entry l n answers)
 
--- all that wait get the name
+-- the state after all that wait got the name
 abbrev pub with_answers : Name → WalkState → WalkState
 with_answers n st = record st {
   waiting = [];
@@ -75,7 +75,7 @@ pub record Serves (old new : WalkState) (waiting : Option (Option Name)) (own ma
   pub state : new ≡ after_server waiting own old
   pub name : made ≡ made_now waiting own old.used
 
--- the start tags of a frame, one after the other
+-- the state after the start tags of a frame, one after the other
 abbrev pub after_start : FrameStart → WalkState → WalkState
 after_start s st =
     let n = new_name s.label st.used in
@@ -118,7 +118,7 @@ walk x (node (frame_node f) ns) st =
     (frame_node (named_frame (made_now waiting f.id st.used) (start_pairs after.used ss) f))
     (walk x ns (after_starts ss after))
 
--- nothing waits, and nothing is named yet
+-- the state at first: nothing waits, and nothing is named yet
 abbrev pub at_first : (used : Name → Bool) → WalkState
 at_first used = record { waiting = []; labels = λ l. None; used = used; answers = λ l. None }
 

@@ -10,7 +10,7 @@ use Rattle.html_dom_link.specs.Events.{Targets, events}
 use Rattle.html_dom_link.specs.Groups.{cuts}
 use Rattle.html_dom_link.specs.Namings.{Naming, namings, all_answers, last_name}
 
--- a new `id` in front of all attributes
+-- the attributes with a new `id` in front, if there is one
 abbrev pub attrs_with_id : Option Name → List TextPair → List TextPair
 attrs_with_id None attrs = attrs
 attrs_with_id (Some n) attrs = (codes "id", n) ∷ attrs
@@ -18,7 +18,7 @@ attrs_with_id (Some n) attrs = (codes "id", n) ∷ attrs
 abbrev pub with_id : Option Name → Head → Head
 with_id n h = record h { attrs = attrs_with_id n h.attrs }
 
--- a new `span` with that `id`
+-- the head of a new `span` with that `id`
 abbrev pub span_head : Name → (span : ℕ) → Head
 span_head n span = with_id (Some n) (record (new_element (codes "span")).0 { span = span })
 
@@ -45,7 +45,7 @@ nodes_size (node (text_node s span) ns) = suc (nodes_size ns)
 nodes_size (node (element_node h kids) ns) = suc (nodes_size kids + nodes_size ns)
 nodes_size (node (frame_node f) ns) = suc (nodes_size ns)
 
--- the changes, with one naming for each node in document order
+-- the nodes with these changes, by one naming for each node in document order
 unfoldable pub nodes_with_anchors : List Naming → NodesView → NodesView
 nodes_with_anchors cs none = none
 nodes_with_anchors [] (node n ns) = node n ns

@@ -1,29 +1,22 @@
 -- Returned names stand in the new tree.
 use Rattle.std.specs.Prelude.{◌≡◌, ℕ, false, true, List, [], ◌++◌, Some, None, option_to_list}
 use Rattle.html_dom_tree.specs.FrameFree.{ElementIsFrameFree}
-use Rattle.html_dom_tree.specs.Tree.{tag_node, text_node, element_node, frame_node, NodesView, none, node, ElementView}
+use Rattle.html_dom_tree.specs.Tree.{Head, NodesView, ElementView}
 use Rattle.html_names.specs.Names.{stands_in}
-use Rattle.html_dom_link.specs.NewNames.{Name, first_id, frame_names}
+use Rattle.html_dom_link.specs.NewNames.{Name, first_id, frame_names, gathered_names}
 use Rattle.html_dom_link.specs.Events.{Targets}
 use Rattle.html_dom_link.specs.Anchors.{element_with_anchors, anchor_of}
 
+abbrev pub id_names : Head → List Name
+id_names h = option_to_list (first_id h)
+
 -- the first `id` of each element, and the ids and anchors of frames
-unfoldable pub shown_names : NodesView → List Name
-shown_names none = []
-shown_names (node (tag_node t) ns) = shown_names ns
-shown_names (node (text_node s span) ns) = shown_names ns
-shown_names (node (element_node h kids) ns) =
-    option_to_list (first_id h) ++ (shown_names kids ++ shown_names ns)
-shown_names (node (frame_node f) ns) = frame_names f ++ shown_names ns
+abbrev pub shown_names : NodesView → List Name
+shown_names = gathered_names id_names frame_names
 
 -- the first `id` of each element only
-unfoldable pub first_ids : NodesView → List Name
-first_ids none = []
-first_ids (node (tag_node t) ns) = first_ids ns
-first_ids (node (text_node s span) ns) = first_ids ns
-first_ids (node (element_node h kids) ns) =
-    option_to_list (first_id h) ++ (first_ids kids ++ first_ids ns)
-first_ids (node (frame_node f) ns) = first_ids ns
+abbrev pub first_ids : NodesView → List Name
+first_ids = gathered_names id_names (λ f. [])
 
 -- each returned name is the first `id` of an element below the root, or a frame's `id`, or one of a
 -- frame's anchors
@@ -31,7 +24,7 @@ abbrev pub AnswersAreShown : Type 0
 AnswersAreShown = (x : Targets) (e : ElementView) (l : ℕ) (n : Name) → anchor_of x e l ≡ Some n →
     stands_in (shown_names (element_with_anchors x e).1) n ≡ true
 
--- in a tree without frames it is the first `id` of an element
+-- each returned name is the first `id` of an element, if the tree has no frames
 abbrev pub AnswersAreFirstIds : Type 0
 AnswersAreFirstIds = (x : Targets) (e : ElementView) → ElementIsFrameFree e → (l : ℕ) (n : Name) →
     anchor_of x e l ≡ Some n → stands_in (first_ids (element_with_anchors x e).1) n ≡ true

@@ -3,7 +3,7 @@ use Rattle.std.specs.Prelude.{List, map}
 use Rattle.html_dom_link.specs.Links.{DeadLinkView}
 use Rattle.html_dom_link.specs.declared.dead.DeadLink.{DeadLink}
 
--- its span, and its destination
+-- the span and the destination of a dead link
 abbrev pub dead_link_view : DeadLink → DeadLinkView
 dead_link_view link = (link.span.0, link.dest.0)
 

@@ -1,5 +1,5 @@
--- Whether the names of a tree differ (HTML Standard 3.2.6: an `id` is unique in its tree), and that
--- they still do once it has anchors and links.
+-- Trees whose names differ (HTML Standard 3.2.6: an `id` is unique in its tree), and laws that they
+-- still do once the tree has anchors and links.
 use Rattle.std.specs.Borrow.{Bor}
 use Rattle.std.specs.List.{count_by}
 use Rattle.std.specs.Prelude.{◌≡◌, ℕ, Bool, true, not, ◌&&◌, List, [], ◌∷◌, All, bytes_eq, map, String}

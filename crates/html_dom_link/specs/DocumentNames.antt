@@ -1,5 +1,5 @@
--- The names of a document's anchors: new ones differ from all others, and returned ones are
--- visible.
+-- The names of a document's anchors: new ones differ from all others, and returned ones stand in
+-- the tree.
 use Rattle.std.specs.Prelude.{◌≡◌, ℕ, Bool, true, Option, Some}
 use Rattle.html_names.specs.Names.{stands_in}
 use Rattle.html_dom_document.specs.Documents.{DocumentView, document_root}

@@ -28,11 +28,11 @@ MadeAreNew x e = AreNew (stands_in (element_names e)) (all_made (element_namings
 abbrev pub used_at_last : Targets → ElementView → Name → Bool
 used_at_last x e = with_names (all_made (element_namings x e)) (stands_in (element_names e))
 
--- this holds if these are at most 2 ^ 63, as in each call that succeeds
+-- the made names are new if at most 2 ^ 63 names are in use at last, as in each call that succeeds
 abbrev pub NamesAreNew : Type 0
 NamesAreNew = (x : Targets) (e : ElementView) → IsBounded (used_at_last x e) → MadeAreNew x e
 
--- if those in use are, the number in a new name is the first free one
+-- the number in a new name is the first free one if at most 2 ^ 63 names are in use
 abbrev pub IsFirstFree : Type 0
 IsFirstFree = (label : Name) (used : Name → Bool) → IsBounded used →
     let stem = stem_of label in

@@ -19,13 +19,14 @@ abbrev pub given_by : (dest : ℕ) → Option (List ℕ) → List GivenLink
 given_by dest None = []
 given_by dest (Some href) = (dest, href) ∷ []
 
--- of an element in the old and in the new tree, behind tags with that destination
+-- the link of an element in the old and in the new tree, behind tags with that destination, if it
+-- got an `href`
 abbrev pub given_link : Option ℕ → (old new : Head) → List GivenLink
 given_link None old new = []
 given_link (Some dest) old new =
     if is_open old then given_by dest (first new.attrs (codes "href")) else []
 
--- from two trees of one shape: the links without an `href` in the old one that have one in the new
+-- the links without an `href` in the old one of two trees of one shape that have one in the new
 -- one, in document order
 unfoldable mutual
   pub node_given_links : (dest : Option ℕ) → (old new : NodeView) → List GivenLink
@@ -54,8 +55,8 @@ pub record LeadsTo (is_place : Name → Bool) (href : List ℕ) (name : Name) : 
   pub taken : fragments_in href ≡ fragment ∷ []
   pub indicates : indicated_name is_place fragment ≡ Some name
 
--- among places with these names, a link leads to the anchor of its destination, which is one of
--- these ids
+-- a link leads to the anchor of its destination among places with these names, and that anchor is
+-- one of these ids
 pub record LeadsAmong (anchor : Anchors) (places ids : List Name) (link : GivenLink) : Type 0 where
   pub name : Name
   pub leads : LeadsTo (stands_in places) link.1 name

@@ -5,12 +5,12 @@ use Rattle.std.specs.Prelude.{ℕ, Bool, true, false, ◌||◌, ◌==◌, if◌t
 use Rattle.html_dom_link.specs.NewNames.{Name}
 use Rattle.html_dom_link.specs.Events.{Start, Event, other_start, target_start, end_tag, element, text, html_frame}
 
--- a start tag of the group has that location
+-- whether a start tag of the group has that location
 abbrev pub is_in_group : ℕ → List Start → Bool
 is_in_group l [] = false
 is_in_group l (s ∷ ss) = (s.location == l) || is_in_group l ss
 
--- an event serves the group that waits for a server
+-- whether an event serves the group that waits for a server
 abbrev pub serves : List Start → Event → Bool
 serves group other_start = false
 serves group (target_start s) = false

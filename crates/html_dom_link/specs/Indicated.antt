@@ -1,13 +1,14 @@
--- Where an `href` to a fragment of its own page leads in a browser: the URL Standard parses it
--- (4.4, URL parsing), and the HTML Standard finds the place (7.4.6.3, scrolling to a fragment).
+-- The place to which an `href` to a fragment of its own page leads in a browser: the URL Standard
+-- parses it (4.4, URL parsing), and the HTML Standard finds the place (7.4.6.3, scrolling to a
+-- fragment).
 use Rattle.std.specs.Char.{to_ascii_lowercase}
 use Rattle.std.specs.List.{filter}
 use Rattle.std.specs.Prelude.{ℕ, Bool, not, ◌||◌, ◌==◌, nat_lt, List, [], ◌∷◌, ◌++◌, map, chars, codes, bytes_eq, if◌then◌else◌, Option, Some, None, option_to_list}
 use Rattle.std.specs.Str.Lossy.{utf8_lossy}
 use Rattle.percent_encoding.specs.Percent.{percent_decode}
 use Rattle.html_dom_tree.specs.Attributes.{first}
-use Rattle.html_dom_tree.specs.Tree.{TextPair, tag_node, text_node, element_node, frame_node, NodesView, none, node, ElementView}
-use Rattle.html_dom_link.specs.NewNames.{Name, frame_names}
+use Rattle.html_dom_tree.specs.Tree.{TextPair, NodesView, ElementView}
+use Rattle.html_dom_link.specs.NewNames.{Name, frame_names, gathered_names}
 use Rattle.html_dom_link.specs.Spellings.{encoding, is_in_fragment_set}
 
 -- the names of places
@@ -16,31 +17,26 @@ use Rattle.html_dom_link.specs.Spellings.{encoding, is_in_fragment_set}
 abbrev pub link_name : (name : List ℕ) → (attrs : List TextPair) → Option Name
 link_name name attrs = if bytes_eq name (codes "a") then first attrs (codes "name") else None
 
--- an element is a place by its first `id`, and an `a` by its first `name` too
+-- the names of an element as a place: its first `id`, and the first `name` of an `a`
 abbrev pub place_names : (name : List ℕ) → (attrs : List TextPair) → List Name
 place_names name attrs =
     option_to_list (first attrs (codes "id")) ++ option_to_list (link_name name attrs)
 
--- those of all elements, and the ids and anchors of frames
-unfoldable pub nodes_places : NodesView → List Name
-nodes_places none = []
-nodes_places (node (tag_node t) ns) = nodes_places ns
-nodes_places (node (text_node s span) ns) = nodes_places ns
-nodes_places (node (element_node h kids) ns) =
-    place_names h.name h.attrs ++ (nodes_places kids ++ nodes_places ns)
-nodes_places (node (frame_node f) ns) = frame_names f ++ nodes_places ns
+-- the names of all elements as places, and the ids and anchors of frames
+abbrev pub nodes_places : NodesView → List Name
+nodes_places = gathered_names (λ h. place_names h.name h.attrs) frame_names
 
--- those of a whole tree, the root among them
+-- the names of the places of a whole tree, including the root
 abbrev pub element_places : ElementView → List Name
 element_places e = place_names e.0.name e.0.attrs ++ nodes_places e.1
 
 -- the fragment of an `href`
 
--- a control or a space, which a URL drops at its ends
+-- whether a character is a control or a space, which a URL drops at its ends
 abbrev pub is_control_or_space : ℕ → Bool
 is_control_or_space c = nat_lt c 33
 
--- a tab, a line feed or a carriage return, which a URL drops
+-- whether a character is a tab, a line feed or a carriage return, which a URL drops
 abbrev pub is_dropped : ℕ → Bool
 is_dropped c = (c == 9) || (c == 10) || (c == 13)
 
@@ -84,7 +80,7 @@ fragments_in href = fragments_behind (behind_hash href)
 abbrev pub url_fragment : (fragment : List ℕ) → List ℕ
 url_fragment fragment = encoding is_in_fragment_set fragment
 
--- percent-decoded, and read as UTF-8, with U+FFFD for what is none
+-- the percent-decoded fragment, read as UTF-8 with U+FFFD for bytes that are not UTF-8
 unfoldable pub decoding : (url_fragment : List ℕ) → List ℕ
 decoding f = utf8_lossy (percent_decode f)
 
@@ -97,11 +93,11 @@ unfoldable pub indicated_name : (is_place : Name → Bool) → (fragment : List 
 indicated_name is_place fragment = let f = url_fragment fragment in
     indicated_by is_place f (chars (decoding f))
 
--- these bytes lead to the top of the page
+-- whether these bytes lead to the top of the page
 abbrev pub is_top : List ℕ → Bool
 is_top bytes = bytes_eq (map to_ascii_lowercase bytes) (codes "top")
 
--- this text, in UTF-8, is the name of a place, or leads to the top
+-- whether this text, in UTF-8, is the name of a place or leads to the top
 abbrev pub text_leads : (is_place : Name → Bool) → (bytes : List ℕ) → Bool
 text_leads is_place bytes = is_place (chars bytes) || is_top bytes
 

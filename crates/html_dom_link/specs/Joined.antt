@@ -12,7 +12,7 @@ use Rattle.html_dom_link.specs.AnchorWalk.{with_entry, WalkState, after_starts, 
 abbrev pub walked_behind : NodesView → Walked → Walked
 walked_behind made w = (made then w.0, w.1)
 
--- an end tag, behind which a new `span` may stand
+-- whether a node is an end tag, behind which a new `span` may stand
 abbrev pub is_end : NodeView → Bool
 is_end (tag_node (starts l label dest)) = false
 is_end (tag_node (ends l)) = true
@@ -20,14 +20,14 @@ is_end (text_node s span) = false
 is_end (element_node h kids) = false
 is_end (frame_node f) = false
 
--- a name is made for one location
+-- the state after a name is made for one location
 abbrev pub named_at : ℕ → Name → WalkState → WalkState
 named_at l n st = record st { used = with_used_name n st.used; answers = with_entry l n st.answers }
 
--- the state, and the anchors of a frame
+-- the state and the anchors of a frame
 abbrev pub InFrame : Type 0
 InFrame = WalkState × List (PointView × Name)
 
--- start tags of the frame get their names
+-- the state and the anchors of a frame after these start tags in it got their names
 abbrev pub with_starts : List FrameStart → InFrame → InFrame
 with_starts ss w = (after_starts ss w.0, w.1 ++ start_pairs w.0.used ss)

@@ -15,7 +15,8 @@ LeadingHrefsLead = (is_place : Name → Bool) (name : Name) (href : List ℕ) �
     some_name (Some name) ≡ Some name → is_place name ≡ true →
     leading_href is_place (Some name) ≡ Some href → LeadsTo is_place href name
 
--- the plain one does unless another place has its spelling as its own name
+-- the plain `href` of a place's name leads to it unless another place has its spelling as its own
+-- name
 abbrev pub PlainHrefsLead : Type 0
 PlainHrefsLead = (is_place : Name → Bool) (name : Name) → scalars name ≡ true →
     some_name (Some name) ≡ Some name → is_place name ≡ true →

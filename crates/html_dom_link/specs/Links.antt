@@ -36,7 +36,7 @@ is_open h = bytes_eq h.name (codes "a") && not (has_name h.attrs (codes "href"))
 abbrev pub open_dest : Head → Option ℕ → Option ℕ
 open_dest h dest = if is_open h then dest else None
 
--- an empty name is no name: nothing leads to it
+-- the name, unless it is empty: nothing leads to an empty name
 abbrev pub some_name : Option (List ℕ) → Option (List ℕ)
 some_name None = None
 some_name (Some []) = None
@@ -50,7 +50,7 @@ abbrev pub href_of : Hrefs → Option ℕ → Option (List ℕ)
 href_of hrefs None = None
 href_of hrefs (Some dest) = hrefs dest
 
--- a new `href` in front of all attributes
+-- the attributes with a new `href` in front, if there is one
 abbrev pub attrs_with_href : Option (List ℕ) → List TextPair → List TextPair
 attrs_with_href None attrs = attrs
 attrs_with_href (Some href) attrs = (codes "href", href) ∷ attrs
@@ -59,8 +59,8 @@ abbrev pub head_with_link : Hrefs → Option ℕ → Head → Head
 head_with_link hrefs dest h =
     record h { attrs = attrs_with_href (href_of hrefs (open_dest h dest)) h.attrs }
 
--- changes each link at any depth, and nothing else; a list is processed with the nodes before each
--- node, the nearest first
+-- the nodes with each link at any depth changed, and nothing else; a list is processed with the
+-- nodes before each node, the nearest first
 unfoldable mutual
   pub node_with_links : Hrefs → (dest : Option ℕ) → NodeView → NodeView
   node_with_links hrefs dest (tag_node t) = tag_node t
@@ -77,11 +77,12 @@ unfoldable mutual
 abbrev pub root_with_links : Hrefs → ElementView → ElementView
 root_with_links hrefs root = (root.0, nodes_with_links hrefs [] root.1)
 
--- from the names of the locations, given the names of places
+-- the `href` of each location by the name of its anchor, given the names of places
 abbrev pub anchor_hrefs : (is_place : List ℕ → Bool) → Anchors → Hrefs
 anchor_hrefs is_place anchor = λ location. leading_href is_place (some_name (anchor location))
 
--- in a document, from the anchors that its introspector knows and the places of its tree
+-- the `href` of each location in a document, by the anchors that its introspector knows and the
+-- places of its tree
 abbrev pub document_hrefs : DocumentView → Hrefs
 document_hrefs d = anchor_hrefs (stands_in (element_places (document_root d))) d.introspector.anchor
 
@@ -104,7 +105,7 @@ abbrev pub dead_link : Hrefs → Option ℕ → (span : ℕ) → List DeadLinkVi
 dead_link hrefs None span = []
 dead_link hrefs (Some dest) span = dead_without (hrefs dest) span dest
 
--- all of these, in document order
+-- all dead links of nodes, in document order
 unfoldable mutual
   pub node_dead_links : Hrefs → (dest : Option ℕ) → NodeView → List DeadLinkView
   node_dead_links hrefs dest (tag_node t) = []

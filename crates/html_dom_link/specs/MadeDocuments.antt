@@ -1,4 +1,4 @@
--- What is made of a document by the calls that give it anchors, and its links an `href`.
+-- The documents that calls return which add anchors, or an `href` to links.
 use Rattle.std.specs.Prelude.{◌≡◌, ℕ, Bool}
 use Rattle.html_dom_document.specs.Documents.{DocumentView, document_root, with_root}
 use Rattle.html_dom_tree.specs.Tree.{NodesView}

@@ -1,4 +1,4 @@
--- The names given at each event, by the names in use: those of the tree, and all that were made.
+-- The names made at each event, given the names in use: those of the tree, and all made before.
 use Rattle.std.specs.Prelude.{ℕ, Bool, List, [], ◌∷◌, ◌++◌, ◌==◌, if◌then◌else◌, Option, Some, None}
 use Rattle.html_dom_tree.specs.Attributes.{or_else}
 use Rattle.html_dom_tree.specs.Frames.{PointView}
@@ -19,7 +19,7 @@ made_for own label used [] = None
 made_for (Some n) label used (s ∷ ss) = None
 made_for None label used (s ∷ ss) = Some (new_name label used)
 
--- each start tag of the group gets the name
+-- the locations of the group's start tags, each with that name
 abbrev pub group_answers : Option Name → List Start → List (ℕ × Name)
 group_answers None group = []
 group_answers (Some n) [] = []
@@ -29,7 +29,7 @@ abbrev pub starts_in : Event → List FrameStart
 starts_in (html_frame id inside) = inside
 starts_in e = []
 
--- each start tag in a frame gets a new name of its own
+-- the points of start tags in a frame, each with a new name of its own
 abbrev pub start_pairs : (used : Name → Bool) → List FrameStart → List (PointView × Name)
 start_pairs used [] = []
 start_pairs used (s ∷ ss) =
@@ -40,7 +40,7 @@ start_answers used [] = []
 start_answers used (s ∷ ss) =
     let n = new_name s.label used in (s.location, n) ∷ start_answers (with_used_name n used) ss
 
--- the names in use after them
+-- the names in use after these start tags
 abbrev pub used_after_starts : (used : Name → Bool) → List FrameStart → Name → Bool
 used_after_starts used [] = used
 used_after_starts used (s ∷ ss) = used_after_starts (with_used_name (new_name s.label used) used) ss
@@ -52,7 +52,7 @@ abbrev pub with_made : Option Name → (used : Name → Bool) → Name → Bool
 with_made None used = used
 with_made (Some n) used = with_used_name n used
 
--- a frame's own name is made before those of its start tags
+-- the names in use after the server's name is made, which precedes those of a frame's start tags
 abbrev pub used_after_made : (used : Name → Bool) → Cut → Name → Bool
 used_after_made used c = with_made (made_at used c) used
 

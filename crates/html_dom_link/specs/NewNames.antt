@@ -8,7 +8,7 @@ use Rattle.html_dom_tree.specs.Tree.{TextPair, Head, tag_node, text_node, elemen
 abbrev pub Name : Type 0
 Name = List ℕ
 
--- which names are in use, with one more
+-- the names in use, with one more
 abbrev pub with_used_name : Name → (used : Name → Bool) → Name → Bool
 with_used_name n used name = bytes_eq n name || used name
 
@@ -26,16 +26,21 @@ anchor_names = map (λ a. a.1)
 abbrev pub frame_names : HtmlFrameView → List Name
 frame_names f = option_to_list f.id ++ anchor_names f.anchors
 
--- all values of `id`, and the ids and anchors of frames
-unfoldable pub nodes_names : NodesView → List Name
-nodes_names none = []
-nodes_names (node (tag_node t) ns) = nodes_names ns
-nodes_names (node (text_node s span) ns) = nodes_names ns
-nodes_names (node (element_node h kids) ns) =
-    all_ids h.attrs ++ (nodes_names kids ++ nodes_names ns)
-nodes_names (node (frame_node f) ns) = frame_names f ++ nodes_names ns
+-- names of the elements and of the frames of nodes, in document order
+unfoldable pub gathered_names : (of_element : Head → List Name) (of_frame : HtmlFrameView → List Name)
+    → NodesView → List Name
+gathered_names of_element of_frame none = []
+gathered_names of_element of_frame (node (element_node h kids) ns) = of_element h
+    ++ (gathered_names of_element of_frame kids ++ gathered_names of_element of_frame ns)
+gathered_names of_element of_frame (node (frame_node f) ns) =
+    of_frame f ++ gathered_names of_element of_frame ns
+gathered_names of_element of_frame (node _ ns) = gathered_names of_element of_frame ns
 
--- those of the whole tree, the root among them
+-- all values of `id`, and the ids and anchors of frames
+abbrev pub nodes_names : NodesView → List Name
+nodes_names = gathered_names (λ h. all_ids h.attrs) frame_names
+
+-- the names of a whole tree, including the root
 abbrev pub element_names : ElementView → List Name
 element_names e = all_ids e.0.attrs ++ nodes_names e.1
 
@@ -43,7 +48,7 @@ element_names e = all_ids e.0.attrs ++ nodes_names e.1
 abbrev pub name_with_number : Name → ℕ → Name
 name_with_number stem n = stem ++ (codes "-" ++ decimal n)
 
--- the first number from `n` on whose name is free, after at most so many tries
+-- the first number from `n` on whose name is free, after at most that many tries
 unfoldable pub first_free : (stem : Name) (used : Name → Bool) (tries n : ℕ) → ℕ
 first_free stem used zero n = n
 first_free stem used (suc tries) n = elim (used (name_with_number stem n)) as (λ b. ℕ)
@@ -58,12 +63,12 @@ abbrev pub first_number : (label : Name) → ℕ
 first_number [] = 1
 first_number (c ∷ cs) = 2
 
--- one of 2 ^ 63 names is free, since no memory holds so many
+-- the name with the first free number; one of 2 ^ 63 names is free, since no memory holds so many
 abbrev pub free_name : (label : Name) (used : Name → Bool) → Name
 free_name label used =
     name_with_number (stem_of label) (first_free (stem_of label) used (2 ^ 63) (first_number label))
 
--- no label is like an empty one
+-- the text of a label; no label is like an empty one
 abbrev pub text_of_label : Option Name → Name
 text_of_label None = []
 text_of_label (Some n) = n

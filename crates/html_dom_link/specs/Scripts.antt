@@ -14,13 +14,14 @@ past_blanks (c ∷ cs) = if is_control_or_space c then past_blanks cs else c ∷
 abbrev pub url_begin : (href : List ℕ) → List ℕ
 url_begin href = filter is_kept (past_blanks href)
 
--- a text begins with this, in any ASCII case
+-- whether a text begins with `small`, in any ASCII case
 unfoldable pub begins : (small text : List ℕ) → Bool
 begins [] text = true
 begins (x ∷ xs) [] = false
 begins (x ∷ xs) (c ∷ cs) = (to_ascii_lowercase c == x) && begins xs cs
 
--- `javascript:` and `vbscript:` are run, and a page in `data:` runs its own scripts
+-- whether a URL is a script: `javascript:` and `vbscript:` are run, and a page in `data:` runs its
+-- own scripts
 abbrev pub is_script_url : (url : List ℕ) → Bool
 is_script_url url =
     begins (codes "javascript:") url || begins (codes "data:") url || begins (codes "vbscript:") url

@@ -1,5 +1,6 @@
--- What serves a location, in a tree with anchors: a start tag has the name of the next element or
--- frame, with only tags between, and a start tag in a frame that of an anchor of the frame.
+-- The names of what serves locations, in a tree with anchors: a start tag has the name of the next
+-- element or frame, with only tags between, and a start tag in a frame that of an anchor of the
+-- frame.
 use Rattle.std.specs.Prelude.{◌≡◌, ℕ, ◌-◌, Bool, List, [], ◌∷◌, ◌++◌, length, drop, Option, Some, None, if◌then◌else◌}
 use Rattle.html_dom_tree.specs.Frames.{PointView}
 use Rattle.html_dom_tree.specs.Tree.{starts, ends, tag_node, text_node, element_node, frame_node, NodesView, none, node, ElementView}
@@ -27,7 +28,7 @@ paired_marks [] anchors = []
 paired_marks (s ∷ ss) [] = []
 paired_marks (s ∷ ss) (a ∷ anchors) = inner_mark s.location a.1 ∷ paired_marks ss anchors
 
--- the last anchors, as many as there are start tags, are theirs
+-- the marks of the start tags in a frame: their anchors are the last ones, as many as they are
 abbrev pub inner_marks : List FrameStart → List (PointView × Name) → List Mark
 inner_marks ss anchors = paired_marks ss (drop (length anchors - length ss) anchors)
 
@@ -68,7 +69,7 @@ abbrev pub AnchorsServe : Type 0
 AnchorsServe = (x : Targets) (e : ElementView) (location : ℕ) →
     anchor_of x e location ≡ serving_name x (element_with_anchors x e).1 location
 
--- this holds in a document with these anchors of these locations
+-- the anchors of these locations in a document are the names of what serves them
 abbrev pub AreServing : (is_target : ℕ → Bool) → (anchor : ℕ → Option Name) → DocumentView → Type 0
 AreServing is_target anchor d = let x = document_targets is_target d in
     (location : ℕ) → anchor location ≡ serving_name x (document_root d).1 location

@@ -1,5 +1,5 @@
--- How a name is spelled behind the `#` of an `href` (URL Standard 1.3: percent-encoding), and which
--- spelling is chosen (this project's rule).
+-- The spellings of a name behind the `#` of an `href` (URL Standard 1.3: percent-encoding), and the
+-- one that is chosen (this project's rule).
 use Rattle.std.specs.List.{flat_map, list_any}
 use Rattle.std.specs.Prelude.{ℕ, Bool, true, not, ◌||◌, ◌==◌, nat_lt, List, [], ◌∷◌, ◌++◌, Option, Some, None, option_map, codes, if◌then◌else◌}
 use lib.Utf8.{encodes}
@@ -12,7 +12,7 @@ abbrev pub is_in_fragment_set : ℕ → Bool
 is_in_fragment_set c =
     nat_lt 126 c || nat_lt c 33 || (c == 34) || (c == 60) || (c == 62) || (c == 96)
 
--- that set and `%`, so that decoding gives the text
+-- the fragment percent-encode set and `%`, so that decoding restores the text
 abbrev pub is_in_name_set : (byte : ℕ) → Bool
 is_in_name_set b = (b == 37) || is_in_fragment_set b
 
@@ -34,7 +34,7 @@ is_left name = not (list_any is_in_fragment_set name)
 unfoldable pub plain_spelling : Name → List ℕ
 plain_spelling name = if is_left name then name else encoding is_in_name_set name
 
--- a spelling that no place has as its name, or else another
+-- the spelling, unless a place has it as its name, or else another
 abbrev pub unless_place :
     (is_place : Name → Bool) → (spelling : List ℕ) → (other : Option (List ℕ)) → Option (List ℕ)
 unless_place is_place spelling other = if is_place spelling then other else Some spelling

@@ -28,7 +28,8 @@ abbrev pub inner_node : NodeView → NodesView → NodeView
 inner_node n none = n
 inner_node n (node m ms) = m
 
--- `added`: the first node is an element that was added after an end tag
+-- the nodes without what was added; `added` if the first node is an element that was added after an
+-- end tag
 unfoldable pub nodes_undone : (added : Bool) → List Event → List Naming → NodesView → NodesView
 nodes_undone added es cs none = none
 nodes_undone true es cs (node n ns) = nodes_undone false es cs ns

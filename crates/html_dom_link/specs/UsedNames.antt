@@ -21,12 +21,12 @@ pub record AreUsedBelow (used : Name → Bool) (label : Name) (n : ℕ) : Type 0
   pub below : (m : ℕ) → first_number label ≤ m → m < n →
       used (name_with_number (stem_of label) m) ≡ true
 
--- below the next number to try for a label, all are in use
+-- all names of a label with numbers below the next one to try are in use
 abbrev pub IsCounted : (used : Name → Bool) → BTreeMap (String Global) ℕ → Type 0
 IsCounted used next =
     (bs : List ℕ) (n : ℕ) → get_by_text next bs ≡ Some n → AreUsedBelow used (chars bs) n
 
--- these names are in use too
+-- the names in use, with these names
 abbrev pub with_names : List Name → (used : Name → Bool) → Name → Bool
 with_names names used n = stands_in names n || used n
 

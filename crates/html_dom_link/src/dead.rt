@@ -82,7 +82,8 @@ fn add_link(
 
 // The node comes first among the parameters: its depth proves that the recursion ends.
 
-/// Adds the element's link, if it is dead behind tags with that destination, and those below it.
+/// Appends the element's link, if it is dead behind tags with that destination, and the dead links
+/// below the element.
 #[cycle(dead)]
 fn add_element(
     element: &HtmlElement,

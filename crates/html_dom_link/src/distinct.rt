@@ -1,4 +1,4 @@
-//! Whether the names of a document differ.
+//! The check that the names of a document differ.
 
 ghost use Rattle.std.specs.Prelude.{◌≡◌, IfOk};
 ghost use Rattle.html_dom_document.specs.Documents.{document_root};
@@ -15,7 +15,7 @@ use std::collections::BTreeSet;
 /// Returns whether all values of `id` in a document's tree differ, including those of frames and of
 /// frames' anchors: the HTML Standard (3.2.6) requires each `id` to be unique in its tree, but a
 /// tree may hold one twice. If they differ, each link to which
-/// [`resolve_links`](crate::resolve_links) gives an `href` leads to one place. Takes logarithmic
+/// [`resolve_links`](crate::resolve_links) adds an `href` leads to one place. Takes logarithmic
 /// time for each name. Fails only if an allocation fails.
 ///
 /// ```

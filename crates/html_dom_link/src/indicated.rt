@@ -1,4 +1,4 @@
-//! Where an `href` to a fragment of its own page leads in a browser.
+//! The place to which an `href` to a fragment of its own page leads in a browser.
 
 ghost use Rattle.std.specs.Prelude.{◌≡◌, chars, option_map, option_to_list, IfOk};
 ghost use Rattle.html_names.specs.Texts.{text_view};
@@ -37,8 +37,8 @@ pub fn fragment_in(alloc: Global, href: &str) -> Result<Option<String>, AllocErr
 /// Returns whether a fragment leads to a place of its page, or to the top, in a browser (HTML
 /// Standard 7.4.6.3), given the names of the places. The URL encodes the fragment by the fragment
 /// percent-encode set; the browser then looks for a place with that text as its name, or else with
-/// the text to which it decodes, with U+FFFD for what is no UTF-8. `top`, in any ASCII case, leads
-/// to the top of the page if no place has that name. Fails only if an allocation fails.
+/// the text to which it decodes, with U+FFFD for bytes that are not UTF-8. `top`, in any ASCII
+/// case, leads to the top of the page if no place has that name. Fails only if an allocation fails.
 ///
 /// ```
 /// use typst_html::{HtmlElement, attr, fragment_leads, place_names, tag};
@@ -64,7 +64,6 @@ pub fn fragment_leads(
     leads_decoded(alloc, places, as_it_is.as_str())
 }
 
-/// Returns whether a character is a control or a space.
 pub(crate) fn is_control_or_space(c: char) -> bool
     ensures { result ≡ is_control_or_space c }
 {

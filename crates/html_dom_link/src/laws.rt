@@ -74,8 +74,8 @@ pub fn hrefs_lead()
     ensures plain { PlainHrefsLead }
 {}
 
-/// Giving links an `href` changes no name of the tree: neither the visible names, nor the first
-/// `id` of any element, nor the name of any place.
+/// Adding an `href` to links changes no name of the tree: neither the first `id` of any element,
+/// nor the id or an anchor of any frame, nor the name of any place.
 pub fn names_stay()
     ensures { NamesStay }
 {}
@@ -87,8 +87,8 @@ pub fn left_are_dead()
     ensures { LeftAreDead }
 {}
 
-/// Adding anchors with new names, as each call that makes some promises, keeps the names of a tree
-/// distinct; giving links an `href` changes none of these names.
+/// Adding anchors with new names keeps the names of a tree distinct. Each call that makes names
+/// promises that they are new. Adding an `href` to links changes none of these names.
 #[tactic(auto, using(crate::proofs::Counting::anchors_stay_distinct, crate::proofs::Counting::all_names_stay))]
 pub fn names_stay_distinct()
     ensures anchors { AnchorsStayDistinct }

@@ -1,4 +1,4 @@
-//! Anchors of links: names for the places in the tree that links lead to.
+//! Anchors of links: names for the places in the tree to which links lead.
 #![tactic(auto)]
 
 mod anchors;

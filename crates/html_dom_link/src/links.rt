@@ -42,7 +42,7 @@ impl LinkTargets<'_> {
     }
 }
 
-/// Gives each link of a document that has no `href` one that leads to its destination.
+/// Adds an `href` to each link of a document that has none: one that leads to its destination.
 ///
 /// A link is an `a` at any depth below the root directly behind a start tag with a destination,
 /// with only tags between; of several such tags the nearest counts. If the document's introspector
@@ -50,12 +50,12 @@ impl LinkTargets<'_> {
 /// `href`: `#` and a spelling of the anchor's name that leads to it. Links that have an `href`, and
 /// everything else, stay. [`dead_links`] reports the links that are left without one.
 ///
-/// A browser looks for a place named as the fragment is, and only then for one whose name is what
-/// it decodes to (HTML Standard 7.4.6.3). So the name is spelled as it is, if the fragment
-/// percent-encode set (URL Standard 1.3) leaves it so; else with that set and `%` percent-encoded;
-/// else, if another place of the tree has that text as its name, with each byte encoded. If a place
-/// has that text too, the link stays without an `href`. A place is an element with that first `id`,
-/// an `a` with that first `name`, a frame, or an anchor of one.
+/// A browser first looks for a place whose name is the fragment, and only then for one whose name
+/// is the decoded fragment (HTML Standard 7.4.6.3). So the `href` spells the name as it is, if the
+/// fragment percent-encode set (URL Standard 1.3) leaves it so; else with that set and `%`
+/// percent-encoded; else, if another place of the tree has that text as its name, with each byte
+/// encoded. If a place has that text too, the link stays without an `href`. A place is an element
+/// with that first `id`, an `a` with that first `name`, a frame, or an anchor of one.
 ///
 /// Each new `href` leads: if the anchors that the introspector knows stand in the tree, as they do
 /// in a document of `html_document`, the fragment that a browser takes from it indicates the
@@ -96,8 +96,8 @@ pub fn resolve_links(alloc: Global, document: &mut HtmlDocument) -> Result<(), A
     Ok(())
 }
 
-/// Consumes a document and returns it with its links resolved as by [`resolve_links`], but moves
-/// the nodes that that call copies. If an allocation fails, drops the document.
+/// Consumes a document and returns it with its links resolved as by [`resolve_links`]. Moves the
+/// nodes, which `resolve_links` copies. If an allocation fails, drops the document.
 pub fn document_with_links(
     alloc: Global,
     mut document: HtmlDocument,
@@ -131,7 +131,7 @@ pub fn with_resolved_links(
     }
 }
 
-/// Returns the destination that counts right behind a node, given that right before it.
+/// Returns the destination that counts right behind a node, given the one right before it.
 pub(crate) fn dest_past(dest: Option<Location>, node: &HtmlNode) -> Option<Location>
     ensures { (before : List NodeView) → option_map (λ l. l.0) dest ≡ dest_before before →
         option_map (λ l. l.0) result ≡ dest_before (node_view node.now ∷ before) }

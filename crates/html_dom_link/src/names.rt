@@ -11,8 +11,8 @@ use std::collections::{BTreeMap, BTreeSet};
 /// The number of tries for a label: more than the names that any memory holds.
 const TRIES: u64 = 1 << 63;
 
-/// The names in use. For each label that was numbered it keeps the next number to try, below which
-/// all are in use, so that no name tries them again.
+/// The names in use, and the next number to try for each label that was numbered. The names with
+/// lower numbers are all in use, so they are not tried again.
 #[derive(Drop)]
 pub(crate) struct AnchorNames {
     used: BTreeSet<String>,
@@ -47,14 +47,14 @@ fn first_free(
     Ok(limit)
 }
 
-/// Whether a name is in use.
+/// Returns whether a name is in use.
 pub fn is_used(used: &BTreeSet<String>, name: &String) -> bool
     ensures { result ≡ used_in used.now (text_view name.now) }
 {
     used.contains(name.as_str())
 }
 
-/// Puts a name in use. It fails only where an allocation does.
+/// Puts a name in use. Fails only if an allocation fails.
 pub fn put_in_use(used: &mut BTreeSet<String>, name: String) -> Result<(), AllocError>
     ensures ok { OnOk result (used_in used.new ≡ with_used_name (text_view name) (used_in used.old)) }
     ensures grows { (n : Name) → used_in used.old n ≡ true → used_in used.new n ≡ true }

@@ -53,8 +53,8 @@ pub(crate) fn anchor_text(
     Ok(())
 }
 
-/// Lets the start tag of a target wait. At an end tag, returns the name of the `span` that serves
-/// there.
+/// Queues the location of a start tag, if it is a target. Returns the name of the new `span` that
+/// must follow an end tag, if any.
 pub(crate) fn anchor_tag(
     state: &mut AnchorState,
     alloc: Global,
@@ -89,7 +89,7 @@ fn name_frame_id(id: &mut Option<String>, made: Option<String>)
     }
 }
 
-/// Lets a frame serve all waiting locations, and adds anchors for the start tags in it.
+/// Serves all waiting locations by the frame, and adds anchors for the start tags in it.
 pub(crate) fn anchor_frame(
     state: &mut AnchorState,
     frame: &mut HtmlFrame,

@@ -28,7 +28,7 @@ pub fn place_names(alloc: Global, root: &HtmlElement) -> Result<BTreeSet<String>
     Ok(names)
 }
 
-/// The first `id` of an element, which may be empty.
+/// Returns the first `id` of an element, which may be empty.
 #[tactic(auto, unfolding(html_names::specs::Tables::known_attrs))]
 pub fn first_id(element: &HtmlElement) -> Option<&String>
     ensures { option_map (λ id. text_view id.now) result ≡ first_id (element_view element.now).0 }

@@ -11,7 +11,7 @@ use html_dom_tree::text::split_first;
 /// Returns whether an `href` is a script to a browser: whether its scheme, in any ASCII case, is
 /// `javascript:`, `vbscript:` or `data:`, whose pages run scripts of their own. Ignores controls
 /// and spaces before it, and tabs, line feeds and carriage returns in it, as the URL Standard (4.4)
-/// does. Drop such links when you make a page of what strangers write. Other attributes that hold
+/// does. Drop such links if you make a page from untrusted input. Other attributes that hold
 /// URLs (`src`, `action`, ..) can be checked in the same way.
 ///
 /// ```
@@ -55,7 +55,8 @@ fn first_kept(text: &str) -> Option<(char, &str)>
     None
 }
 
-/// Returns whether a text, without what a URL drops, begins so, in any ASCII case.
+/// Returns whether a URL, without the characters that it drops, begins with `small`, in any ASCII
+/// case.
 fn begins(small: &str, url: &str) -> bool
     ensures { result ≡ begins (chars small.now) (filter is_kept (chars url.now)) }
 {

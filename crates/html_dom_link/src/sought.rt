@@ -1,4 +1,4 @@
-//! Which locations get anchors.
+//! The locations that get anchors.
 
 use html_dom_document::HtmlIntrospector;
 use html_dom_tree::{Location, Point};

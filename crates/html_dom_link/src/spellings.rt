@@ -1,4 +1,4 @@
-//! How a name is spelled behind the `#` of an `href`.
+//! The spelling of a name behind the `#` of an `href`.
 
 ghost use Rattle.std.specs.Prelude.{◌≡◌, chars, option_map, None, IfOk};
 ghost use Rattle.percent_encoding.specs.Percent.{percent_encode};
@@ -17,19 +17,21 @@ pub(crate) const FRAGMENT: AsciiSet = ascii_set!(
     CONTROLS.add(b' ').add(b'"').add(b'<').add(b'>').add(b'`')
 );
 
-/// That set and `%`, so that decoding restores what was encoded.
+/// The fragment percent-encode set and `%`, so that decoding restores what was encoded.
 pub(crate) const NAME: AsciiSet = ascii_set!(FRAGMENT.add(b'%'));
 
 pub(crate) const ANY: AsciiSet = AsciiSet { mask: !0 };
 
 /// Returns an `href` to a place of the same page by its name: `#`, and the name as it is, if a
 /// browser leaves it so, or else with the fragment percent-encode set of the URL Standard (1.3) and
-/// `%` encoded. It leads to the place wherever no other place has that spelling as its own name.
-/// Behind the address of another page it leads to a place there. Fails only if an allocation fails.
+/// `%` encoded. It leads to the place unless another place has that spelling as its own name.
+/// Appended to the address of another page, it leads to a place there. Fails only if an allocation
+/// fails.
 ///
-/// It sees no tree: with one place named `a b` and another `a%20b`, `#a%20b` leads to the latter,
-/// since a browser looks for a fragment as it is before it decodes it (HTML Standard 7.4.6.3).
-/// [`resolve_links`](crate::resolve_links), which sees the tree, then chooses another spelling.
+/// The call does not know the tree. If one place is named `a b` and another `a%20b`, `#a%20b` leads
+/// to the latter, since a browser looks for a fragment as it is before it decodes it (HTML Standard
+/// 7.4.6.3). [`resolve_links`](crate::resolve_links), which knows the tree, then chooses another
+/// spelling.
 ///
 /// ```
 /// use html_dom::href_to;

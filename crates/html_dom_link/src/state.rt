@@ -59,7 +59,8 @@ impl AnchorState {
         Ok(())
     }
 
-    /// Returns whether the node is a text and no location waits: then neither of them changes.
+    /// Returns whether the node is a text and no location waits. If so, the walk changes neither
+    /// the node nor the state.
     pub(crate) fn passes(&self, child: &HtmlNode) -> bool
         ensures { IsTrue result → (x : Targets) →
             walk x (node (node_view child.now) none) (state_view self.now)
@@ -140,7 +141,8 @@ impl AnchorState {
         Ok(Some(name))
     }
 
-    /// Returns the name made for the server, unless it has one of its own.
+    /// Serves all waiting locations. Returns the name made for the server, unless none waits or it
+    /// has a name of its own.
     pub(crate) fn serve(
         &mut self,
         alloc: Global,
@@ -159,7 +161,8 @@ impl AnchorState {
         }
     }
 
-    /// Serves all waiting locations if that of this end tag waits.
+    /// Serves all waiting locations if that of this end tag waits, and returns the name made for
+    /// them.
     pub(crate) fn end(
         &mut self,
         alloc: Global,

@@ -33,7 +33,7 @@ all_ascii_lowered (n ∷ ns) h =
     let both = and_parts (is_ascii n) (are_ascii ns) h in
     and_from _ _ (ascii_lowered n both.0) (all_ascii_lowered ns both.1)
 
--- what the comparison with one name tells
+-- what follows from the comparison with one name
 module _ (table : List (Bor (List ℕ))) (t : List ℕ) (place n : ℕ) (d : Bor (List ℕ))
     (ascii : are_ascii (texts table) ≡ true) (l : place < length table) (e : n ≡ place) where
   in_range : place < length (texts table)

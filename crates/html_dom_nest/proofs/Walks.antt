@@ -60,7 +60,7 @@ unfolding nodes_walk
 none_walked around path ns i past =
     ap (λ xs. nodes_walk path i around (nodes_view xs)) (drop_all i ns past)
 
--- in a walk these findings are told, and these are left
+-- in a walk these findings are reported, and these are left
 abbrev pub FindsUpTo : (first now all left : List Finding) → Type 0
 FindsUpTo first now all left = now ++ left ≡ first ++ all
 

@@ -24,39 +24,40 @@ abbrev pub is_html : Space → Bool
 is_html Html = true
 is_html space = false
 
--- an element of HTML with such a name
+-- whether the element is one of HTML whose name passes the test
 abbrev pub is_of : (test : List ℕ → Bool) → Ancestor → Bool
 is_of test a = is_html a.space && test a.head.name
 
--- the parent is one
+-- whether the parent is such an element
 abbrev pub is_in : (test : List ℕ → Bool) → List Ancestor → Bool
 is_in test [] = false
 is_in test (a ∷ above) = is_of test a
 
--- a goal is above, and no bound between
+-- whether a goal is above, with no bound between
 abbrev pub reaches : (goal bound : Ancestor → Bool) → List Ancestor → Bool
 reaches goal bound [] = false
 reaches goal bound (a ∷ above) = goal a || (not (bound a) && reaches goal bound above)
 
--- an element of SVG or MathML in which HTML stands: it bounds scopes, and is special
+-- whether HTML stands in an element of SVG or MathML, which then bounds scopes and is special
 abbrev pub is_point : Space → (name : List ℕ) → Bool
 is_point Html name = false
 is_point Svg name = of kind.SvgHtml name
 is_point MathMl name = of kind.MathText name || of kind.AnnotationXml name
 
--- it bounds a scope (13.2.4.2)
+-- whether an element bounds a scope (13.2.4.2)
 abbrev pub bounds_scope : Ancestor → Bool
 bounds_scope a = is_of (of kind.BoundsScope) a || is_point a.space a.head.name
 
--- and button scope
+-- whether an element bounds button scope
 abbrev pub bounds_button_scope : Ancestor → Bool
 bounds_button_scope a = is_of (of kind.Button) a || bounds_scope a
 
 unfoldable pub is_search : (name : List ℕ) → Bool
 is_search name = stands_in (listed_names (codes "search")) name
 
--- special elements other than `address`, `div` and `p` end the search for an item that a new one
--- closes (13.2.6.4.7, start tags of `li`, `dd`, `dt`); `search` is special, but not in Chromium
+-- whether an element of that name ends the search for an item that a new one closes, as special
+-- elements other than `address`, `div` and `p` do (13.2.6.4.7, start tags of `li`, `dd`, `dt`);
+-- `search` is special, but not in Chromium
 abbrev pub ends_item_search : (name : List ℕ) → Bool
 ends_item_search name = of kind.Special name && not (of kind.PassedByItems name)
     && not (is_search name)
@@ -64,14 +65,14 @@ ends_item_search name = of kind.Special name && not (of kind.PassedByItems name)
 abbrev pub bounds_item : Ancestor → Bool
 bounds_item a = is_of ends_item_search a || is_point a.space a.head.name
 
--- it hides the formatting elements around it (13.2.4.3, markers)
+-- whether an element hides the formatting elements around it (13.2.4.3, markers)
 abbrev pub hides_formatting : Ancestor → Bool
 hides_formatting a = is_of (λ n. of kind.Marker n || of kind.Template n) a
 
 abbrev pub is_template : Ancestor → Bool
 is_template = is_of (of kind.Template)
 
--- `annotation-xml` may say that it holds HTML
+-- whether the attribute makes an `annotation-xml` hold HTML
 abbrev pub says_html : TextPair → Bool
 says_html a = is_encoding a.0 && is_html_encoding (lowered a.1)
 
@@ -82,7 +83,7 @@ abbrev pub math_reading : Head → Reading
 math_reading h = if of kind.MathText h.name then reading.AsMathText
     else (if of kind.AnnotationXml h.name then annotation_reading h.attrs else reading.AsMathMl)
 
--- how the content of an element is read
+-- the rules by which the content of an element is read
 abbrev pub reading_in : Space → Head → Reading
 reading_in Html h = reading.AsHtml
 reading_in Svg h = if of kind.SvgHtml h.name then reading.AsHtml else reading.AsSvg
@@ -92,7 +93,7 @@ abbrev pub reading_of : List Ancestor → Reading
 reading_of [] = reading.AsHtml
 reading_of (a ∷ above) = reading_in a.space a.head
 
--- a start tag of that name is read by the rules of HTML
+-- whether a start tag of that name is read by the rules of HTML
 abbrev pub is_read_as_html : Reading → (name : List ℕ) → Bool
 is_read_as_html reading.AsHtml name = true
 is_read_as_html reading.AsSvg name = false
@@ -104,7 +105,7 @@ is_read_as_html reading.AsAnnotation name = of kind.Svg name
 abbrev pub begun_space : (name : List ℕ) → Space
 begun_space name = if of kind.Svg name then Svg else (if of kind.Math name then MathMl else Html)
 
--- and of one that is not
+-- the namespace of an element that is not read by the rules of HTML
 abbrev pub foreign_space : Reading → Space
 foreign_space reading.AsSvg = Svg
 foreign_space r = MathMl

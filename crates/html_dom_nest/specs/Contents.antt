@@ -18,12 +18,12 @@ is_plain pre_span (text_node s span) = is_plain_text pre_span s
 is_plain pre_span (element_node h kids) = false
 is_plain pre_span (frame_node f) = false
 
--- only texts that are written as they are
+-- whether the nodes are only texts that are written as they are
 abbrev pub are_plain : (pre_span : Bool) → NodesView → Bool
 are_plain pre_span none = true
 are_plain pre_span (node n ns) = is_plain pre_span n && are_plain pre_span ns
 
--- the first child that is neither a tag nor an empty text begins with a line feed
+-- whether the first child that is neither a tag nor an empty text begins with a line feed
 abbrev pub begin_with_feed : NodesView → Bool
 begin_with_feed none = false
 begin_with_feed (node (tag_node t) ns) = begin_with_feed ns
@@ -61,11 +61,13 @@ is_escaped s = false
 abbrev pub hold_comment : NodesView → Bool
 hold_comment ns = is_escaped (state_behind_nodes state.Data ns)
 
--- the start tag alone makes the element, and its end tag is ignored (13.2.6.4.4, 13.2.6.4.7)
+-- whether the start tag alone makes the element, and its end tag is ignored (13.2.6.4.4,
+-- 13.2.6.4.7)
 abbrev pub has_unread_end : (name : List ℕ) → Bool
 has_unread_end name = (of kind.Leaf name || of kind.HeadLeaf name) && not (is_void name)
 
--- raw text for the parser, but not when written (13.2.5.3): `iframe`, `noembed`, `noframes`, `xmp`
+-- whether the content is raw text for the parser, but not when it is written (13.2.5.3): `iframe`,
+-- `noembed`, `noframes`, `xmp`
 abbrev pub is_raw_when_read : (name : List ℕ) → Bool
 is_raw_when_read name = of kind.Raw name
     && not (of kind.ScriptOrStyle name || of kind.EscapableRaw name)
@@ -73,7 +75,7 @@ is_raw_when_read name = of kind.Raw name
 unfoldable pub is_listing : (name : List ℕ) → Bool
 is_listing name = stands_in (listed_names (codes "listing")) name
 
--- of an element that is read by the rules of HTML
+-- the rule that the content of an element breaks, if the rules of HTML apply to the element
 abbrev pub content_misnesting : Head → NodesView → Option Misnesting
 content_misnesting h kids = if is_foreign_self_closing h.name then Some why.StaysOpen
     else (if has_unread_end h.name then Some why.UnreadEnd

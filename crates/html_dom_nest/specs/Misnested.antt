@@ -1,5 +1,5 @@
 -- The nodes of a tree that a parser of HTML would not leave where they are, in document order, each
--- with the first rule that it breaks. For an element that is too deep, its content is not checked.
+-- with the first rule that it breaks. The content of an element that is too deep is not checked.
 use Rattle.std.specs.Prelude.{ℕ, suc, List, [], ◌∷◌, ◌++◌, if◌then◌else◌, Option, Some, None}
 use Rattle.html_dom_tree.specs.Tree.{NodeView, tag_node, text_node, element_node, frame_node, NodesView, none, node, ElementView}
 use Rattle.html_dom_nest.specs.Ancestors.{Ancestor, ancestor}
@@ -30,14 +30,15 @@ unfoldable mutual
   node_misnested path above (frame_node f) =
       found path f.span (frame_misnesting (surroundings_of above))
 
-  -- children have the path of their parent and an index, from this one on
+  -- the findings among children; each child has the path of its parent and an index, from this one
+  -- on
   pub nodes_misnested : (parent : List ℕ) → (index : ℕ) → (above : List Ancestor) → NodesView →
       List Finding
   nodes_misnested parent index above none = []
   nodes_misnested parent index above (node n ns) =
       node_misnested (parent ++ index ∷ []) above n ++ nodes_misnested parent (suc index) above ns
 
--- those of a whole tree
+-- the findings of a whole tree
 abbrev pub misnested_nodes : ElementView → List Finding
 misnested_nodes e = found [] e.0.span (root_misnesting e (surroundings_of []))
     ++ nodes_misnested [] 0 (ancestor e.0 [] ∷ []) e.1

@@ -1,6 +1,7 @@
--- Where a parser of HTML would make another tree than the written one: the rules for each kind of
--- node, by its surroundings (HTML Standard 13.2.6). Each is the condition under which a start tag
--- does more than open its element, an end tag more than close it, or a text more than be added.
+-- The rules for each kind of node, by its surroundings, that a node breaks if a parser of HTML
+-- would make another tree than the written one (HTML Standard 13.2.6). Each is the condition under
+-- which a start tag does more than open its element, an end tag more than close it, or a text more
+-- than be added.
 use Rattle.std.specs.List.{list_any}
 use Rattle.std.specs.Prelude.{ℕ, Bool, true, false, not, ◌&&◌, ◌||◌, nat_lt, List, codes, if◌then◌else◌, Option, Some, None}
 use Rattle.html_names.specs.Kinds.{is_void}
@@ -22,7 +23,7 @@ use Rattle.html_dom_nest.specs.declared.reading.Place.TheVariants as place
 use Rattle.html_dom_nest.specs.declared.surroundings.Open.{Open}
 use Rattle.html_dom_nest.specs.declared.surroundings.Surroundings.{Surroundings}
 
--- more than 511 elements below `body`, where browsers put it beside its parent
+-- whether an element is more than 511 elements below `body`: browsers put it beside its parent
 abbrev pub is_too_deep : Surroundings → Bool
 is_too_deep around = nat_lt 512 around.depth
 
@@ -38,20 +39,20 @@ stranger_misnesting place.Row = Some why.NotInTable
 stranger_misnesting place.Columns = Some why.NotInColumns
 stranger_misnesting place.Body = None
 
--- a text; white space stays everywhere
+-- the rule that a text breaks; white space stays everywhere
 abbrev pub text_misnesting : List ℕ → Surroundings → Option Misnesting
 text_misnesting text around = if has_return text then Some why.CarriageReturn
     else (if is_white text then None else stranger_misnesting around.place)
 
--- a frame, which is written as an `svg`
+-- the rule that a frame breaks, which is written as an `svg`
 abbrev pub frame_misnesting : Surroundings → Option Misnesting
 frame_misnesting around = stranger_misnesting around.place
 
--- elements that stay in a table, or in a part of one that holds parts
+-- whether elements of that name stay in a table, or in a part of one that holds parts
 abbrev pub is_in_tables : (name : List ℕ) → Bool
 is_in_tables name = of kind.ScriptOrStyle name || of kind.Template name
 
--- elements of such a name may stand there
+-- whether elements of that name may stand there
 abbrev pub has_place : Place → (name : List ℕ) → Bool
 has_place place.Page name = true
 has_place place.Head name = of kind.HeadContent name || of kind.Noscript name || of kind.Template name
@@ -63,7 +64,7 @@ has_place place.Row name = of kind.Cell name || is_in_tables name
 has_place place.Columns name = of kind.Col name || of kind.Template name
 has_place place.Body name = false
 
--- start tags that are ignored in a body, read as another or never end (13.2.6.4.7)
+-- whether start tags of that name are ignored in a body, read as another or never end (13.2.6.4.7)
 abbrev pub is_never_read : (name : List ℕ) → Bool
 is_never_read name = of kind.Root name || of kind.Misplaced name || of kind.Image name
     || (of kind.Unread name && not (of kind.Template name))
@@ -78,7 +79,7 @@ abbrev pub closes_item : (name : List ℕ) → Open → Bool
 closes_item name o = (of kind.ListItem name && o.list_item)
     || (of kind.DescriptionPart name && o.description)
 
--- one of its own name
+-- whether an element closes one of its own name
 abbrev pub closes_same : (name : List ℕ) → Open → Bool
 closes_same name o = (of kind.A name && o.anchor) || (of kind.Button name && o.button)
     || (of kind.Nobr name && o.nobr) || (of kind.Select name && o.select)
@@ -86,20 +87,21 @@ closes_same name o = (of kind.A name && o.anchor) || (of kind.Button name && o.b
 abbrev pub is_option_part : (name : List ℕ) → Bool
 is_option_part name = of kind.Option name || of kind.Optgroup name
 
--- in a `select` a parent whose end tag is implied, but `option` in `optgroup`; elsewhere an
--- `option`
+-- whether an element closes, in a `select`, a parent whose end tag is implied, but not an
+-- `optgroup` if it is an `option`; elsewhere, whether it closes an `option`
 abbrev pub closes_option : (name : List ℕ) → Surroundings → Bool
 closes_option name around = if around.open_elements.select
     then (is_option_part name || of kind.Hr name) && around.parent.implied
     && not (of kind.Option name && around.parent.optgroup)
     else is_option_part name && around.parent.option
 
--- in a `ruby` such a parent, except `rp` and `rt` in `rtc`
+-- whether an element closes, in a `ruby`, a parent whose end tag is implied; `rp` and `rt` do not
+-- close an `rtc`
 abbrev pub closes_ruby_part : (name : List ℕ) → Surroundings → Bool
 closes_ruby_part name around = of kind.RubyPart name && around.open_elements.ruby
     && around.parent.implied && not (of kind.RubyText name && around.parent.rtc)
 
--- what its start tag closes in a body (13.2.6.4.7)
+-- the rule that an element breaks if its start tag closes another in a body (13.2.6.4.7)
 abbrev pub closing_misnesting : (name : List ℕ) → Surroundings → Option Misnesting
 closing_misnesting name around =
     if closes_paragraph name around.open_elements then Some why.ClosesParagraph
@@ -110,7 +112,7 @@ closing_misnesting name around =
     else (if of kind.Input name && around.open_elements.select then Some why.ClosesSelect
     else (if closes_ruby_part name around then Some why.ClosesRubyPart else None))))))
 
--- an element of HTML in a body
+-- the rule that an element of HTML in a body breaks
 abbrev pub body_misnesting : (name : List ℕ) → Surroundings → Option Misnesting
 body_misnesting name around = if of kind.TablePart name then Some why.OutsideTable
     else (if is_never_read name then Some why.NeverRead
@@ -118,7 +120,7 @@ body_misnesting name around = if of kind.TablePart name then Some why.OutsideTab
     else (if around.open_elements.outer_select && is_selected_content name then Some why.Filled
     else closing_misnesting name around)))
 
--- an element of HTML elsewhere
+-- the rule that an element of HTML elsewhere breaks
 abbrev pub placed_misnesting : Place → (name : List ℕ) → Option Misnesting
 placed_misnesting p name = if has_place p name then None else stranger_misnesting p
 
@@ -126,12 +128,12 @@ abbrev pub named_misnesting : Place → (name : List ℕ) → Surroundings → O
 named_misnesting place.Body name around = body_misnesting name around
 named_misnesting p name around = placed_misnesting p name
 
--- such a start tag can stand neither in SVG nor in MathML (13.2.6.5)
+-- whether such a start tag can stand neither in SVG nor in MathML (13.2.6.5)
 abbrev pub breaks_out : Head → Bool
 breaks_out h = of kind.Breakout h.name
     || (of kind.Font h.name && list_any (λ a. is_font_attr a.0) h.attrs)
 
--- an element that is read by the rules for SVG and MathML
+-- the rule that an element breaks, if the rules for SVG and MathML apply to it
 abbrev pub foreign_misnesting : Head → NodesView → Option Misnesting
 foreign_misnesting h kids = if breaks_out h then Some why.LeavesForeign
     else (if is_void h.name then Some why.StaysOpen
@@ -151,7 +153,7 @@ abbrev pub element_misnesting : Head → NodesView → Surroundings → Option M
 element_misnesting h kids around =
     or_else (tag_misnesting (space_of around.reading h.name) h) (read_misnesting h kids around)
 
--- the root is a page
+-- the rule that a root breaks, which must be a page
 abbrev pub root_misnesting : ElementView → Surroundings → Option Misnesting
 root_misnesting e around =
     if is_page e then element_misnesting e.0 e.1 around else Some why.NoPage

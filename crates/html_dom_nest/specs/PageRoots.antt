@@ -8,7 +8,7 @@ use Rattle.html_dom_nest.specs.WrittenTexts.{is_empty, is_white}
 use Rattle.html_dom_nest.specs.declared.page.Stage.{Stage}
 use Rattle.html_dom_nest.specs.declared.page.Stage.TheVariants as stage
 
--- it is not written
+-- whether a node is not written
 abbrev pub is_unwritten : NodeView → Bool
 is_unwritten (tag_node t) = true
 is_unwritten (text_node s span) = is_empty s
@@ -27,7 +27,7 @@ is_element_of test (text_node s span) = false
 is_element_of test (element_node h kids) = test h.name
 is_element_of test (frame_node f) = false
 
--- one `head`, optional white space, and one `body`
+-- the stage of a page behind a node: a page has one `head`, optional white space, and one `body`
 abbrev pub stage_behind : Stage → NodeView → Stage
 stage_behind stage.First n = if is_element_of (of kind.Head) n then stage.BehindHead
     else (if is_unwritten n then stage.First else stage.Other)
@@ -44,6 +44,6 @@ abbrev pub is_complete : Stage → Bool
 is_complete stage.BehindBody = true
 is_complete s = false
 
--- an `html` that holds exactly these
+-- whether a root is an `html` that holds exactly these
 abbrev pub is_page : ElementView → Bool
 is_page e = of kind.Html e.0.name && is_complete (stage_behind_nodes stage.First e.1)

@@ -54,7 +54,7 @@ parent_with a = record {
   rtc = is_of (of kind.Rtc) a;
 }
 
--- it is one, or it is no boundary and one is open around it
+-- whether an element is a goal, or is no boundary and a goal is open around it
 abbrev pub still : (goal bound before : Bool) → Bool
 still goal bound before = goal || (not bound && before)
 

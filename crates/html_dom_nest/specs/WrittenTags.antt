@@ -23,13 +23,14 @@ capital_attrs Html = []
 capital_attrs Svg = svg_attrs
 capital_attrs MathMl = math_attrs
 
--- a parser makes all letters lowercase, and then gives these names their capitals: it leaves a name
--- with capitals as it is if it is one of them, and one without if it is none of them in lowercase
+-- whether a parser leaves a name as it is: it makes all letters lowercase, and then gives these
+-- names their capitals. So a name with capitals must be one of them, and one without must be none
+-- of them in lowercase
 unfoldable pub keeps_case : (capital_names : List (List ℕ)) → (name : List ℕ) → Bool
 keeps_case capital_names name = if list_any is_capital name then stands_in capital_names name
     else not (list_any (λ n. bytes_eq (lowered n) name) capital_names)
 
--- otherwise the `<` before it is text
+-- whether a name begins with a letter; otherwise the `<` before it is text
 abbrev pub begins_with_letter : (name : List ℕ) → Bool
 begins_with_letter [] = false
 begins_with_letter (c ∷ cs) = is_lower c || is_capital c

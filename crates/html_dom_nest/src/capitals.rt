@@ -138,7 +138,7 @@ fn has_capital(name: &str) -> bool
 }
 
 /// Returns whether the name is one of these in lowercase. Compares only the names with its first
-/// letter, whose indices `starts` gives.
+/// letter, whose indices are in `starts`.
 fn is_lowered(names: &[&'static str], starts: &[u8; 27], name: &str) -> bool
     requires ascii { IsTrue (are_ascii (texts names.now)) }
     requires starts { IsTrue (are_starts starts.now (map lowered (texts names.now))) }
@@ -191,7 +191,7 @@ pub(crate) fn tag_keeps_case(space: Space, name: &str) -> bool
     }
 }
 
-/// Returns whether the name of an attribute of such an element is.
+/// Returns whether the name of an attribute of such an element is read as it is written.
 pub(crate) fn attr_keeps_case(space: Space, name: &str) -> bool
     ensures { result ≡ keeps_case (capital_attrs space) (chars name.now) }
 {

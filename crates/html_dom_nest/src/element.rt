@@ -14,7 +14,7 @@ use typst_html_parse_names::{Kind, Kinds, is_one_of, kinds_of};
 pub(crate) struct KnownElement<'a> {
     pub(crate) element: &'a HtmlElement,
     kinds: Kinds,
-    ghost told: { IsKindsOf (element_view element.now).0.name kinds },
+    ghost kinds_are: { IsKindsOf (element_view element.now).0.name kinds },
 }
 
 impl<'a> KnownElement<'a> {

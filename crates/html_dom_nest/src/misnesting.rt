@@ -1,12 +1,12 @@
-//! Why a browser does not leave a node where it is.
+//! The reasons why a browser does not leave a node where it is.
 
 ghost use Rattle.std.specs.Prelude.{◌≡◌};
 ghost use Rattle.html_dom_nest.specs.MisnestingWords.{rule_words};
 
 use std::fmt;
 
-/// Why a browser does not leave a node where it is when it parses the written text (HTML Standard
-/// 13.2). `Display` says what becomes of the node.
+/// The reason why a browser does not leave a node where it is when it parses the written text (HTML
+/// Standard 13.2). `Display` says what becomes of the node.
 #[derive(Clone, Copy, Debug, PartialEq, Eq, Hash)]
 pub enum Misnesting {
     /// The root is not an `html` of only a `head`, white space if any, and a `body` (13.2.6.4.2 to

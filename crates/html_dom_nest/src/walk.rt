@@ -17,7 +17,7 @@ use crate::surroundings::Surroundings;
 use html_dom_tree::{HtmlElement, HtmlNode, Span};
 use std::alloc::{AllocError, Global};
 
-/// The most ancestors that an element may have for browsers to leave it where it is.
+/// The greatest number of ancestors with which browsers leave an element where it is.
 const MOST_ANCESTORS: usize = 512;
 
 /// A walk over a tree that finds its misnested nodes.
@@ -51,7 +51,7 @@ fn leave(path: &mut Vec<usize>)
 }
 
 #[inline(never)]
-fn tell(span: Span, why: Misnesting, walk: &mut NestingWalk) -> Result<(), AllocError>
+fn report(span: Span, why: Misnesting, walk: &mut NestingWalk) -> Result<(), AllocError>
     ensures path { OnOk result (walk.new.path.items ≡ walk.old.path.items) }
     ensures found { OnOk result (findings_view walk.new.found.items
         ≡ findings_view walk.old.found.items
@@ -62,13 +62,13 @@ fn tell(span: Span, why: Misnesting, walk: &mut NestingWalk) -> Result<(), Alloc
     Ok(())
 }
 
-fn tell_any(span: Span, why: Option<Misnesting>, walk: &mut NestingWalk) -> Result<(), AllocError>
+fn report_any(span: Span, why: Option<Misnesting>, walk: &mut NestingWalk) -> Result<(), AllocError>
     ensures path { OnOk result (walk.new.path.items ≡ walk.old.path.items) }
     ensures found { OnOk result (findings_view walk.new.found.items
         ≡ findings_view walk.old.found.items ++ found walk.old.path.items span.0 why) }
 {
     match why {
-        Some(why) => tell(span, why, walk),
+        Some(why) => report(span, why, walk),
         None => Ok(()),
     }
 }
@@ -90,11 +90,11 @@ fn pass_own(
         inside ≡ surroundings_in (element_view element.now).0 around.now) }
 {
     let known = KnownElement::new(element);
-    tell_any(element.span, element_misnesting(&known, around), walk)?;
+    report_any(element.span, element_misnesting(&known, around), walk)?;
     Ok(around.inside(&known))
 }
 
-/// Does the same for a root.
+/// Adds what a root breaks, and returns the surroundings of its children.
 fn pass_root(root: &HtmlElement, walk: &mut NestingWalk) -> Result<Surroundings, AllocError>
     ensures path { OnOk result (walk.new.path.items ≡ walk.old.path.items) }
     ensures found { let e = element_view root.now in
@@ -105,7 +105,7 @@ fn pass_root(root: &HtmlElement, walk: &mut NestingWalk) -> Result<Surroundings,
 {
     let around = Surroundings::NONE;
     let known = KnownElement::new(root);
-    tell_any(root.span, root_misnesting(&known, &around), walk)?;
+    report_any(root.span, root_misnesting(&known, &around), walk)?;
     Ok(around.inside(&known))
 }
 
@@ -123,7 +123,7 @@ fn pass_element(
         ++ node_walk walk.old.path.items around.now (element_node e.0 e.1)) }
 {
     if around.depth > MOST_ANCESTORS {
-        return tell(element.span, Misnesting::TooDeep, walk);
+        return report(element.span, Misnesting::TooDeep, walk);
     }
     let inside = pass_own(element, around, walk)?;
     pass_nodes(&element.children, &inside, walk)
@@ -144,10 +144,10 @@ fn pass_node(
     match child {
         HtmlNode::Tag(_) => Ok(()),
         HtmlNode::Text(text, span) => {
-            tell_any(*span, text_misnesting(text.as_str(), around), walk)
+            report_any(*span, text_misnesting(text.as_str(), around), walk)
         }
         HtmlNode::Element(element) => pass_element(element, around, walk),
-        HtmlNode::Frame(frame) => tell_any(frame.span, frame_misnesting(around), walk),
+        HtmlNode::Frame(frame) => report_any(frame.span, frame_misnesting(around), walk),
     }
 }
 

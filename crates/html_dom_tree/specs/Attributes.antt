@@ -7,7 +7,7 @@ abbrev pub first : List TextPair → List ℕ → Option (List ℕ)
 first [] name = None
 first (p ∷ ps) name = if bytes_eq p.0 name then Some p.1 else first ps name
 
--- with that value in the first pair of that name
+-- pairs with that value in the first pair of that name
 abbrev pub with_value : List TextPair → (name value : List ℕ) → List TextPair
 with_value [] name value = []
 with_value (p ∷ ps) name value =
@@ -22,11 +22,11 @@ place (p ∷ ps) name = if bytes_eq p.0 name then 0 else place ps name + 1
 abbrev pub has_name : List TextPair → List ℕ → Bool
 has_name ps name = is_some (first ps name)
 
--- with a pair at the end, unless there is one of its name
+-- pairs with one more at the end, unless there is one of its name
 abbrev pub with_new : List TextPair → TextPair → List TextPair
 with_new ps p = if has_name ps p.0 then ps else ps ++ p ∷ []
 
--- with that value in the first pair of its name, or with the pair at the end if there is none
+-- pairs with that value in the first pair of its name, or with the pair at the end if there is none
 abbrev pub with_set : List TextPair → TextPair → List TextPair
 with_set ps p = if has_name ps p.0 then with_value ps p.0 p.1 else ps ++ p ∷ []
 

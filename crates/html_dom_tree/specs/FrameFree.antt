@@ -1,7 +1,7 @@
 -- Trees without frames.
 use Rattle.html_dom_tree.specs.Tree.{NodeView, tag_node, text_node, element_node, frame_node, NodesView, none, node, ElementView}
 
--- no frame at any depth
+-- a node without a frame at any depth
 unfoldable mutual
   pub NodeIsFrameFree : NodeView → Type 0
   NodeIsFrameFree (tag_node t) = Unit {0}

@@ -3,7 +3,7 @@ use Rattle.std.specs.Prelude.{ℕ, ℤ, List, [], Option, None}
 use Rattle.html_names.specs.Texts.{TextPair}
 use Rattle.html_dom_tree.specs.Tags.{TagView}
 
--- the distances to the right and down, in millionths of a typographic point
+-- the distances of a position to the right and down, in millionths of a typographic point
 abbrev pub PointView : Type 0
 PointView = ℤ × ℤ
 

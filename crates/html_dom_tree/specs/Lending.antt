@@ -1,4 +1,4 @@
--- What an attribute list is after a `&mut` to one of its values was returned.
+-- An attribute list after a mutable borrow of one of its values has ended.
 use denote.RattleType.{RattleType}
 use Rattle.std.specs.Prelude.{ℕ, String, slice_index_or, []}
 use Rattle.std.specs.Vec.{with_item}
@@ -12,7 +12,7 @@ use Rattle.html_dom_tree.specs.declared.attrs.HtmlAttrs.{HtmlAttrs}
 abbrev pub text_row : RattleType
 text_row = text.the_row global.the_row ghosts
 
--- with that text as the value of the pair at an index
+-- an attribute list with that text as the value of the pair at an index
 abbrev pub with_text_at : HtmlAttrs → ℕ → String Global → HtmlAttrs
 with_text_at attrs place value =
     let name = (slice_index_or attrs.0.items place ([], value)).0 in

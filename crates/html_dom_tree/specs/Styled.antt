@@ -9,7 +9,8 @@ abbrev pub before_value : (text value : List ℕ) → List ℕ
 before_value text [] = text
 before_value text (c ∷ cs) = text ++ codes "; " ++ (c ∷ cs)
 
--- with a text before the value of the first `style`, or else with a last attribute `style`
+-- attributes with a text before the value of the first `style`, or else with a last attribute
+-- `style`
 abbrev pub attrs_with_style :
     (text : List ℕ) (attrs : List TextPair) (value : Option (List ℕ)) → List TextPair
 attrs_with_style text attrs (Some value) =
@@ -25,7 +26,7 @@ styled_attrs (p ∷ ps) attrs =
 abbrev pub head_with_style : Head → Head
 head_with_style h = record h { attrs = styled_attrs h.css h.attrs }
 
--- changes each element at any depth, and nothing else
+-- trees in which each element, at any depth, has its css in `style`, and nothing else changes
 unfoldable mutual
   pub styled_node : NodeView → NodeView
   styled_node (tag_node t) = tag_node t

@@ -105,7 +105,7 @@ fn inline_text(alloc: Global, css: &Properties) -> Result<String, AllocError>
     Ok(text)
 }
 
-/// Returns how long the text is, at most.
+/// Returns the capacity to allocate for the text, in bytes.
 fn inline_room(css: &Properties) -> usize {
     let mut room: usize = 0;
     for property in css.as_slice() {

@@ -23,6 +23,6 @@
 /// - an element that is too deep in a text that is read, once the fault becomes an `ExportFault`:
 ///   its place in the text.
 ///
-/// Out of memory, and a name or value that is refused on its own, have the span 0.
+/// A failed allocation, and a name or value that is refused on its own, have the span 0.
 #[derive(Clone, Copy, Debug, PartialEq, Eq, PartialOrd, Ord, Hash)]
 pub struct Span(pub u64);

@@ -11,14 +11,14 @@ unnamed_at [] = None
 unnamed_at (a ∷ more) =
     if is_some a.name then option_map (λ k. suc k) (unnamed_at more) else Some 0
 
--- the argument at an index
+-- an argument at an index without one; `arg_at` is the argument at an index
 abbrev pub no_arg : ArgView
 no_arg = record { name = None; span = 0; value = plain none_value }
 
 abbrev pub arg_at : List ArgView → ℕ → ArgView
 arg_at args place = get_or args place no_arg
 
--- items are a body of their own, whatever a value would make
+-- items, which are a body of their own, or else what a value makes
 abbrev pub or_own : ArgValueView → ItemsView → ItemsView
 or_own (plain v) made = made
 or_own (items c) made = c

@@ -62,12 +62,12 @@ abbrev pub entry_for : List Entry → Option (List ℕ) → Option Entry
 entry_for es None = None
 entry_for es (Some name) = entry_of es name
 
--- items are of the wrong kind for every type
+-- the result of casting an argument; items are of the wrong kind for every type
 abbrev pub cast_answer : AttrTypeView → ArgValueView → CastAnswer
 cast_answer k (plain v) = cast k v
 cast_answer k (items c) = refuses WrongKind
 
--- a text becomes an attribute, `nothing` none
+-- the attribute that a cast makes: a text becomes one, `nothing` does not
 abbrev pub attr_of : List ℕ → CastAnswer → List TextPair
 attr_of name (gives t) = (name, t) ∷ []
 attr_of name nothing = []
@@ -96,7 +96,7 @@ abbrev pub faults : List Entry → List ArgView → List (CastFault × ℕ)
 faults es [] = []
 faults es (a ∷ more) = faults_from a.span (entry_for es a.name) a.value ++ faults es more
 
--- the arguments that are no attributes of the element
+-- the arguments that are not attributes of the element
 abbrev pub other_args : List Entry → List ArgView → List ArgView
 other_args es [] = []
 other_args es (a ∷ more) =
@@ -122,23 +122,23 @@ abbrev pub choice_from : Option BodyView → ℕ → List ArgView → BodyChoice
 choice_from None span left = fails span
 choice_from (Some body) span left = takes body left
 
--- an argument with a name stays before the others
+-- a choice after an argument with a name, which stays before the others
 abbrev pub choice_after : ArgView → BodyChoice → BodyChoice
 choice_after a (takes body left) = takes body (a ∷ left)
 choice_after a (fails span) = fails span
 
--- the first argument without a name is the body
+-- the choice of a body, which is the first argument without a name
 abbrev pub first_choice : Bool → List ArgView → BodyChoice
 first_choice raw [] = takes absent []
 first_choice raw (a ∷ more) =
     if is_some a.name then choice_after a (first_choice raw more)
     else choice_from (arg_body raw a.value a.span) a.span more
 
--- a void element has no body
+-- the choice of a body for an element; a void element has none
 abbrev pub body_choice : List ℕ → List ArgView → BodyChoice
 body_choice name args = if is_void name then takes absent args else first_choice (is_raw name) args
 
--- faults of casts, as the one fault of construction that they are
+-- faults of casts as one fault of construction, if there are any
 abbrev pub joined_faults : List (CastFault × ℕ) → List ConstructFaultView
 joined_faults [] = []
 joined_faults (f ∷ fs) = cast_faults (f ∷ fs) ∷ []
@@ -167,7 +167,7 @@ construction info args =
     let es = entries_view info.attrs.items in
     with_body info.tag es (attrs es args) (body_choice info.tag args)
 
--- all faults of casts, then the wrong kind of body
+-- all faults of construction: those of casts, then the wrong kind of body
 abbrev pub construct_faults : ElementInfo → List ArgView → List ConstructFaultView
 construct_faults info args =
     joined_faults (faults (entries_view info.attrs.items) args)

@@ -147,7 +147,7 @@ pub protect_step : (made new items others : List HtmlNode) (m n : HtmlNode)
     (joined (nodes_view new) (nodes_by_answers new_bs (nodes_view others)) ≡ whole)
     × (drop (space_count (nodes_things (nodes_view others))) new_bs ≡ all)
 unfolding node_things node_by_answers
-protect_step made new items others m n bs new_bs all whole is pushed made_is rest_is told rest =
+protect_step made new items others m n bs new_bs all whole is pushed made_is rest_is agrees rest =
     let used = space_count (node_things (node_view n)) in
     let left = nodes_view others in
     let later = space_count (nodes_things left) in
@@ -157,7 +157,7 @@ protect_step made new items others m n bs new_bs all whole is pushed made_is res
       joined_pushed made new m (nodes_by_answers new_bs left) pushed
           ∙ (ap (λ b. joined (nodes_view made) (node (node_view m) (nodes_by_answers b left))) rest_is
           ∙ (ap (λ x. joined (nodes_view made) (node x after)) made_is
-          ∙ (ap (λ ns. joined (nodes_view made) (nodes_by_answers bs (nodes_view ns))) (sym is) ∙ told))),
+          ∙ (ap (λ ns. joined (nodes_view made) (nodes_by_answers bs (nodes_view ns))) (sym is) ∙ agrees))),
       ap (drop later) rest_is
           ∙ (drop-drop later used bs
           ∙ (ap (λ k. drop k bs) (sum_comm later used counted)
@@ -176,21 +176,21 @@ pub protect_in_place : (ns new : List HtmlNode) (i : ℕ) (d m : HtmlNode)
     drop (space_count (nodes_things (nodes_view (drop i ns)))) bs ≡ all →
     (joined (nodes_view (take (i + 1) new)) (nodes_by_answers new_bs (nodes_view (drop (i + 1) new)))
     ≡ whole) × (drop (space_count (nodes_things (nodes_view (drop (i + 1) new)))) new_bs ≡ all)
-protect_in_place ns new i d m bs new_bs all whole h is made_is rest_is told rest =
+protect_in_place ns new i d m bs new_bs all whole h is made_is rest_is agrees rest =
     let n = get_or ns i d in
     let later : drop (i + 1) new ≡ drop (i + 1) ns =
     ap (drop (i + 1)) is ∙ drop-set-lt (i + 1) ns i m (omega arith) in
     protect_step (take i ns) (take (i + 1) new) (drop i ns) (drop (i + 1) new) m n bs new_bs all whole
     (drop_more ns i d h ∙ ap (λ l. n ∷ l) (sym later))
-    (ap (take (i + 1)) is ∙ take_more_set ns i m h) made_is rest_is told rest
+    (ap (take (i + 1)) is ∙ take_more_set ns i m h) made_is rest_is agrees rest
 
 pub protect_end : (made items : List HtmlNode) (bs all : List Bool) (whole : NodesView) →
     items ≡ [] → joined (nodes_view made) (nodes_by_answers bs (nodes_view items)) ≡ whole →
     drop (space_count (nodes_things (nodes_view items))) bs ≡ all →
     (nodes_view made ≡ whole) × (bs ≡ all)
 unfolding node_things node_by_answers
-protect_end made items bs all whole empty told rest = (
+protect_end made items bs all whole empty agrees rest = (
   sym (joined_none (nodes_view made))
-      ∙ (ap (λ ns. joined (nodes_view made) (nodes_by_answers bs (nodes_view ns))) (sym empty) ∙ told),
+      ∙ (ap (λ ns. joined (nodes_view made) (nodes_by_answers bs (nodes_view ns))) (sym empty) ∙ agrees),
   ap (λ ns. drop (space_count (nodes_things (nodes_view ns))) bs) (sym empty) ∙ rest,
 )

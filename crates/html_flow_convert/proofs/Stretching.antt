@@ -9,7 +9,7 @@ use Rattle.html_names.specs.Characters.{is_ignorable}
 use Rattle.html_names.proofs.Basics.{chars-encode, first_scalar, front_taken}
 use Rattle.html_dom_tree.specs.Tree.{NodeView}
 use Rattle.html_flow_convert.specs.Pieces.{PieceView, stretch, alone, line_break, first_char, is_normal, is_normal_there, is_in_stretch, in_stretch, is_carriage_return, outside_stretch, pieces_after, pieces, piece_node, text_nodes}
-use Rattle.html_flow_convert.specs.TextStretches.{is_shown, is_stretch, with_stretch}
+use Rattle.html_flow_convert.specs.TextStretches.{is_above_space, is_stretch, with_stretch}
 use lib.Utf8.{encode, encodes}
 
 pub ascii_shown : (c : ℕ) → c < 128 → is_ignorable c ≡ false
@@ -99,17 +99,17 @@ stretch_ends ends rest text none held h =
     one_stretch (chars text) (sym (rw (empty, chars-nil) at held) ∙ h)
 
 -- a byte more, if it is a character of ASCII above the space, or a space behind a normal character
-shown_small : (b : ℕ) → is_shown b ≡ true → b < 128
-unfolding is_shown
+shown_small : (b : ℕ) → is_above_space b ≡ true → b < 128
+unfolding is_above_space
 shown_small b h = grind (arith, nat_tests)
 
-shown_normal : (b : ℕ) → is_shown b ≡ true → is_normal b ≡ true
-unfolding is_shown is_ignorable
+shown_normal : (b : ℕ) → is_above_space b ≡ true → is_normal b ≡ true
+unfolding is_above_space is_ignorable
 shown_normal b h =
-    let both = agree_below_at (λ d. is_shown d && is_normal d) is_shown 128 b refl (shown_small b h) in
-    (and_parts (is_shown b) (is_normal b) (both ∙ h)).1
+    let both = agree_below_at (λ d. is_above_space d && is_normal d) is_above_space 128 b refl (shown_small b h) in
+    (and_parts (is_above_space b) (is_normal b) (both ∙ h)).1
 
-byte_kind : (b : ℕ) (shown ends : Bool) → shown ≡ is_shown b →
+byte_kind : (b : ℕ) (shown ends : Bool) → shown ≡ is_above_space b →
     (shown || ((b == 32) && ends)) ≡ true → (b < 128) × (shown ≡ is_normal b)
 byte_kind b true ends is on = (shown_small b (sym is), sym (shown_normal b (sym is)))
 byte_kind b false ends is on =
@@ -118,7 +118,7 @@ byte_kind b false ends is on =
     rw same (omega arith, refl)
 
 pub byte_goes_on : (ends shown : Bool) (text : List ℕ) (at : ℕ) (all : Bool) → IsUtf8 text →
-    IsCharBoundary text at → at < length text → shown ≡ is_shown (get_or text at 0) →
+    IsCharBoundary text at → at < length text → shown ≡ is_above_space (get_or text at 0) →
     (shown || ((get_or text at 0 == 32) && ends)) ≡ true →
     is_stretch ends (chars (drop at text)) ≡ all →
     IsCharBoundary text (at + 1) × (is_stretch shown (chars (drop (at + 1) text)) ≡ all)
@@ -182,7 +182,7 @@ pub record Stretching (span : ℕ) (before : Option ℕ) (text rest : List ℕ)
   pub front_utf8 : IsUtf8 front
   pub rest_utf8 : IsUtf8 rest
   pub after_return : is_carriage_return before ≡ true → front ≡ []
-  pub told :
+  pub agrees :
       made ++ map (piece_node span) (with_stretch (chars front) (pieces_after before (chars rest)))
       ≡ all
 
@@ -194,7 +194,7 @@ nothing_passed span text made u = record {
   front_utf8 = IsUtf8-nil;
   rest_utf8 = u;
   after_return = λ h. refl;
-  told = rw chars-nil refl;
+  agrees = rw chars-nil refl;
 }
 
 pub char_inside : (span : ℕ) (before : Option ℕ) (text rest after : List ℕ) (made all : List NodeView)
@@ -214,8 +214,8 @@ char_inside span before text rest after made all c held parts u inside =
       front_utf8 = IsUtf8-append held.front (encode c) held.front_utf8 (IsUtf8-encode c valid);
       rest_utf8 = u;
       after_return = λ h. absurd (return_apart before c (chars after) inside h);
-      told = rw (grown, stretch_more (chars held.front) c (pieces_after (Some c) (chars after)))
-          (rw (chars_past_char rest after c held.rest_utf8 parts, inside) at held.told);
+      agrees = rw (grown, stretch_more (chars held.front) c (pieces_after (Some c) (chars after)))
+          (rw (chars_past_char rest after c held.rest_utf8 parts, inside) at held.agrees);
     }
 
 pub char_outside : (span : ℕ) (before : Option ℕ) (text rest after : List ℕ) (made new all : List NodeView)
@@ -232,7 +232,7 @@ char_outside span before text rest after made new all c held parts u apart pushe
     let f = piece_node span in
     let own = with_stretch cs [] in
     let between = outside_stretch before c [] in
-    let told = rw (chars_past_char rest after c held.rest_utf8 parts, apart) at held.told in
+    let agrees = rw (chars_past_char rest after c held.rest_utf8 parts, apart) at held.agrees in
     let spread = ap (map f)
     (outside cs before c others (λ h. ap chars (held.after_return h) ∙ chars-nil))
     ∙ (map-append f own (between ++ others)
@@ -243,10 +243,10 @@ char_outside span before text rest after made new all c held parts u apart pushe
       front_utf8 = IsUtf8-nil;
       rest_utf8 = u;
       after_return = λ h. refl;
-      told = rw (pushed, front_taken text held.front rest held.split, chars-nil)
+      agrees = rw (pushed, front_taken text held.front rest held.split, chars-nil)
           (append_assoc (made ++ map f own) (map f between) (map f others)
           ∙ (append_assoc made (map f own) (map f between ++ map f others)
-          ∙ (ap (λ l. made ++ l) (sym spread) ∙ told)));
+          ∙ (ap (λ l. made ++ l) (sym spread) ∙ agrees)));
     }
 
 pub text_ended : (span : ℕ) (before : Option ℕ) (text rest : List ℕ) (made all : List NodeView) →
@@ -257,4 +257,4 @@ text_ended span before text rest made all held none =
     let empty = nil_from_length rest none in
     let same : text ≡ held.front =
     held.split ∙ (ap (λ l. held.front ++ l) empty ∙ append-nil held.front) in
-    rw same (rw (empty, chars-nil) at held.told)
+    rw same (rw (empty, chars-nil) at held.agrees)

@@ -1,5 +1,5 @@
--- Which spaces may stay as they are, since white space collapsing leaves them (CSS Text 4.1.1 and
--- 4.1.2: a space goes after a space, and at the start and the end of a line).
+-- The spaces that may stay as they are, since white space collapsing leaves them (CSS Text 4.1.1
+-- and 4.1.2: it removes a space after a space, and at the start and the end of a line).
 use Rattle.std.specs.Prelude.{ℕ, ◌+◌, Bool, true, false, not, ◌&&◌, ◌||◌, List, [], ◌∷◌, ◌++◌, codes, bytes_eq, if◌then◌else◌, Option, Some, None}
 use Rattle.std.specs.List.{list_any, list_all}
 use Rattle.html_names.specs.Characters.{is_ignorable}
@@ -14,19 +14,19 @@ pub data Thing : Type 0 where
   visible : Thing
   space : Thing
 
--- `display` with the value `block`
+-- whether a property is `display` with the value `block`
 abbrev pub is_display_block : TextPair → Bool
 is_display_block p = bytes_eq p.0 (codes "display") && bytes_eq p.1 (codes "block")
 
--- css that makes a block
+-- whether css makes a block
 abbrev pub makes_block : (css : List TextPair) → Bool
 makes_block = list_any is_display_block
 
--- an element with lines of its own, by its css or its default display, or `br`
+-- whether an element has lines of its own, by its css or its default display, or is a `br`
 unfoldable pub is_border_element : Head → Bool
 is_border_element h = makes_block h.css || is_whitespace_collapsing h.name
 
--- elements that are looked into
+-- whether an element is looked into
 unfoldable pub is_entered : Head → Bool
 is_entered h = not (is_border_element h) && not (is_replaced h.name) && not h.pre_span
 
@@ -51,21 +51,21 @@ unfoldable mutual
   nodes_things none = []
   nodes_things (node n ns) = node_things n ++ nodes_things ns
 
--- something that is no border stands right before
+-- whether something that is no border stands right before
 abbrev pub is_in_line : (before : Option Thing) → Bool
 is_in_line None = false
 is_in_line (Some border) = false
 is_in_line (Some visible) = true
 is_in_line (Some space) = true
 
--- something visible stands right after
+-- whether something visible stands right after
 abbrev pub is_visible_first : (after : List Thing) → Bool
 is_visible_first [] = false
 is_visible_first (border ∷ ts) = false
 is_visible_first (visible ∷ ts) = true
 is_visible_first (space ∷ ts) = false
 
--- whether each space is bare, in order, if that stands before the first thing
+-- whether each space is bare, in order, given what stands before the first thing
 unfoldable pub bare_after : (before : Option Thing) → List Thing → List Bool
 bare_after before [] = []
 bare_after before (border ∷ ts) = bare_after (Some border) ts
@@ -77,7 +77,8 @@ bare_after before (space ∷ ts) =
 abbrev pub bare_spaces : NodesView → List Bool
 bare_spaces ns = bare_after None (nodes_things ns)
 
--- the number of nodes outside of elements that are not looked into, which count themselves
+-- the number of nodes that are looked at: those inside an element that is not looked into do not
+-- count, but the element does
 unfoldable mutual
   pub node_turns : NodeView → ℕ
   node_turns (tag_node t) = 1

@@ -33,7 +33,7 @@ item_role list inherits = list
 item_role list (sets text) = Some text
 item_role list unsets = None
 
--- a paragraph takes no role, and passes it on to its content
+-- whether an element takes no role and passes it on to its content, as a paragraph does
 abbrev pub passes_role : (name : List ℕ) → Bool
 passes_role name = bytes_eq name (codes "p")
 
@@ -55,11 +55,12 @@ element_head role h = record {
 abbrev pub body_role : RoleText → ElemHead → RoleText
 body_role role h = if passes_role h.name then role else None
 
--- the bodies of elements with lines of their own, by default or by css, are at block level
+-- the level of an element's body: that of a block if the element has lines of its own, by default
+-- or by css
 abbrev pub body_level : ElemHead → ConversionLevel
 body_level h = if shows_border (default_display h.name) || makes_block h.css then Block else Inline
 
--- elements in which white space stays
+-- whether white space stays in an element of that name
 abbrev pub is_preformatted : (name : List ℕ) → Bool
 is_preformatted name = bytes_eq name (codes "pre") || is_raw name || is_escapable_raw name
 

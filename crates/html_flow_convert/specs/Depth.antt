@@ -1,9 +1,10 @@
--- Items that are too deep: the spans of those whose bodies are, in document order.
+-- Items that are too deep: the spans of those whose bodies are deeper than the limit, in document
+-- order.
 use Rattle.std.specs.Prelude.{ℕ, ◌+◌, nat_lt, if◌then◌else◌, List, [], ◌∷◌, ◌++◌, Option, None, Some}
 use Rattle.html_flow_convert.specs.Items.{ItemView, tag_item, element_item, space_item, text_item, hole_item, break_item, box_item, block_item, frame_item, ItemsView, no_items, item, BodyView, absent, present}
 
--- among items at a depth, each body being one deeper; the content of a body that is too deep is not
--- checked
+-- the spans of items that are too deep, for items at a depth; each body is one deeper, and the
+-- content of a body that is too deep is not checked
 unfoldable mutual
   pub item_too_deep : (depth limit : ℕ) → ItemView → List ℕ
   item_too_deep depth limit (tag_item t) = []

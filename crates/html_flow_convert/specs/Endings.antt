@@ -1,17 +1,17 @@
--- How calls end that may return a `FlowFault`: with the stated value if nothing is too deep, else
--- with the first item that is; out of memory may come before.
+-- The results of calls that may return a `FlowFault`: the stated value if nothing is too deep, or
+-- else the first item that is. An allocation may fail before either.
 use Rattle.std.specs.Prelude.{ℕ, List, Result}
 use Rattle.html_names.specs.Endings.{GivesBy, AddsBy}
 use Rattle.html_dom_tree.specs.Tree.{NodeView}
 use Rattle.html_flow_faults.specs.FlowFaults.{IsFirst}
 use Rattle.html_flow_faults.specs.declared.fault.FlowFault.{FlowFault}
 
--- returns a value
+-- a call returns a value, or fails with the first item that is too deep
 abbrev pub Gives : {A B : Type 0} (view : A → B) → Result A FlowFault → (value : B)
     → (too_deep : List ℕ) → Type 0
 Gives = GivesBy IsFirst
 
--- adds nodes
+-- a call adds nodes, or fails with the first item that is too deep
 abbrev pub Adds : Result (Unit {0}) FlowFault → (old new nodes : List NodeView)
     → (too_deep : List ℕ) → Type 0
 Adds = AddsBy IsFirst

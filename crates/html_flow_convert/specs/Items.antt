@@ -54,11 +54,11 @@ ElemView = ElemHead × BodyView
 abbrev pub new_head : List ℕ → ElemHead
 new_head name = record { name = name; attrs = []; css = []; parent = None; span = 0 }
 
--- with that value in its first attribute of that name, or with the pair as its last
+-- an element with that value in its first attribute of that name, or with the pair as its last
 abbrev pub with_set_pair : TextPair → ElemView → ElemView
 with_set_pair pair e = (record e.0 { attrs = with_set e.0.attrs pair }, e.1)
 
--- with a pair as its last, or unchanged
+-- an element with a pair as its last attribute, or unchanged
 abbrev pub with_pair : TextPair → ElemView → ElemView
 with_pair pair e = (record e.0 { attrs = e.0.attrs ++ pair ∷ [] }, e.1)
 
@@ -80,7 +80,7 @@ with_last_item x (head, present items) = (head, present (with_last items x))
 abbrev pub element_as_item : ElemView → ItemView
 element_as_item e = element_item e.0 e.1
 
--- with that body, css or span instead of its own
+-- an element with that body, css or span instead of its own
 abbrev pub with_items : ItemsView → ElemView → ElemView
 with_items items e = (e.0, present items)
 

@@ -11,7 +11,7 @@ use Rattle.html_flow_convert.specs.declared.look.Look.TheVariants as look
 use Rattle.html_flow_convert.specs.declared.line.Last.{Last}
 use Rattle.html_flow_convert.specs.declared.line.Last.TheVariants as last
 
--- a space after it stands in a line
+-- whether a space after it stands in a line
 abbrev pub is_within : Last → Bool
 is_within last.Border = false
 is_within last.Visible = true
@@ -25,7 +25,8 @@ last_after l look.Space = last.Space (is_within l)
 last_after l look.Nothing = l
 last_after l look.Inside = l
 
--- the answer for a space that stands last, given what stands after it
+-- whether a space that stands last is bare, given whether something visible stands after it; no
+-- entry if none stands last
 abbrev pub space_answer : Last → (is_visible : Bool) → List Bool
 space_answer last.Border is_visible = []
 space_answer last.Visible is_visible = []
@@ -38,7 +39,7 @@ answer_before l look.Space = space_answer l false
 answer_before l look.Nothing = []
 answer_before l look.Inside = []
 
--- the answers for a space that stands last, and for those after it
+-- whether a space that stands last and those after it are bare
 abbrev pub answers_left : Last → List Thing → List Bool
 answers_left last.Border ts = bare_after None ts
 answers_left last.Visible ts = bare_after (Some visible) ts
@@ -56,8 +57,8 @@ place_past place (flat.Element e) = e.past
 abbrev pub next_place : (place : ℕ) → Look → FlatNode → ℕ
 next_place place l f = if is_inside l then place + 1 else place_past place f
 
--- the walk over the list of those nodes, at an index: the rest has the answers and the turns that
--- are left
+-- the walk over the list of those nodes stands at an index: the entries and the turns that are left
+-- are those of the rest
 pub record Stands (whole : NodesView) (place : ℕ) (list : List FlatNodeView) (l : Last)
     (bare : List Bool) (turns : ℕ) : Type 0 where
   pub rest : NodesView

@@ -1,5 +1,5 @@
--- A node that takes the place of the box or block that it is alone in (this project's rule): its
--- own css says how it is displayed, instead of an element around it (CSS Display 3).
+-- A node that takes the place of the box or block in which it stands alone (this project's rule):
+-- its own css determines how it is displayed, instead of an element around it (CSS Display 3).
 use Rattle.std.specs.Prelude.{ℕ, Bool, true, false, ◌&&◌, List, [], ◌∷◌, codes, chars, bytes_eq, map, if◌then◌else◌, Option, Some, None}
 use Rattle.html_names.specs.Displays.{default_display}
 use Rattle.html_names.specs.Texts.{TextPair}
@@ -21,7 +21,7 @@ abbrev pub are_tags : NodesView → Bool
 are_tags none = true
 are_tags (node n ns) = is_tag n && are_tags ns
 
--- the node, unless it is a text
+-- the node, if it is an element or a frame
 abbrev pub lone_alone : NodeView → Option NodeView
 lone_alone (tag_node t) = None
 lone_alone (text_node s span) = None
@@ -34,7 +34,7 @@ lone_node none = None
 lone_node (node n ns) =
     if is_tag n then lone_node ns else (if are_tags ns then lone_alone n else None)
 
--- what becomes of `display` in css
+-- a change of `display` in css
 pub data DisplayChangeView : Type 0 where
   removed : DisplayChangeView
   set_to : (value : List ℕ) → DisplayChangeView
@@ -65,7 +65,7 @@ is_block_value (Some value) = bytes_eq value (codes "block")
 abbrev pub is_shown_as_block : Head → Bool
 is_shown_as_block h = is_block_value (first h.attrs (codes "display"))
 
--- of a lone node of a box
+-- the change for a lone node of a box
 abbrev pub box_change : NodeView → DisplayChangeView
 box_change (tag_node t) = removed
 box_change (text_node s span) = removed
@@ -73,7 +73,8 @@ box_change (element_node h ns) =
     if is_math h && is_shown_as_block h then set_to (codes "inline math") else removed
 box_change (frame_node f) = removed
 
--- of a lone element of a block, by its default display; none if it can't take the block's place
+-- the change for a lone element of a block, by its default display; none if the element can't take
+-- the block's place
 abbrev pub change_by_display : Option Display → Option DisplayChangeView
 change_by_display None = Some (set_to (codes "block"))
 change_by_display (Some display.None) = Some removed
@@ -85,7 +86,7 @@ change_by_display (Some display.Inline) = Some (set_to (codes "block"))
 change_by_display (Some display.InlineBlock) = Some (set_to (codes "block"))
 change_by_display _ = None
 
--- of a lone node of a block
+-- the change for a lone node of a block, if it can take the block's place
 abbrev pub block_change : NodeView → Option DisplayChangeView
 block_change (tag_node t) = None
 block_change (text_node s span) = None
@@ -95,7 +96,7 @@ block_change (element_node h ns) =
     else change_by_display (default_display h.name)
 block_change (frame_node f) = Some (set_to (codes "block"))
 
--- the nodes with a lone one changed; without such a change, all in an element
+-- the nodes with the lone one changed; without such a change, an element that holds all of them
 abbrev pub changed_or_in : Head → Option DisplayChangeView → NodesView → List NodeView
 changed_or_in h None ns = element_node h ns ∷ []
 changed_or_in h (Some change) ns = map (node_with_display change) (node_list ns)

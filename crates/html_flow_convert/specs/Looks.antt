@@ -30,7 +30,7 @@ abbrev pub text_look : List ℕ → Look
 text_look text =
     if is_one 32 text then Space else (if list_all is_ignorable text then Nothing else Visible)
 
--- an element of that name and css, and whether its texts are written as references
+-- the look of an element with that name and css, given whether its texts are written as references
 abbrev pub element_look : (name : List ℕ) → List TextPair → (pre_span : Bool) → Look
 element_look name css pre_span =
     if makes_block css || is_whitespace_collapsing name then Border

@@ -17,7 +17,7 @@ pre_wrap_head span = record
     (made_head (codes "span") ((codes "white-space", codes "pre-wrap") ∷ []) span)
     { pre_span = true }
 
--- the text is that one character
+-- whether the text is that one character
 abbrev pub is_one : ℕ → List ℕ → Bool
 is_one d [] = false
 is_one d (c ∷ []) = c == d

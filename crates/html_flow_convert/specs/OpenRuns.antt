@@ -8,7 +8,7 @@ abbrev pub goes_on : (run : List NodeView) → NodeView → Bool
 goes_on [] n = is_blank_node n
 goes_on (m ∷ run) n = is_blank_node n || is_tag n
 
--- whether blanks of a run are preserved, given whether the current run has a space
+-- whether any run of blanks is preserved, given whether the current run has a space
 abbrev pub has_kept_run : (has_space : Bool) → List NodeView → Bool
 has_kept_run has_space [] = false
 has_kept_run has_space (n ∷ ns) =

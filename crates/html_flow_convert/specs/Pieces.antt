@@ -10,11 +10,11 @@ pub data PieceView : Type 0 where
   alone : (c : ℕ) → PieceView
   line_break : PieceView
 
--- neither a blank nor an ignorable character
+-- whether a character is neither blank nor ignorable
 abbrev pub is_normal : ℕ → Bool
 is_normal c = not (is_blank c) && not (is_ignorable c)
 
--- there is a character, and it is normal
+-- whether there is a character, and it is normal
 abbrev pub is_normal_there : Option ℕ → Bool
 is_normal_there None = false
 is_normal_there (Some c) = is_normal c
@@ -23,12 +23,12 @@ abbrev pub first_char : List ℕ → Option ℕ
 first_char [] = None
 first_char (c ∷ cs) = Some c
 
--- a normal character, or a space between two of them
+-- whether a character is normal, or a space between two that are
 abbrev pub is_in_stretch : (before : Option ℕ) (c : ℕ) (after : List ℕ) → Bool
 is_in_stretch before c after =
     is_normal c || ((c == 32) && is_normal_there before && is_normal_there (first_char after))
 
--- a character before pieces, as part of a stretch that stands there or of a new one
+-- pieces with a character before them, as part of the stretch that stands there or of a new one
 abbrev pub in_stretch : ℕ → List PieceView → List PieceView
 in_stretch c [] = stretch (c ∷ []) ∷ []
 in_stretch c (stretch s ∷ ps) = stretch (c ∷ s) ∷ ps
@@ -39,7 +39,7 @@ abbrev pub is_carriage_return : Option ℕ → Bool
 is_carriage_return None = false
 is_carriage_return (Some c) = c == 13
 
--- a character outside stretches before pieces: CR LF, CR and LF are one line break each
+-- pieces with a character outside stretches before them: CR LF, CR and LF are one line break each
 abbrev pub outside_stretch : (before : Option ℕ) → ℕ → List PieceView → List PieceView
 outside_stretch before c ps =
     if c == 13 then line_break ∷ ps

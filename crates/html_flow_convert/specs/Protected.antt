@@ -10,7 +10,7 @@ space_count (border ∷ ts) = space_count ts
 space_count (visible ∷ ts) = space_count ts
 space_count (space ∷ ts) = 1 + space_count ts
 
--- the first answer
+-- whether the first of the lone spaces is bare
 abbrev pub is_bare : List Bool → Bool
 is_bare [] = false
 is_bare (b ∷ bs) = b
@@ -20,7 +20,7 @@ text_by_answer true text span = text_node text span
 text_by_answer false text span =
     element_node (pre_wrap_head span) (node (text_node text span) none)
 
--- by the answers for the lone spaces in order
+-- nodes with protected spaces, given whether each lone space is bare, in order
 unfoldable mutual
   pub node_by_answers : List Bool → NodeView → NodeView
   node_by_answers bare (tag_node t) = tag_node t

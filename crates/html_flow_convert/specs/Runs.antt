@@ -5,7 +5,7 @@ use Rattle.html_dom_tree.specs.Tree.{NodeView, tag_node, text_node, element_node
 use Rattle.html_dom_tree.specs.Views.{nodes_of}
 use Rattle.html_flow_convert.specs.Nodes.{pre_wrap_head, is_one}
 
--- a text of exactly one space; of exactly one tab
+-- whether a node is a text of exactly one space, or of exactly one tab
 abbrev pub is_space : NodeView → Bool
 is_space (tag_node t) = false
 is_space (text_node s span) = is_one 32 s
@@ -30,7 +30,7 @@ first_node_span (n ∷ ns) = span_or (node_span n) (first_node_span ns)
     span_or zero later = later
     span_or (suc k) later = suc k
 
--- two blanks or more, or a single tab
+-- whether blanks are preserved: two or more, or a single tab
 abbrev pub are_kept : (blanks : List NodeView) → Bool
 are_kept [] = false
 are_kept (n ∷ []) = is_tab n
@@ -43,12 +43,14 @@ run_nodes ns =
     then element_node (pre_wrap_head (first_node_span ns)) (nodes_of ns) ∷ []
     else ns
 
--- blanks and tags up to another node or the end of a list: a run begins with the first blank
+-- blanks and tags up to another node or the end of a list, with each run in its place: a run begins
+-- with the first blank
 abbrev pub front_nodes : List NodeView → List NodeView
 front_nodes [] = []
 front_nodes (n ∷ ns) = if is_tag n then n ∷ front_nodes ns else run_nodes (n ∷ ns)
 
--- the leading blanks and tags of a list, and the nodes after them, with each run in it in its place
+-- the leading blanks and tags of a list; `after_front` has the nodes after them, with each run in
+-- its place
 unfoldable pub blank_front : List NodeView → List NodeView
 blank_front [] = []
 blank_front (n ∷ ns) = if is_blank_node n || is_tag n then n ∷ blank_front ns else []

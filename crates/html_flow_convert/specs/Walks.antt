@@ -7,18 +7,18 @@ use Rattle.html_flow_convert.specs.declared.line.Last.{Last}
 use Rattle.html_flow_convert.specs.declared.look.Look.{Look}
 use Rattle.html_flow_convert.specs.declared.look.Look.TheVariants as look
 
--- the answers for the spaces so far, except one that stands last, and what stands last
+-- whether each space so far is bare, except one that stands last, and what stands last
 abbrev pub WalkView : Type 0
 WalkView = List Bool × Last
 
 abbrev pub walk_view : SpaceWalk → WalkView
 walk_view w = (w.bare.items, w.last)
 
--- with one more
+-- the walk after one more thing
 abbrev pub walk_with : WalkView → Look → WalkView
 walk_with w next = (w.0 ++ answer_before w.1 next, last_after w.1 next)
 
--- with these too
+-- the walk after more things
 unfoldable pub walk_on : WalkView → List Thing → WalkView
 walk_on w [] = w
 walk_on w (border ∷ ts) = walk_on (walk_with w look.Border) ts

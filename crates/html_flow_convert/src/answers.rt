@@ -1,4 +1,4 @@
-//! Which lone spaces of a list of nodes are bare.
+//! Whether each lone space of a list of nodes is bare.
 
 ghost use Rattle.std.specs.Prelude.{◌≡◌, [], IfOk, OnOk};
 ghost use Rattle.std.specs.List.{list_all};
@@ -75,7 +75,7 @@ fn look_of(element: &HtmlElement) -> Look
     element_look(&element.tag, &element.css, element.pre_span)
 }
 
-/// Puts into the list, instead of what it has, whether each lone space of the nodes is bare, in
+/// Replaces the content of the list: it then has whether each lone space of the nodes is bare, in
 /// order.
 pub(crate) fn answer_for(
     alloc: Global,

@@ -1,4 +1,4 @@
-//! Which lone spaces may stay bare.
+//! The lone spaces that may stay bare.
 
 ghost use Rattle.std.specs.Prelude.{◌≡◌, ◌+◌, ◌<◌, ◌≤◌, ◌^◌, true, IfOk};
 ghost use Rattle.html_dom_flat.specs.Flat.{nodes_count};
@@ -14,7 +14,7 @@ use html_dom_flat::{FlatNode, FlatTree};
 use html_names::NameTable;
 use std::alloc::{AllocError, Global};
 
-/// Which lone spaces of a list of nodes may stay bare.
+/// The lone spaces of a list of nodes that may stay bare.
 #[derive(Debug, Drop)]
 pub struct Bareness {
     /// Whether each text of exactly one space is bare, in the order of writing; without those

@@ -27,7 +27,7 @@ use html_names::{HtmlTag, attr};
 use html_values_css::Properties;
 use std::alloc::{AllocError, Global};
 
-/// Where a list of items stands.
+/// The level at which a list of items stands.
 #[derive(Clone, Copy, Debug, PartialEq, Eq, Hash)]
 pub enum ConversionLevel {
     /// On lines of its own. Lone spaces that are not bare are protected.
@@ -36,7 +36,7 @@ pub enum ConversionLevel {
     Inline,
 }
 
-/// What becomes of white space.
+/// The treatment of white space.
 #[derive(Clone, Copy, Debug, PartialEq, Eq, Hash)]
 pub enum Whitespace {
     /// It collapses (CSS Text 3, 4.1), so what must stay is protected.
@@ -80,8 +80,8 @@ pub fn is_depth_limit(limit: usize) -> bool
 /// `role`, and its content has none; a `p`, a box or a block gets none and passes it on.
 ///
 /// `depth` is that of the list, and a body in it is one deeper; it is at most `limit`, which is
-/// from 1 to 10,000 (see [`is_depth_limit`]). Fails if an allocation fails, or with the span of the
-/// first item, in document order, whose body, even an empty one, is deeper than `limit`.
+/// from 1 to 10,000 (see [`is_depth_limit`]). Fails if an allocation fails, or else with the span
+/// of the first item, in document order, whose body, even an empty one, is deeper than `limit`.
 ///
 /// Takes time linear in the number of items at all depths and the length of their texts. But the
 /// content of an element that stands alone, tags aside, in nested boxes and blocks is looked at,

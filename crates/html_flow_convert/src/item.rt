@@ -42,7 +42,7 @@ pub enum Item {
     Space(Span),
     /// A text.
     Text(String, Span),
-    /// An item that shows nothing.
+    /// An item that becomes no node.
     Hole,
     /// A forced line break.
     LineBreak(Span),

@@ -5,7 +5,7 @@ ghost use Rattle.std.specs.Prelude.{◌≡◌, ◌↔◌, IsTrue};
 use crate::convert::{ConversionLevel, Whitespace};
 pub use html_flow_faults::laws::{equal_construct_faults, equal_flow_faults};
 
-/// What becomes of white space is equal if it is the same.
+/// Treatments of white space are equal if they are the same.
 pub fn equal_whitespaces(a: Whitespace, b: Whitespace) -> bool
     ensures { IsTrue result ↔ (a ≡ b) }
 {

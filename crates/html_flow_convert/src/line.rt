@@ -36,7 +36,7 @@ impl Last {
     }
 }
 
-/// Adds the answer for a space that stands last, once something stands after it.
+/// Adds whether a space that stands last is bare, once something stands after it.
 pub(crate) fn push_answer(bare: &mut Vec<bool>, last: Last, next: Look) -> Result<(), AllocError>
     ensures { OnOk result (bare.new.items ≡ bare.old.items ++ answer_before last next) }
 {

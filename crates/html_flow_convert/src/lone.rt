@@ -15,7 +15,7 @@ use html_names::{attr, tag};
 use html_values_css::Properties;
 use std::alloc::{AllocError, Global};
 
-/// What becomes of `display` in the css of a node.
+/// A change of `display` in the css of a node.
 #[derive(Clone, Copy)]
 enum DisplayChange {
     Removed,

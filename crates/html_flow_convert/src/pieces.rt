@@ -5,7 +5,7 @@ ghost use Rattle.html_dom_tree.specs.Tree.{text_node};
 ghost use Rattle.html_dom_tree.specs.Views.{node_view, text_view};
 ghost use Rattle.html_flow_convert.specs.Beginnings.{AddsBeginning};
 ghost use Rattle.html_flow_convert.specs.Pieces.{first_char, is_in_stretch, is_normal, is_normal_there, outside_stretch, piece_node, pieces, stretch, text_nodes};
-ghost use Rattle.html_flow_convert.specs.TextStretches.{is_shown, is_stretch, with_stretch};
+ghost use Rattle.html_flow_convert.specs.TextStretches.{is_above_space, is_stretch, with_stretch};
 
 use crate::made::break_element;
 use html_dom_tree::{HtmlNode, Span};
@@ -52,8 +52,8 @@ fn goes_on(is_normal: bool, c: char, ends_normal: bool) -> bool
 }
 
 /// Returns whether the byte is a normal character of ASCII above the space.
-fn is_shown(byte: u8) -> bool
-    ensures { result ≡ is_shown byte }
+fn is_above_space(byte: u8) -> bool
+    ensures { result ≡ is_above_space byte }
 {
     byte > 32 && byte < 128
 }
@@ -70,7 +70,7 @@ fn past_words<'a>(text: &'a str, ends_normal: &mut bool) -> &'a str
     let mut at = 0;
     while at < bytes.len() {
         let byte = bytes[at];
-        if is_shown(byte) {
+        if is_above_space(byte) {
             ends = true;
         } else if byte == b' ' && ends {
             ends = false;
@@ -128,9 +128,8 @@ fn push_stretch(
 fn one_char(alloc: Global, c: char) -> Result<String, AllocError>
     ensures { IfOk result (λ text. text_view text ≡ c ∷ []) }
 {
-    let mut text = String::new(alloc);
-    text.push(c)?;
-    Ok(text)
+    let mut bytes = [0; 4];
+    String::from_str(alloc, c.encode_utf8(&mut bytes))
 }
 
 /// The line feed after a carriage return has no node.

@@ -18,9 +18,9 @@ use std::mem;
 
 #[derive(Drop)]
 struct Answers<'a> {
-    /// With whether each space is bare.
+    /// The parts that hold whether each lone space is bare.
     reused: &'a Reused,
-    /// The number of answers used.
+    /// The number of entries used.
     next: usize,
 }
 

@@ -1,4 +1,4 @@
-//! What the lists of a conversion use one after the other.
+//! The parts that the lists of a conversion use one after the other.
 
 ghost use Rattle.std.specs.Prelude.{◌≡◌, [], ◌∷◌, codes};
 
@@ -6,7 +6,7 @@ use crate::made::pre_wrap_css;
 use html_values_css::Properties;
 use std::alloc::{AllocError, Global};
 
-/// What the lists of a conversion use one after the other.
+/// The parts that the lists of a conversion use one after the other.
 #[derive(Drop)]
 pub(crate) struct Reused {
     /// The css of each `span` that preserves white space.

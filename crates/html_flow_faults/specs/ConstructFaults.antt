@@ -46,7 +46,7 @@ construct_fault_view OutOfMemory = out_of_memory
 construct_fault_view (Casts fs) = cast_faults (faults_view fs.items)
 construct_fault_view (BodyKind span) = body_kind span.0
 
--- the returned fault is the first of the list, unless memory ran out
+-- the returned fault is the first of the list, unless an allocation failed
 abbrev pub IsFirst : ConstructFault → List ConstructFaultView → Type 0
 IsFirst OutOfMemory fs = Unit {0}
 IsFirst f fs = (rest : List ConstructFaultView) × (fs ≡ construct_fault_view f ∷ rest)

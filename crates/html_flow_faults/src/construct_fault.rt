@@ -7,7 +7,7 @@ use html_values_css::CastFault;
 use std::alloc::{AllocError, AllocFailed};
 use thiserror::Error;
 
-/// Why arguments construct no element.
+/// The reason why arguments construct no element.
 #[derive(Debug, Drop, PartialEq, Eq, Error)]
 pub enum ConstructFault {
     /// An allocation failed.
@@ -25,8 +25,8 @@ pub enum ConstructFault {
 }
 
 impl ConstructFault {
-    /// Returns the fault's number: 0 for out of memory, 24 for a body of the wrong kind, and for
-    /// casts that of the first of them (0 if there is none).
+    /// Returns the fault's number: 0 if an allocation failed, 24 for a body of the wrong kind, and
+    /// for casts that of the first of them (0 if there is none).
     pub fn number(&self) -> u8
         ensures { result ≡ number_of self.now }
     {
@@ -40,8 +40,8 @@ impl ConstructFault {
         }
     }
 
-    /// Returns the span of the first argument that is wrong; 0 for out of memory, or if there is
-    /// none.
+    /// Returns the span of the first argument that is wrong, or 0 if an allocation failed or if
+    /// there is none.
     pub fn span(&self) -> Span
         ensures { result.0 ≡ span_of self.now }
     {

@@ -6,7 +6,7 @@ use html_names::Refused;
 use std::alloc::{AllocError, AllocFailed};
 use thiserror::Error;
 
-/// Why items did not become nodes.
+/// The reason why items did not become nodes.
 #[derive(Clone, Copy, Debug, PartialEq, Eq, Error)]
 pub enum FlowFault {
     /// An allocation failed.
@@ -21,7 +21,7 @@ pub enum FlowFault {
 }
 
 impl FlowFault {
-    /// Returns the fault's number: 0 for out of memory, 8 for a body that is too deep.
+    /// Returns the fault's number: 0 if an allocation failed, 8 for a body that is too deep.
     pub fn number(&self) -> u8
         ensures { result ≡ number_of self.now }
     {

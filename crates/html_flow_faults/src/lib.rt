@@ -1,4 +1,5 @@
-//! Why items or arguments can't be converted: a part of html_flow, which re-exports these names.
+//! The reasons why items or arguments can't be converted: a part of html_flow, which re-exports
+//! these names.
 #![tactic(auto)]
 
 mod construct_fault;

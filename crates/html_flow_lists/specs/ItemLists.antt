@@ -11,14 +11,14 @@ pub record ListView : Type 0 where
   pub items : Pairs
   pub span : ℕ
 
--- no items, with that span
+-- a list without items, with that span
 abbrev pub no_list : (span : ℕ) → ListView
 no_list span = record { items = []; span = span }
 
 abbrev pub with_list_span : (span : ℕ) → ListView → ListView
 with_list_span span l = record { items = l.items; span = span }
 
--- with items appended
+-- a list with items appended
 abbrev pub with_more : Pairs → ListView → ListView
 with_more more l = record { items = l.items ++ more; span = l.span }
 
@@ -34,8 +34,7 @@ with_changed_last change [] = []
 with_changed_last change (x ∷ []) = change x ∷ []
 with_changed_last change (x ∷ y ∷ xs) = x ∷ with_changed_last change (y ∷ xs)
 
--- whether an item is extended by a text of that span: a text of that span with the role of its list
--- is
+-- whether a text of that span extends an item: a text of that span with the role of its list
 abbrev pub takes_text : (span : ℕ) → ItemView × RoleView → Bool
 takes_text span (text_item s own, inherits) = own == span
 takes_text span x = false
@@ -51,7 +50,7 @@ text_added text span items =
     if last_passes (takes_text span) items then with_changed_last (with_longer_text text) items
     else items ++ inheriting (text_item text span) ∷ []
 
--- an empty text adds nothing
+-- a list with a text added; an empty text adds nothing
 abbrev pub with_text : (text : List ℕ) → ListView → ListView
 with_text text l =
     if length text == 0 then l
@@ -66,15 +65,15 @@ abbrev pub item_ends_in_space : ItemView × RoleView → Bool
 item_ends_in_space (text_item s span, role) = text_ends_in_space s
 item_ends_in_space x = false
 
--- items with one space appended, unless their last one ends in a space
+-- a list with one space appended, unless its last item ends in a space
 abbrev pub with_space : ListView → ListView
 with_space l = if last_passes item_ends_in_space l.items then l else with_text (32 ∷ []) l
 
--- items with a forced line break appended
+-- a list with a forced line break appended
 abbrev pub with_break : ListView → ListView
 with_break l = with_more (inheriting (break_item l.span) ∷ []) l
 
--- items with an element appended, with the role of the list
+-- a list with an element appended, which has the role of the list
 abbrev pub with_element : ElemView → ListView → ListView
 with_element e l = with_more (inheriting (element_as_item e) ∷ []) l
 

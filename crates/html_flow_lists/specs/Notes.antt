@@ -12,8 +12,8 @@ pub record NoteView : Type 0 where
   pub content : Pairs
   pub span : ℕ
 
--- two locations for each note, counted from 1, from the greatest location down: that of the note,
--- and that of its mark
+-- the location of a note and, next to it, that of its mark: each note, counted from 1, has two,
+-- from the greatest location down
 abbrev pub note_location : (number : ℕ) → ℕ
 note_location number = 2 ^ 64 - 1 - 2 * number
 
@@ -76,7 +76,7 @@ abbrev pub with_longer_body : (more : Pairs) → ElemView → ElemView
 with_longer_body more (h, absent) = (h, absent)
 with_longer_body more (h, present items) = (h, present (with_items_behind items more))
 
--- the same of an item
+-- whether an item is a paragraph with a body
 abbrev pub is_line_item : ItemView × RoleView → Bool
 is_line_item (element_item h body, role) = is_line (h, body)
 is_line_item x = false

@@ -3,8 +3,8 @@
 ghost use Rattle.std.specs.Prelude.{◌<◌, ◌≤◌, ◌^◌};
 ghost use Rattle.html_flow_lists.specs.NoteLaws.{AreDifferent, AreHigh};
 
-/// The locations of a note and of its mark are above 2^63, where no place has one that is counted
-/// from 1 up. No list is as long as the number required here.
+/// The locations of a note and of its mark are above 2^63; no place whose location is counted from
+/// 1 up has one there. No list is as long as the number required here.
 pub fn note_locations_are_high(number: u64)
     requires some { 1 ≤ number }
     requires few { number < 2 ^ 59 }

@@ -14,11 +14,11 @@ use html_flow_convert::{HtmlElem, Item, Pair, copied_pairs, push_located};
 use html_names::{HtmlTag, Refused, attr, tag};
 use std::alloc::{AllocError, AllocFailed, Global};
 
-/// Footnotes: each mark consumes the content of the next note, and the section shows all notes.
+/// Footnotes: each mark consumes the content of the next note, and the section holds all notes.
 ///
 /// Links lead from a mark to its note and back, once the document's links are resolved
-/// (`export_linked`). Notes and marks have locations of their own, from the greatest one down: give
-/// none above 2^63 to anything else. The `id`s `fn1` and `fnref1` are requested: if one is taken,
+/// (`export_linked`). Notes and marks have locations of their own, from the greatest one down: use
+/// none above 2^63 for anything else. The `id`s `fn1` and `fnref1` are requested: if one is taken,
 /// another is made from it.
 ///
 /// In contracts it is the list of notes, each with its content and its span.

@@ -6,7 +6,7 @@ use Rattle.std.proofs.lemmas.List.{length-map, map-append}
 use Rattle.html_names.specs.Names.{stands_in}
 use Rattle.html_names.specs.Texts.{text_view, texts_view}
 use Rattle.html_names.specs.NameTables.{number_in, with_name}
-use Rattle.html_names.proofs.NameTables.{equal_numbers, name_at-told, number_below, number_in-told, number_later, number_next, stands_in-both, stands_in-told, told_again}
+use Rattle.html_names.proofs.NameTables.{equal_numbers, name_at-added, number_below, number_in-added, number_later, number_next, stands_in-both, stands_in-added, added_again}
 use Rattle.html_flow_places.specs.NamedLocations.{location_in, name_of}
 
 pub equal_locations : (names : List (List ℕ)) (a b : List ℕ) →
@@ -21,7 +21,7 @@ pub location_later : (names : List (List ℕ)) (name other : List ℕ) →
 location_later names name other = ap (λ n. n + 1) (number_later names name other)
 
 -- for a location that is asked for twice
-pub ruleset stays = (location_later, stands_in-both, told_again, eq-eqb)
+pub ruleset stays = (location_later, stands_in-both, added_again, eq-eqb)
 
 -- the name that is held for a location
 pub name_held : (items : List (String Global)) (names : List (List ℕ)) (s : String Global)
@@ -32,21 +32,21 @@ name_held items names s location number were some at below is =
     rw (after, sym were, slice_get-map text_view items number) (sym (ap (option_map text_view)
     (slice_get_read items (length items) number s refl below is)))
 
-pub name_of-told : (names : List (List ℕ)) (name : List ℕ) →
+pub name_of-added : (names : List (List ℕ)) (name : List ℕ) →
     name_of (with_name names name) (location_in names name) ≡ Some name
-name_of-told names name =
-    let told : List (List ℕ) = with_name names name in
-    let below : number_in names name < length told =
-    rw (sym (number_in-told names name)) (number_below told name (stands_in-told names name)) in
-    rw (add-one (number_in names name)) (slice_get-get_or told (number_in names name) [] below
-    ∙ ap Some (name_at-told names name))
+name_of-added names name =
+    let grown : List (List ℕ) = with_name names name in
+    let below : number_in names name < length grown =
+    rw (sym (number_in-added names name)) (number_below grown name (stands_in-added names name)) in
+    rw (add-one (number_in names name)) (slice_get-get_or grown (number_in names name) [] below
+    ∙ ap Some (name_at-added names name))
 
 -- the name at the location of a name
-pub told_there : (names after : List (List ℕ)) (name : List ℕ) (location : ℕ)
+pub added_there : (names after : List (List ℕ)) (name : List ℕ) (location : ℕ)
     (there : Option (List ℕ)) → there ≡ name_of after location →
     location ≡ location_in names name → after ≡ with_name names name → there ≡ Some name
-told_there names after name location there e at told =
-    e ∙ rw (at, told) (name_of-told names name)
+added_there names after name location there e at grown =
+    e ∙ rw (at, grown) (name_of-added names name)
 
 -- one more name, and its location
 pub added_names : (items after : List (String Global)) (s : String Global) (names : List (List ℕ))

@@ -37,7 +37,7 @@ pub record GivesLocation (result : Result Location AllocError) (name : List ℕ)
   pub kept : OnErr result (new ≡ old)
 
 -- a call that requests the location of a first name and then that of a second: on success both have
--- one; else it stopped at the first that had none, and the names stay, or the first has one
+-- one; else it stopped at a name that had none, and the names stay, or only the first has got one
 pub record LocatesBoth {A : Type 0} (result : Result A AllocError) (first second : List ℕ)
     (old new : List (List ℕ)) : Type 0 where
   pub names : OnOk result (new ≡ with_name (with_name old first) second)

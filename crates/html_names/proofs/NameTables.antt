@@ -65,7 +65,7 @@ unfolding number_in
 number_in-last [] name = rw (same name) refl
 number_in-last (n ∷ ns) name = rw (number_in-last ns name) refl
 
--- a name that stands there is not told again
+-- a name that stands there is not added again
 pub with_name-stands : (names : List (List ℕ)) (name : List ℕ) → stands_in names name ≡ true →
     with_name names name ≡ names
 unfolding with_name
@@ -76,7 +76,7 @@ pub with_name-new : (names : List (List ℕ)) (name : List ℕ) → stands_in na
 unfolding with_name
 with_name-new names name h = rw h refl
 
--- to tell a name adds at the end
+-- a name is added at the end
 pub with_name-appends : (names : List (List ℕ)) (name : List ℕ) →
     (more : List (List ℕ)) × (with_name names name ≡ names ++ more)
 unfolding with_name
@@ -88,41 +88,41 @@ pub with_name-long : (names : List (List ℕ)) (name : List ℕ) →
 unfolding with_name
 with_name-long names name = grind (arith, length-append names (name ∷ []))
 
--- a name that is told stands there, with the number that it had or got
-pub stands_in-told : (names : List (List ℕ)) (name : List ℕ) →
+-- a name that is added stands there, with the number that it had or got
+pub stands_in-added : (names : List (List ℕ)) (name : List ℕ) →
     stands_in (with_name names name) name ≡ true
 unfolding with_name
-stands_in-told names name = grind (arith, stands_in-last names name)
+stands_in-added names name = grind (arith, stands_in-last names name)
 
-pub number_in-told : (names : List (List ℕ)) (name : List ℕ) →
+pub number_in-added : (names : List (List ℕ)) (name : List ℕ) →
     number_in (with_name names name) name ≡ number_in names name
 unfolding with_name
-number_in-told names name = grind (arith, number_in-last names name)
+number_in-added names name = grind (arith, number_in-last names name)
 
-pub name_at-told : (names : List (List ℕ)) (name : List ℕ) →
+pub name_at-added : (names : List (List ℕ)) (name : List ℕ) →
     name_at (with_name names name) (number_in names name) ≡ name
-name_at-told names name =
-    let told : List (List ℕ) = with_name names name in
-    ap (name_at told) (sym (number_in-told names name))
-    ∙ name_at-number told name (stands_in-told names name)
+name_at-added names name =
+    let grown : List (List ℕ) = with_name names name in
+    ap (name_at grown) (sym (number_in-added names name))
+    ∙ name_at-number grown name (stands_in-added names name)
 
 pub name_at-with_name : (names : List (List ℕ)) (name : List ℕ) (number : ℕ) →
     number < length names → name_at (with_name names name) number ≡ name_at names number
 name_at-with_name names name number h =
-    let told = with_name-appends names name in
-    rw told.1 (name_at-append names told.0 number h)
+    let grown = with_name-appends names name in
+    rw grown.1 (name_at-append names grown.0 number h)
 
 pub stands_in-with_name : (names : List (List ℕ)) (name other : List ℕ) →
     stands_in names other ≡ true → stands_in (with_name names name) other ≡ true
 stands_in-with_name names name other h =
-    let told = with_name-appends names name in
-    rw told.1 (stands_in-append names told.0 other h)
+    let grown = with_name-appends names name in
+    rw grown.1 (stands_in-append names grown.0 other h)
 
 pub number_in-with_name : (names : List (List ℕ)) (name other : List ℕ) →
     stands_in names other ≡ true → number_in (with_name names name) other ≡ number_in names other
 number_in-with_name names name other h =
-    let told = with_name-appends names name in
-    rw told.1 (number_in-append names told.0 other h)
+    let grown = with_name-appends names name in
+    rw grown.1 (number_in-append names grown.0 other h)
 
 pub one_number : (names : List (List ℕ)) (a b : List ℕ) → stands_in names a ≡ true →
     stands_in names b ≡ true → number_in names a ≡ number_in names b → a ≡ b
@@ -135,39 +135,39 @@ pub equal_numbers : (names : List (List ℕ)) (a b : List ℕ) →
 equal_numbers names a b =
     let one : List (List ℕ) = with_name names a in
     let both : List (List ℕ) = with_name one b in
-    let there : stands_in one a ≡ true = stands_in-told names a in
+    let there : stands_in one a ≡ true = stands_in-added names a in
     let first : number_in both a ≡ number_in names a =
-    number_in-with_name one b a there ∙ number_in-told names a in (
-      λ e. one_number both a b (stands_in-with_name one b a there) (stands_in-told one b)
-          (first ∙ (e ∙ sym (number_in-told one b))),
-      λ e. sym (number_in-told names a) ∙ ap (number_in one) e,
+    number_in-with_name one b a there ∙ number_in-added names a in (
+      λ e. one_number both a b (stands_in-with_name one b a there) (stands_in-added one b)
+          (first ∙ (e ∙ sym (number_in-added one b))),
+      λ e. sym (number_in-added names a) ∙ ap (number_in one) e,
     )
 
 pub number_later : (names : List (List ℕ)) (name other : List ℕ) →
     number_in (with_name (with_name names name) other) name ≡ number_in names name
 number_later names name other =
-    number_in-with_name (with_name names name) other name (stands_in-told names name)
-    ∙ number_in-told names name
+    number_in-with_name (with_name names name) other name (stands_in-added names name)
+    ∙ number_in-added names name
 
 pub stands_in-both : (names : List (List ℕ)) (name other : List ℕ) →
     stands_in (with_name (with_name names name) other) name ≡ true
 stands_in-both names name other =
-    stands_in-with_name (with_name names name) other name (stands_in-told names name)
+    stands_in-with_name (with_name names name) other name (stands_in-added names name)
 
-pub told_again : (names : List (List ℕ)) (name other : List ℕ) →
+pub added_again : (names : List (List ℕ)) (name other : List ℕ) →
     with_name (with_name (with_name names name) other) name
     ≡ with_name (with_name names name) other
-told_again names name other =
+added_again names name other =
     with_name-stands (with_name (with_name names name) other) name (stands_in-both names name other)
 
 -- for a number that is asked for twice
-pub ruleset stays = (number_later, stands_in-both, told_again, eq-eqb)
+pub ruleset stays = (number_later, stands_in-both, added_again, eq-eqb)
 
-told_where : (names : List (List ℕ)) (name : List ℕ) (number : ℕ) →
+found_where : (names : List (List ℕ)) (name : List ℕ) (number : ℕ) →
     Some number ≡ number_where names name →
     (number ≡ number_in names name) × (number < length names) × (with_name names name ≡ names)
 unfolding with_name
-told_where names name number e = grind (arith, number_below names name)
+found_where names name number e = grind (arith, number_below names name)
 
 last_below : (names after : List (List ℕ)) (name : List ℕ) (number : ℕ) → number ≡ length names →
     after ≡ names ++ name ∷ [] → number < length after
@@ -182,17 +182,17 @@ module _ (part : List (List ℕ) → NamesView) (names now : List (List ℕ)) (t
       Numbers (Ok number) names names text (part names) (part names) (part (with_name names text))
   finds found =
       let there : Some number ≡ number_where names text = rw (sym is, sym named) found in
-      let told = told_where names text number there in
-      record { number = told.0; below = told.1; names = rw told.2 refl; absent = tt; kept = tt }
+      let grown = found_where names text number there in
+      record { number = grown.0; below = grown.1; names = rw grown.2 refl; absent = tt; kept = tt }
 
   pub adds : (after : List (List ℕ)) (table : NamesView) → table ≡ part after →
       after ≡ now ++ held ∷ [] → number ≡ length now → stands_in names text ≡ false →
       Numbers (Ok number) names after text (part names) table (part (with_name names text))
-  adds after table told added counted new =
+  adds after table grown added counted new =
       record {
         number = rw (number_next names text new, counted, is) refl;
         below = last_below now after held number counted added;
-        names = told ∙ ap part (added ∙ rw (is, named, with_name-new names text new) refl);
+        names = grown ∙ ap part (added ∙ rw (is, named, with_name-new names text new) refl);
         absent = tt;
         kept = tt;
       }

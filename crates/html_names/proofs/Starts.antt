@@ -97,7 +97,7 @@ not_among starts names (c ∷ cs) first letter h a u l is at each =
     by_bytes starts names (c ∷ cs) h a u (λ k s.
     let ends = bounds starts k c cs s in each k (rw here ends.0) (rw here ends.1))
 
--- what the comparison with one name tells
+-- what follows from the comparison with one name
 module _ (table : List (Bor (List ℕ))) (t : List ℕ) (place n : ℕ) (d : Bor (List ℕ))
     (l : place < length table) (e : n ≡ place) where
   at : get_or (texts table) place [] ≡ (get_or table n d).now

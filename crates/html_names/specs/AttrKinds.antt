@@ -1,4 +1,4 @@
--- Which attributes run what is written in them.
+-- Attributes that are event handlers: browsers run their values.
 use Rattle.std.specs.Char.{eq_ignore_ascii_case}
 use Rattle.std.specs.Prelude.{ℕ, Bool, false, ◌&&◌, List, [], ◌∷◌}
 

@@ -1,11 +1,11 @@
--- What the tables say of a name, by its number.
+-- A name's entries in the tables of kinds and displays, by its index.
 use Rattle.std.specs.Prelude.{ℕ, Bool, false, not, ◌==◌, bit_and, slice_index_or, Option, None}
 use Rattle.html_names.specs.declared.name.Name.{Name}
 use Rattle.html_names.specs.declared.name.Name.TheVariants.{Known, Own}
 use Rattle.html_names.specs.declared.property.Display.{Display}
 use Rattle.html_names.specs.declared.table.TheConstants.{KINDS, DISPLAYS}
 
--- kinds with that kind among them
+-- whether the kinds contain that kind
 abbrev pub has_kind : (kind kinds : ℕ) → Bool
 has_kind kind kinds = not (bit_and kinds kind == 0)
 

@@ -9,7 +9,7 @@ use Rattle.html_names.specs.declared.property.Display.TheVariants as display
 abbrev pub Row : Type 0
 Row = Display × List (List ℕ)
 
--- the display of the first row that holds the name
+-- the display of the first row that contains the name
 abbrev pub first_row : List Row → List ℕ → Option Display
 first_row [] name = None
 first_row (r ∷ rs) name = elim (stands_in r.1 name) [ true ↦ Some r.0 | false ↦ first_row rs name ]
@@ -53,7 +53,7 @@ rows = (
 unfoldable pub default_display : List ℕ → Option Display
 default_display name = first_row rows name
 
--- a table or a part of one
+-- whether a display is that of a table or a part of one
 abbrev pub is_tabular : Display → Bool
 is_tabular display.Table = true
 is_tabular display.TableCaption = true
@@ -66,7 +66,7 @@ is_tabular display.TableFooterGroup = true
 is_tabular display.TableCell = true
 is_tabular _ = false
 
--- a line ends before and after what has this display
+-- whether a line ends before and after an element with this display
 abbrev pub is_border : Display → Bool
 is_border display.Block = true
 is_border display.ListItem = true
@@ -79,7 +79,7 @@ is_border display.TableCell = true
 is_border display.TableCaption = true
 is_border _ = false
 
--- hidden by default
+-- whether elements with this default display are hidden
 abbrev pub is_hidden : Option Display → Bool
 is_hidden (Some display.None) = true
 is_hidden _ = false

@@ -1,4 +1,4 @@
--- Equality of values that are seen by a view: that of the views, as a test.
+-- Equality of values by their views, as a test.
 use Rattle.std.specs.Prelude.{◌≡◌, ℕ, List, Option, Some, None, Bool, true, false, refl}
 use native.Mathlib.Decide.{ℕ_discrete}
 use mathlib.Core.List.{List-discrete}
@@ -12,7 +12,7 @@ abbrev is_yes : {P : Type 0} → Dec P → Bool
 is_yes (yes p) = true
 is_yes (no n) = false
 
--- whether two values have one view
+-- whether two values have equal views
 unfoldable pub same : {A B : Type 0} → (B → A) → Discrete A → B → B → Bool
 same v d x y = is_yes (d (v x) (v y))
 
@@ -35,7 +35,7 @@ same_equiv v d = record {
       (λ q. p ∙ (same_decides v d y z).0 q, λ q. (same_decides v d y z).1 (sym p ∙ q));
 }
 
--- what a value is made of, from which it comes back, decides whether two are equal
+-- equality is decidable if values come back from an encoding whose equality is decidable
 pub discrete_by : {A B : Type 0} (f : A → B) (g : B → A) → ((a : A) → g (f a) ≡ a) → Discrete B →
     Discrete A
 discrete_by f g back d x y = elim (d (f x) (f y)) [

@@ -1,4 +1,4 @@
--- What a hash of pairs of texts reads: their number, and of each the name and the value.
+-- The input to a hash of pairs of texts: their number, then the name and the value of each pair.
 use Rattle.std.specs.Prelude.{List, ◌++◌}
 use Rattle.std.specs.Hash as fed
 use lib.Utf8.{encodes}

@@ -75,7 +75,7 @@ phrasing_content_names =
 unfoldable pub is_phrasing_content : List ℕ → Bool
 is_phrasing_content name = stands_in phrasing_content_names name
 
--- flow content that is no phrasing content
+-- flow content that is not phrasing content
 abbrev pub flow_beside_phrasing_names : List (List ℕ)
 flow_beside_phrasing_names =
     listed_names (codes "address article aside blockquote details dialog div dl fieldset figure")
@@ -134,10 +134,10 @@ abbrev pub shows_border : Option Display → Bool
 shows_border None = false
 shows_border (Some d) = is_border d
 
--- a default display that makes a border, or `br`
+-- whether the default display makes a border, or the element is `br`
 abbrev pub is_whitespace_collapsing : List ℕ → Bool
 is_whitespace_collapsing name = is_line_break name || shows_border (default_display name)
 
--- phrasing content that is not hidden by default
+-- whether the element is phrasing content and not hidden by default
 abbrev pub should_group_into_pars : List ℕ → Bool
 should_group_into_pars name = is_phrasing_content name && not (is_hidden (default_display name))

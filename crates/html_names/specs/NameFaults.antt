@@ -1,5 +1,5 @@
--- The number of each fault of a name, when one is the first, how calls end that may answer one, and
--- that it is decided whether two are equal.
+-- Numbers of the faults of names, when one is the first, how calls end that may return one, and
+-- that equality is decidable.
 use Rattle.std.specs.Prelude.{◌≡◌, ℕ, ◌==◌, List, ◌∷◌, if◌then◌else◌, Result, refl}
 use native.Mathlib.Decide.{ℕ_discrete}
 use mathlib.Core.HLevel.{×_discrete}
@@ -18,27 +18,27 @@ number_of Reserved = 5
 number_of EmptyAttr = 6
 number_of (BadAttrChar c) = 7
 
--- the fault that is answered is the first of the list, unless memory ran out
+-- the returned fault is the first of the list, unless an allocation failed
 abbrev pub IsFirst : NameFault → List NameFault → Type 0
 IsFirst OutOfMemory fs = Unit {0}
 IsFirst f fs = (rest : List NameFault) × (fs ≡ f ∷ rest)
 
--- a name is given
+-- a call returns a name
 abbrev pub Gives : Result (List ℕ) NameFault → (name : List ℕ) → List NameFault → Type 0
 Gives = GivesBy IsFirst (λ name. name)
 
--- that holds where memory ran out
+-- the statement holds if an allocation failed
 abbrev pub OnOutOfMemory : NameFault → Type 0 → Type 0
-OnOutOfMemory OutOfMemory told = told
-OnOutOfMemory f told = Unit {0}
+OnOutOfMemory OutOfMemory wanted = wanted
+OnOutOfMemory f wanted = Unit {0}
 
--- the character that a fault has, and 0 where it has none
+-- the character of a fault, or 0 if it has none
 abbrev char_of : NameFault → ℕ
 char_of (BadTagChar c) = c
 char_of (BadAttrChar c) = c
 char_of fault = 0
 
--- the fault of a number, with its character
+-- the fault with that number and that character
 abbrev fault_of : ℕ × ℕ → NameFault
 fault_of p = if p.0 == 1 then EmptyTag else (if p.0 == 2 then BadTagChar p.1
     else (if p.0 == 3 then CustomStart else (if p.0 == 4 then CustomCapital

@@ -1,4 +1,4 @@
--- Numbers for names: a table gives each tag, and each attribute, the next number from 0.
+-- Numbers for names: a table numbers the tags from 0 on, and the attributes separately.
 use Rattle.std.specs.Prelude.{◌≡◌, ℕ, ◌+◌, ◌⊎◌, false, List, [], ◌∷◌, ◌++◌, bytes_eq, slice_index_or, if◌then◌else◌, Result, IfOk, OnOk, OnErr, ◌<◌, length}
 use Rattle.std.specs.declared.alloc.AllocError.{AllocError}
 use Rattle.html_names.specs.Names.{stands_in}
@@ -13,47 +13,46 @@ pub record NamesView : Type 0 where
 abbrev pub no_names : NamesView
 no_names = record { tags = []; attrs = [] }
 
--- the number of a name among names: how many stand before the first that is equal to it, so how
--- many they are where none is
+-- the number of a name among names: how many come before the first that is equal to it, or how
+-- many there are if none is
 unfoldable pub number_in : List (List ℕ) → List ℕ → ℕ
 number_in [] name = 0
 number_in (n ∷ ns) name = if bytes_eq n name then 0 else number_in ns name + 1
 
--- the names, and that name at the end unless it stands there
+-- the names, with that name at the end unless it is among them
 unfoldable pub with_name : List (List ℕ) → List ℕ → List (List ℕ)
 with_name names name = if stands_in names name then names else names ++ name ∷ []
 
--- the name of that number
+-- the name with that number
 abbrev pub name_at : List (List ℕ) → ℕ → List ℕ
 name_at names number = slice_index_or names number []
 
--- each number is that of its name, so that no name stands there twice
+-- each number is that of its name, so no two of the names are equal
 abbrev pub IsNumbered : List (List ℕ) → Type 0
 IsNumbered names = (number : ℕ) → number < length names →
     number_in names (name_at names number) ≡ number
 
--- a table of names, and that tag in it
+-- a table of names, with that tag in it
 abbrev pub with_tag : NamesView → List ℕ → NamesView
 with_tag table tag = record { tags = with_name table.tags tag; attrs = table.attrs }
 
--- a table of names, and that attribute in it
+-- a table of names, with that attribute in it
 abbrev pub with_attr : NamesView → List ℕ → NamesView
 with_attr table attr = record { tags = table.tags; attrs = with_name table.attrs attr }
 
--- a call that asks for the number of a name among names that have one: where it succeeds, it gives
--- the number, which is below the count of the names after the call, and the table becomes the one
--- told; else the name had no number and the table stays
+-- a call returns the number of a name, which is below the count of the names after the call, and
+-- the table becomes `grown`; if the call fails, the name had no number and the table is unchanged
 pub record Numbers (result : Result ℕ AllocError) (given after : List (List ℕ)) (name : List ℕ)
-    (old new told : NamesView) : Type 0 where
+    (old new grown : NamesView) : Type 0 where
   pub number : IfOk result (λ n. n ≡ number_in given name)
   pub below : IfOk result (λ n. n < length after)
-  pub names : OnOk result (new ≡ told)
+  pub names : OnOk result (new ≡ grown)
   pub absent : OnErr result (stands_in given name ≡ false)
   pub kept : OnErr result (new ≡ old)
 
--- a call that asks for the number of a first name, where these have one, and then for that of a
--- second: where it succeeds, the table becomes the one with both; else it stopped at the first name
--- that had no number, and the table stays, or has the first name
+-- a call looks up the numbers of two names, one after the other, and the table becomes `both`; if
+-- the call fails, it stopped at a name that had no number: at the first, with the table unchanged,
+-- or at the second, with the table `one`
 pub record NumbersBoth {A : Type 0} (result : Result A AllocError) (given : List (List ℕ))
     (first second : List ℕ) (old new one both : NamesView) : Type 0 where
   pub names : OnOk result (new ≡ both)

@@ -1,4 +1,4 @@
--- The names that take no memory, in ascending order.
+-- The known names, which take no memory, in ascending order.
 use Rattle.std.specs.Prelude.{◌++◌, ℕ, Bool, List, codes}
 use Rattle.html_names.specs.Names.{listed_names, stands_in}
 
@@ -54,7 +54,7 @@ is_known_tag name = stands_in known_tags name
 abbrev pub is_known_attr : List ℕ → Bool
 is_known_attr name = stands_in known_attrs name
 
--- how many tags and attributes they are
+-- how many known tags and known attributes there are
 abbrev pub tag_count : ℕ
 tag_count = 142
 

@@ -1,4 +1,4 @@
-//! Which attributes are known, and which run what is written in them.
+//! Kinds of attributes: known ones, and event handlers.
 
 ghost use Rattle.std.specs.Prelude.{◌≡◌};
 ghost use Rattle.html_names.specs.AttrKinds.{is_event_handler};
@@ -7,7 +7,7 @@ ghost use Rattle.html_names.specs.Tables.{is_known_attr};
 use crate::html_attr::HtmlAttr;
 use crate::name::Name;
 
-/// Whether the attribute is one of the constants of this module, that is, of HTML or MathML.
+/// Returns whether the attribute is one of this module's constants, those of HTML and MathML.
 ///
 /// ```
 /// use html_names::{HtmlAttr, attr};
@@ -25,8 +25,9 @@ pub fn is_known(attr: &HtmlAttr) -> bool
     }
 }
 
-/// Whether the attribute is an event handler, whose value a browser runs: its name begins with `on`,
-/// in any ASCII case (HTML Standard 8.1.8.1). So it is of each handler, those of later standards too.
+/// Returns whether the attribute counts as an event handler: whether its name begins with `on`, in
+/// any ASCII case, as the names of all handlers do (HTML Standard 8.1.8.1). A browser runs the
+/// value of a handler. The test covers the handlers of later standards too.
 ///
 /// ```
 /// use html_names::{HtmlAttr, attr};

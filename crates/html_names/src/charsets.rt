@@ -1,49 +1,49 @@
-//! Classes of characters: HTML Standard 13.1.2, and this project's table of characters that are not
-//! shown by default.
+//! Classes of characters: those of HTML Standard 13.1.2, and this project's table of characters
+//! that are invisible by default.
 
 ghost use Rattle.std.specs.Prelude.{◌≡◌};
 ghost use Rattle.html_names.specs.Characters as class;
 
-/// Whether the character may stand in a tag name: an ASCII letter, a digit or `-`.
+/// Returns whether the character is valid in a tag name: an ASCII letter, a digit or `-`.
 pub fn is_valid_in_tag_name(c: char) -> bool
     ensures { result ≡ class.is_tag_char c }
 {
     c.is_ascii_alphanumeric() || c == '-'
 }
 
-/// Whether the character may stand in an attribute name: none of U+0000, space, `"`, `'`, `>`, `/`,
-/// `=`, no control and no noncharacter.
+/// Returns whether the character is valid in an attribute name: none of U+0000, space, `"`, `'`,
+/// `>`, `/` and `=`, no control and no noncharacter.
 pub fn is_valid_in_attribute_name(c: char) -> bool
     ensures { result ≡ class.is_attr_char c }
 {
     !matches!(c, '\0' | ' ' | '"' | '\'' | '>' | '/' | '=') && !is_control(c) && !is_noncharacter(c)
 }
 
-/// Whether the character is a text character: no noncharacter, and no control but tab, line feed,
-/// form feed and carriage return.
+/// Returns whether the character is a text character: no noncharacter, and no control except tab,
+/// line feed, form feed and carriage return.
 pub fn is_w3c_text_char(c: char) -> bool
     ensures { result ≡ class.is_text_char c }
 {
     !is_noncharacter(c) && (!is_control(c) || matches!(c, '\t' | '\n' | '\u{c}' | '\r'))
 }
 
-/// Whether the character may stand unescaped in a double-quoted attribute value: a text character
-/// other than `&` and `"`.
+/// Returns whether the character is valid unescaped in a double-quoted attribute value: a text
+/// character other than `&` and `"`.
 pub fn is_valid_in_attribute_value(c: char) -> bool
     ensures { result ≡ class.is_value_char c }
 {
     is_w3c_text_char(c) && c != '&' && c != '"'
 }
 
-/// Whether the character may stand unescaped in the text of an ordinary element: a text character
-/// other than `&` and `<`.
+/// Returns whether the character is valid unescaped in the text of an ordinary element: a text
+/// character other than `&` and `<`.
 pub fn is_valid_in_normal_element_text(c: char) -> bool
     ensures { result ≡ class.is_element_text_char c }
 {
     is_w3c_text_char(c) && c != '&' && c != '<'
 }
 
-/// Whether the character is not shown by default (this project's table).
+/// Returns whether the character is invisible by default (this project's table).
 #[rattlefmt::skip]
 #[tactic(auto, unfolding(crate::specs::Characters::is_ignorable))]
 pub fn is_default_ignorable(c: char) -> bool
@@ -59,15 +59,15 @@ pub fn is_default_ignorable(c: char) -> bool
     )
 }
 
-/// Whether the character is a control: U+0000 to U+001F and U+007F to U+009F.
+/// Returns whether the character is a control: U+0000 to U+001F and U+007F to U+009F.
 fn is_control(c: char) -> bool
     ensures { result ≡ class.is_control c }
 {
     matches!(c, '\0'..='\u{1f}' | '\u{7f}'..='\u{9f}')
 }
 
-/// Whether the character is a noncharacter: U+FDD0 to U+FDEF, and code points that end in FFFE or
-/// FFFF.
+/// Returns whether the character is a noncharacter: from U+FDD0 to U+FDEF, or a code point that
+/// ends in FFFE or FFFF.
 fn is_noncharacter(c: char) -> bool
     ensures { result ≡ class.is_noncharacter c }
 {

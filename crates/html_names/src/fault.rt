@@ -3,7 +3,7 @@ ghost use Rattle.std.specs.Prelude.{◌≡◌};
 use std::alloc::{AllocError, AllocFailed};
 use thiserror::Error;
 
-/// Why a text is no name of a tag or of an attribute.
+/// The reason why a text is not the name of a tag or an attribute.
 #[derive(Debug, Drop, PartialEq, Eq, Error)]
 pub enum NameFault {
     /// An allocation failed.
@@ -12,22 +12,22 @@ pub enum NameFault {
     /// The tag name is empty.
     #[error("tag name must not be empty")]
     EmptyTag,
-    /// The first character that may not stand in a tag name.
+    /// A character is not valid in a tag name. The first such character is reported.
     #[error("a character is not valid in a tag name")]
     BadTagChar(char),
-    /// A name with a hyphen begins with something else than a small ASCII letter.
+    /// A name with a hyphen does not begin with a lowercase ASCII letter.
     #[error("custom element name must start with a lowercase letter")]
     CustomStart,
-    /// A name with a hyphen has an ASCII capital.
+    /// A name with a hyphen contains an uppercase ASCII letter.
     #[error("custom element name must not contain uppercase letters")]
     CustomCapital,
-    /// A name with a hyphen that HTML keeps for SVG and MathML.
+    /// The name has a hyphen, and HTML reserves it for SVG and MathML.
     #[error("name is reserved and not valid for a custom element")]
     Reserved,
     /// The attribute name is empty.
     #[error("attribute name must not be empty")]
     EmptyAttr,
-    /// The first character that may not stand in an attribute name.
+    /// A character is not valid in an attribute name. The first such character is reported.
     #[error("a character is not valid in an attribute name")]
     BadAttrChar(char),
 }
@@ -35,7 +35,7 @@ pub enum NameFault {
 impl NameFault {
     ghost use Rattle.html_names.specs.NameFaults.{number_of};
 
-    /// The fault's number, from 0 to 7 in the order of the variants.
+    /// Returns the fault's number, from 0 to 7 in the order of the variants.
     pub fn number(&self) -> u8
         ensures { result ≡ number_of self.now }
     {

@@ -19,9 +19,9 @@ use std::fmt;
 use std::hash::{Hash, Hasher};
 use std::marker::Model;
 
-/// An attribute name. Two are equal where their texts are.
+/// An attribute name. Two names are equal if their texts are.
 ///
-/// A contract sees it as its text, a list of characters.
+/// In contracts it is its text, a list of characters.
 #[derive(Drop)]
 pub struct HtmlAttr {
     pub(crate) name: Name,
@@ -78,8 +78,8 @@ fn fault_at(place: Option<u8>, text: &str) -> Option<NameFault>
 }
 
 impl HtmlAttr {
-    /// The name of this text, or the first that is wrong with it: it is empty, or a character is
-    /// not valid in an attribute name (HTML Standard 13.1.2.3).
+    /// Creates the attribute name with this text. Fails with the first fault of the text: it is
+    /// empty, or a character is not valid in an attribute name (HTML Standard 13.1.2.3).
     ///
     /// A known name takes no memory.
     ///
@@ -96,7 +96,7 @@ impl HtmlAttr {
     pub fn intern(alloc: Global, text: &str) -> Result<HtmlAttr, NameFault>
         ensures name { let name = chars text.now in
             Gives result name (option_to_list (attr_fault name)) }
-        // Memory is wanted only for a name that is valid and not known.
+        // An allocation can fail only for a name that is valid and not known.
         ensures memory { let name = chars text.now in
             IfErr result (λ fault. OnOutOfMemory fault
             ((attr_fault name ≡ None) × (is_known_attr name ≡ false))) }
@@ -108,8 +108,8 @@ impl HtmlAttr {
         Ok(HtmlAttr::make(alloc, place, text)?)
     }
 
-    /// The name of a text that the caller knows to be one: not empty, and of valid ASCII
-    /// characters.
+    /// Creates the attribute name with this text. The text must be valid: not empty, and of ASCII
+    /// characters that are valid in an attribute name. Fails only if an allocation fails.
     ///
     /// A known name takes no memory.
     #[tactic(auto, using(crate::proofs::Faults::constants))]
@@ -133,7 +133,7 @@ impl HtmlAttr {
         })
     }
 
-    /// A copy. One of a known name takes no memory.
+    /// Returns a copy of the name. Fails only if an allocation fails. A known name takes no memory.
     pub fn try_clone(&self) -> Result<HtmlAttr, AllocError>
         ensures copy { IfOk result (λ attr. attr ≡ self.now) }
         ensures memory { OnErr result (is_known_attr self.now ≡ false) }
@@ -143,7 +143,7 @@ impl HtmlAttr {
         })
     }
 
-    /// The name's text, which is valid in a start tag.
+    /// Returns the name's text: not empty, and of characters that are valid in an attribute name.
     #[tactic(auto, using(crate::proofs::Held::attr_texts, crate::proofs::Held::attr_valid))]
     pub fn resolve(&self) -> &str
         ensures text { chars result.now ≡ self.now }
@@ -185,7 +185,7 @@ impl Hash for HtmlAttr {
     }
 }
 
-/// `name`
+/// Writes the text of the name: `href`.
 #[tactic(auto, using(crate::proofs::Lists::in_characters))]
 impl fmt::Display for HtmlAttr {
     ghost use Rattle.std.specs.Prelude.{Some};
@@ -198,7 +198,7 @@ impl fmt::Display for HtmlAttr {
     }
 }
 
-/// `name`
+/// Writes the text of the name: `href`.
 #[tactic(auto, using(crate::proofs::Lists::in_characters))]
 impl fmt::Debug for HtmlAttr {
     ghost use Rattle.std.specs.Prelude.{Some};

@@ -19,9 +19,9 @@ use std::fmt;
 use std::hash::{Hash, Hasher};
 use std::marker::Model;
 
-/// A tag name. Two are equal where their texts are.
+/// A tag name. Two names are equal if their texts are.
 ///
-/// A contract sees it as its text, a list of characters.
+/// In contracts it is its text, a list of characters.
 #[derive(Drop)]
 pub struct HtmlTag {
     pub(crate) name: Name,
@@ -41,7 +41,7 @@ impl Model for HtmlTag {
     ghost invariant = { λ t. IsHeld tag_count known_tags is_tag_char t.name };
 }
 
-/// The names that HTML keeps for SVG and MathML, and that no custom element may have.
+/// The names that HTML reserves for SVG and MathML. No custom element may have one of them.
 const RESERVED: [&str; 8] = [
     "annotation-xml",
     "color-profile",
@@ -87,7 +87,7 @@ fn is_reserved(text: &str) -> bool
     is_one_of(&RESERVED, text)
 }
 
-/// What is wrong with a name that has a hyphen.
+/// Returns the first fault of a name with a hyphen, if it has one.
 fn custom_fault(text: &str) -> Option<NameFault>
     ensures { result ≡ custom_fault (chars text.now) }
 {
@@ -137,9 +137,10 @@ fn fault_at(place: Option<u8>, text: &str) -> Option<NameFault>
 }
 
 impl HtmlTag {
-    /// The name of this text, or the first that is wrong with it: it is empty, a character is not
-    /// valid in a tag name (HTML Standard 13.1.2), or a name with a hyphen does not begin with a
-    /// small ASCII letter, has an ASCII capital or is reserved (HTML Standard 4.13.2).
+    /// Creates the tag name with this text. Fails with the first fault of the text: it is empty, a
+    /// character is not valid in a tag name (HTML Standard 13.1.2), or a name with a hyphen does
+    /// not begin with a lowercase ASCII letter, contains an uppercase one or is reserved (HTML
+    /// Standard 4.13.2).
     ///
     /// A known name takes no memory.
     ///
@@ -157,7 +158,7 @@ impl HtmlTag {
     pub fn intern(alloc: Global, text: &str) -> Result<HtmlTag, NameFault>
         ensures name { let name = chars text.now in
             Gives result name (option_to_list (tag_fault name)) }
-        // Memory is wanted only for a name that is valid and not known.
+        // An allocation can fail only for a name that is valid and not known.
         ensures memory { let name = chars text.now in
             IfErr result (λ fault. OnOutOfMemory fault
             ((tag_fault name ≡ None) × (is_known_tag name ≡ false))) }
@@ -169,9 +170,10 @@ impl HtmlTag {
         Ok(HtmlTag::make(alloc, place, text)?)
     }
 
-    /// The name of a text that the caller knows to be one: not empty, and of valid ASCII
-    /// characters.
-    /// Unlike `intern` it takes reserved names and any name with a hyphen.
+    /// Creates the tag name with this text. The text must be valid: not empty, and of characters
+    /// that are valid in a tag name. Fails only if an allocation fails.
+    ///
+    /// Unlike `intern`, it accepts reserved names and any name with a hyphen.
     ///
     /// A known name takes no memory.
     #[tactic(auto, using(crate::proofs::Faults::constants))]
@@ -194,7 +196,7 @@ impl HtmlTag {
         })
     }
 
-    /// A copy. One of a known name takes no memory.
+    /// Returns a copy of the name. Fails only if an allocation fails. A known name takes no memory.
     pub fn try_clone(&self) -> Result<HtmlTag, AllocError>
         ensures copy { IfOk result (λ tag. tag ≡ self.now) }
         ensures memory { OnErr result (is_known_tag self.now ≡ false) }
@@ -204,7 +206,7 @@ impl HtmlTag {
         })
     }
 
-    /// The name's text, which is valid in a start tag.
+    /// Returns the name's text: not empty, and of characters that are valid in a tag name.
     #[tactic(auto, using(crate::proofs::Held::tag_texts, crate::proofs::Held::tag_valid))]
     pub fn resolve(&self) -> &str
         ensures text { chars result.now ≡ self.now }
@@ -246,7 +248,7 @@ impl Hash for HtmlTag {
     }
 }
 
-/// `<name>`
+/// Writes the name as a start tag: `<h2>`.
 #[tactic(auto, using(crate::proofs::Lists::in_characters))]
 impl fmt::Display for HtmlTag {
     ghost use Rattle.std.specs.Prelude.{codes, ◌++◌, Some};
@@ -260,7 +262,7 @@ impl fmt::Display for HtmlTag {
     }
 }
 
-/// `<name>`
+/// Writes the name as a start tag: `<h2>`.
 #[tactic(auto, using(crate::proofs::Lists::in_characters))]
 impl fmt::Debug for HtmlTag {
     ghost use Rattle.std.specs.Prelude.{codes, ◌++◌, Some};

@@ -1,4 +1,4 @@
-//! Kinds of elements, each a set of names.
+//! Tests for kinds of elements. Each kind is a set of names.
 
 ghost use Rattle.std.specs.Prelude.{◌≡◌};
 ghost use Rattle.html_names.specs.Kinds as kinds;
@@ -11,7 +11,7 @@ use crate::table::{
     SECTIONING, TOKEN, VOID,
 };
 
-/// Whether the element is void: it has no content and no end tag (HTML Standard 13.1.2).
+/// Returns whether the element is void: it has no content and no end tag (HTML Standard 13.1.2).
 #[tactic(auto, using(crate::proofs::ByTable::void_by_table))]
 pub fn is_void(tag: &HtmlTag) -> bool
     ensures { result ≡ kinds.is_void tag.now }
@@ -19,7 +19,7 @@ pub fn is_void(tag: &HtmlTag) -> bool
     tag.name.is_of(VOID)
 }
 
-/// Whether the element holds raw text (HTML Standard 13.1.2).
+/// Returns whether the element is a raw text element (HTML Standard 13.1.2).
 #[tactic(auto, using(crate::proofs::ByTable::raw_by_table))]
 pub fn is_raw(tag: &HtmlTag) -> bool
     ensures { result ≡ kinds.is_raw tag.now }
@@ -27,7 +27,7 @@ pub fn is_raw(tag: &HtmlTag) -> bool
     tag.name.is_of(RAW)
 }
 
-/// Whether the element holds escapable raw text (HTML Standard 13.1.2).
+/// Returns whether the element is an escapable raw text element (HTML Standard 13.1.2).
 #[tactic(auto, using(crate::proofs::ByTable::escapable_raw_by_table))]
 pub fn is_escapable_raw(tag: &HtmlTag) -> bool
     ensures { result ≡ kinds.is_escapable_raw tag.now }
@@ -35,7 +35,7 @@ pub fn is_escapable_raw(tag: &HtmlTag) -> bool
     tag.name.is_of(ESCAPABLE_RAW)
 }
 
-/// Whether the foreign element is written self-closing.
+/// Returns whether the element is a foreign one that is written self-closing.
 #[tactic(auto, using(crate::proofs::ByTable::foreign_self_closing_by_table))]
 pub fn is_foreign_self_closing(tag: &HtmlTag) -> bool
     ensures { result ≡ kinds.is_foreign_self_closing tag.now }
@@ -43,7 +43,7 @@ pub fn is_foreign_self_closing(tag: &HtmlTag) -> bool
     tag.name.is_of(FOREIGN_SELF_CLOSING)
 }
 
-/// Whether the element is metadata content (HTML Standard 3.2.5.2.1).
+/// Returns whether the element is metadata content (HTML Standard 3.2.5.2.1).
 #[tactic(auto, using(crate::proofs::ByTable::metadata_content_by_table))]
 pub fn is_metadata_content(tag: &HtmlTag) -> bool
     ensures { result ≡ kinds.is_metadata_content tag.now }
@@ -51,7 +51,7 @@ pub fn is_metadata_content(tag: &HtmlTag) -> bool
     tag.name.is_of(METADATA)
 }
 
-/// Whether the element is sectioning content (HTML Standard 3.2.5.2.3).
+/// Returns whether the element is sectioning content (HTML Standard 3.2.5.2.3).
 #[tactic(auto, using(crate::proofs::ByTable::sectioning_content_by_table))]
 pub fn is_sectioning_content(tag: &HtmlTag) -> bool
     ensures { result ≡ kinds.is_sectioning_content tag.now }
@@ -59,7 +59,7 @@ pub fn is_sectioning_content(tag: &HtmlTag) -> bool
     tag.name.is_of(SECTIONING)
 }
 
-/// Whether the element is heading content (HTML Standard 3.2.5.2.4).
+/// Returns whether the element is heading content (HTML Standard 3.2.5.2.4).
 #[tactic(auto, using(crate::proofs::ByTable::heading_content_by_table))]
 pub fn is_heading_content(tag: &HtmlTag) -> bool
     ensures { result ≡ kinds.is_heading_content tag.now }
@@ -67,7 +67,7 @@ pub fn is_heading_content(tag: &HtmlTag) -> bool
     tag.name.is_of(HEADING)
 }
 
-/// Whether the element is phrasing content (HTML Standard 3.2.5.2.5).
+/// Returns whether the element is phrasing content (HTML Standard 3.2.5.2.5).
 #[tactic(auto, using(crate::proofs::ByTable::phrasing_content_by_table))]
 pub fn is_phrasing_content(tag: &HtmlTag) -> bool
     ensures { result ≡ kinds.is_phrasing_content tag.now }
@@ -75,7 +75,7 @@ pub fn is_phrasing_content(tag: &HtmlTag) -> bool
     tag.name.is_of(PHRASING)
 }
 
-/// Whether the element is embedded content (HTML Standard 3.2.5.2.6).
+/// Returns whether the element is embedded content (HTML Standard 3.2.5.2.6).
 #[tactic(auto, using(crate::proofs::ByTable::embedded_content_by_table))]
 pub fn is_embedded_content(tag: &HtmlTag) -> bool
     ensures { result ≡ kinds.is_embedded_content tag.now }
@@ -83,7 +83,7 @@ pub fn is_embedded_content(tag: &HtmlTag) -> bool
     tag.name.is_of(EMBEDDED)
 }
 
-/// Whether the element is interactive content (HTML Standard 3.2.5.2.7).
+/// Returns whether the element is interactive content (HTML Standard 3.2.5.2.7).
 #[tactic(auto, using(crate::proofs::ByTable::interactive_content_by_table))]
 pub fn is_interactive_content(tag: &HtmlTag) -> bool
     ensures { result ≡ kinds.is_interactive_content tag.now }
@@ -91,7 +91,7 @@ pub fn is_interactive_content(tag: &HtmlTag) -> bool
     tag.name.is_of(INTERACTIVE)
 }
 
-/// Whether the element supports scripts (HTML Standard 3.2.5.2.9).
+/// Returns whether the element is a script-supporting element (HTML Standard 3.2.5.2.9).
 #[tactic(auto, using(crate::proofs::ByTable::script_supporting_element_by_table))]
 pub fn is_script_supporting_element(tag: &HtmlTag) -> bool
     ensures { result ≡ kinds.is_script_supporting_element tag.now }
@@ -99,7 +99,7 @@ pub fn is_script_supporting_element(tag: &HtmlTag) -> bool
     tag.name.is_of(SCRIPT_SUPPORTING)
 }
 
-/// Whether the element is replaced: CSS sees one object in its place.
+/// Returns whether the element is replaced, that is, a single object for CSS.
 #[tactic(auto, using(crate::proofs::ByTable::replaced_by_table))]
 pub fn is_replaced(tag: &HtmlTag) -> bool
     ensures { result ≡ kinds.is_replaced tag.now }
@@ -107,7 +107,7 @@ pub fn is_replaced(tag: &HtmlTag) -> bool
     tag.name.is_of(REPLACED)
 }
 
-/// Whether the element is one of MathML.
+/// Returns whether the element is one of MathML.
 #[tactic(auto, using(crate::proofs::ByTable::mathml_by_table))]
 pub fn is_mathml(tag: &HtmlTag) -> bool
     ensures { result ≡ kinds.is_mathml tag.now }
@@ -115,7 +115,7 @@ pub fn is_mathml(tag: &HtmlTag) -> bool
     tag.name.is_of(MATHML)
 }
 
-/// Whether the element is a token of MathML: text stands directly in it.
+/// Returns whether the element is a token element of MathML, which contains text directly.
 #[tactic(auto, using(crate::proofs::ByTable::token_by_table))]
 pub fn is_token(tag: &HtmlTag) -> bool
     ensures { result ≡ kinds.is_token tag.now }
@@ -123,7 +123,7 @@ pub fn is_token(tag: &HtmlTag) -> bool
     tag.name.is_of(TOKEN)
 }
 
-/// Whether the element is foreign, as those of MathML are (HTML Standard 13.1.2).
+/// Returns whether the element is foreign, as the elements of MathML are (HTML Standard 13.1.2).
 pub fn is_foreign(tag: &HtmlTag) -> bool
     ensures { result ≡ kinds.is_foreign tag.now }
 {
@@ -144,29 +144,28 @@ fn is_not_palpable(tag: &HtmlTag) -> bool
     tag.name.is_of(NOT_PALPABLE)
 }
 
-/// Whether the element is flow content (HTML Standard 3.2.5.2.2).
+/// Returns whether the element is flow content (HTML Standard 3.2.5.2.2).
 pub fn is_flow_content(tag: &HtmlTag) -> bool
     ensures { result ≡ kinds.is_flow_content tag.now }
 {
     is_phrasing_content(tag) || is_flow_beside_phrasing(tag)
 }
 
-/// Whether the element is palpable content (HTML Standard 3.2.5.2.8).
+/// Returns whether the element is palpable content (HTML Standard 3.2.5.2.8).
 pub fn is_palpable_content(tag: &HtmlTag) -> bool
     ensures { result ≡ kinds.is_palpable_content tag.now }
 {
     is_flow_content(tag) && !is_not_palpable(tag)
 }
 
-/// Whether white space beside the element's tags goes when a browser lays it out: its default
-/// display makes a border, or it is `br`.
+/// Returns whether a browser removes white space beside the element's tags when it lays out the
+/// page: whether its default display makes a border, or it is `br`.
 pub fn is_whitespace_collapsing(tag: &HtmlTag) -> bool
     ensures { result ≡ kinds.is_whitespace_collapsing tag.now }
 {
     is_line_break(tag) || Display::default_for(tag).is_some_and(|display| display.is_border())
 }
 
-/// Whether the element is `br`.
 #[tactic(auto, using(crate::proofs::ByTable::line_break_by_table))]
 fn is_line_break(tag: &HtmlTag) -> bool
     ensures { result ≡ kinds.is_line_break tag.now }
@@ -174,8 +173,8 @@ fn is_line_break(tag: &HtmlTag) -> bool
     tag.name.is_of(LINE_BREAK)
 }
 
-/// Whether the element may stand in a paragraph that its neighbours form: phrasing content that is
-/// not hidden by default.
+/// Returns whether the element can be part of a paragraph that is formed from neighbouring nodes:
+/// whether it is phrasing content and not hidden by default.
 pub fn should_group_into_pars(tag: &HtmlTag) -> bool
     ensures { result ≡ kinds.should_group_into_pars tag.now }
 {

@@ -1,4 +1,4 @@
-//! Laws of this crate's types and constants, each the contract of a function.
+//! Laws of this crate's types and constants, as contracts of functions.
 
 ghost use Rattle.std.specs.Prelude.{◌≡◌, ◌↔◌, IsTrue, IfOk, OnErr, OnOk, false};
 ghost use Rattle.html_names.specs.Names.{stands_in};
@@ -8,7 +8,7 @@ use crate::property::Display;
 use crate::{HtmlAttr, HtmlTag, NameFault, NameTable, Refused};
 use std::alloc::AllocError;
 
-/// Constants, each after its identifier.
+/// Makes an array of constants, each paired with its identifier.
 macro_rules! identified {
     ($($name:ident,)*) => { [$((stringify!($name), $name)),*] };
 }
@@ -16,28 +16,28 @@ macro_rules! identified {
 pub mod attrs;
 pub mod tags;
 
-/// Displays are equal where they are the same.
+/// Displays are equal if they are the same.
 pub fn equal_displays(a: Display, b: Display) -> bool
     ensures { IsTrue result ↔ (a ≡ b) }
 {
     a == b
 }
 
-/// Faults of names are equal where they are the same, with the same character.
+/// Faults of names are equal if they are the same variant with the same character.
 pub fn equal_name_faults(a: NameFault, b: NameFault) -> bool
     ensures { IsTrue result ↔ (a ≡ b) }
 {
     a == b
 }
 
-/// Refused calls are equal where what comes back is.
+/// Two `Refused` are equal if the values in `back` are.
 pub fn equal_refused<T: PartialEq>(a: &Refused<T>, b: &Refused<T>) -> bool
     ensures { result ≡ T.eq a.now.back b.now.back }
 {
     a == b
 }
 
-/// Two tags have one number exactly where their texts are equal.
+/// Two tags have the same number if and only if their texts are equal.
 #[tactic(auto, using(crate::proofs::NameTables::equal_numbers))]
 pub fn equal_tag_numbers(
     names: &mut NameTable,
@@ -52,7 +52,7 @@ pub fn equal_tag_numbers(
     Ok(names.tag(a)? == names.tag(b)?)
 }
 
-/// A number stays when another of the tags gets one.
+/// A tag keeps its number when another tag gets one.
 #[tactic(auto, using(crate::proofs::NameTables::stays))]
 pub fn tag_number_stays(
     names: &mut NameTable,
@@ -69,7 +69,7 @@ pub fn tag_number_stays(
     Ok(names.tag(given)? == number)
 }
 
-/// What stands at the number of one of the tags has its text.
+/// The tag at the number of a given tag is equal to it.
 pub fn tag_at_number(names: &mut NameTable, given: &HtmlTag) -> Result<bool, AllocError>
     ensures numbers { IfOk result (λ same. IsTrue same) }
     ensures names { OnOk result (names.new ≡ with_tag names.old given.now) }
@@ -80,7 +80,7 @@ pub fn tag_at_number(names: &mut NameTable, given: &HtmlTag) -> Result<bool, All
     Ok(names.tag_at(number) == given)
 }
 
-/// Two attributes have one number exactly where their texts are equal.
+/// Two attributes have the same number if and only if their texts are equal.
 #[tactic(auto, using(crate::proofs::NameTables::equal_numbers))]
 pub fn equal_attr_numbers(
     names: &mut NameTable,
@@ -95,7 +95,7 @@ pub fn equal_attr_numbers(
     Ok(names.attr(a)? == names.attr(b)?)
 }
 
-/// A number stays when another of the attributes gets one.
+/// An attribute keeps its number when another attribute gets one.
 #[tactic(auto, using(crate::proofs::NameTables::stays))]
 pub fn attr_number_stays(
     names: &mut NameTable,
@@ -112,7 +112,7 @@ pub fn attr_number_stays(
     Ok(names.attr(given)? == number)
 }
 
-/// What stands at the number of one of the attributes has its text.
+/// The attribute at the number of a given attribute is equal to it.
 pub fn attr_at_number(names: &mut NameTable, given: &HtmlAttr) -> Result<bool, AllocError>
     ensures numbers { IfOk result (λ same. IsTrue same) }
     ensures names { OnOk result (names.new ≡ with_attr names.old given.now) }

@@ -1,7 +1,7 @@
-//! Names of HTML and MathML: tags, attributes, the kinds of elements, their default displays, and
-//! the characters of which names, values and texts are made.
+//! Names of HTML and MathML: tags and attributes, the kinds of elements, their default displays,
+//! and the characters that are valid in names, values and texts.
 //!
-//! A contract sees a name as its text, a list of characters.
+//! In contracts a name is its text, a list of characters.
 //!
 //! ```
 //! use html_names::{HtmlTag, attr, tag};

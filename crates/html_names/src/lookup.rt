@@ -1,12 +1,14 @@
-//! Looking a text up in a table of names, for this crate and those above.
+//! Lookup of a text in a table of names, for this crate and those that build on it.
 
 ghost use Rattle.std.specs.Prelude.{◌≡◌, chars, IsTrue};
 ghost use Rattle.html_names.specs.Held.{IsLookup};
 ghost use Rattle.html_names.specs.Names.{are_ascii, stands_in, texts};
 ghost use Rattle.html_names.specs.Starts.{are_starts};
 
-/// The place of the text in a table of ASCII names, where it stands there. Only the names that begin
-/// with the text's first letter are looked at, whose places `starts` tells.
+/// Returns the index of the text in a table of ASCII names, if the table contains it.
+///
+/// `starts` holds the index of the first name with each first letter, from `a` to `z`, and the end.
+/// Only the names with the text's first letter are compared.
 pub fn place_in(table: &[&'static str], starts: &[u8; 27], text: &str) -> Option<u8>
     requires ascii { IsTrue (are_ascii (texts table.now)) }
     requires starts { IsTrue (are_starts starts.now (texts table.now)) }
@@ -37,7 +39,7 @@ fn stands_in(names: &[&'static str], text: &str) -> bool
     false
 }
 
-/// Whether the text is one of a table of ASCII names.
+/// Returns whether a table of ASCII names contains the text.
 #[tactic(auto, using(crate::proofs::Lists::in_characters))]
 pub fn is_one_of(names: &[&'static str], text: &str) -> bool
     requires { IsTrue (are_ascii (texts names.now)) }

@@ -8,7 +8,7 @@ use std::alloc::{AllocError, Global};
 
 #[derive(Drop)]
 pub(crate) enum Name {
-    /// The place of a known name in its table.
+    /// The index of a known name in its table.
     Known(u8),
     /// The text of another name.
     Own(String),
@@ -31,7 +31,7 @@ impl Name {
         }
     }
 
-    /// The name of that text: its place where one is given, else the text itself.
+    /// Creates the name with this text, from the index if there is one, otherwise from the text.
     pub(crate) fn make(alloc: Global, place: Option<u8>, text: &str) -> Result<Name, AllocError>
         ensures name { IfOk result (IsMade place (chars text.now)) }
         ensures memory { OnErr result (place ≡ None) }
@@ -64,7 +64,7 @@ impl Name {
         }
     }
 
-    /// Whether it is the name of a known tag of that kind.
+    /// Returns whether it is the name of a known tag of this kind.
     pub(crate) fn is_of(&self, kind: u32) -> bool
         requires { IsWithin tag_count self.now }
         ensures { result ≡ name_has kind self.now }

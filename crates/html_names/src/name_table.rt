@@ -16,10 +16,10 @@ mod number_map;
 
 use number_map::NumberMap;
 
-/// Numbers for names: each tag, and each attribute, gets the next number from 0 when it is first
-/// asked for, and keeps it. Tags and attributes are numbered apart.
+/// A table that numbers names. Each tag and each attribute gets the next number, from 0 on, at its
+/// first lookup, and keeps it. Tags and attributes are numbered separately.
 ///
-/// A contract sees the table as the texts of its tags and of its attributes, in the order of their
+/// In contracts the table is the texts of its tags and of its attributes, in the order of their
 /// numbers.
 ///
 /// ```
@@ -60,7 +60,7 @@ impl Model for NameTable {
 }
 
 impl NameTable {
-    /// A table in which no name has a number. It takes no memory.
+    /// Creates a table in which no name has a number. It takes no memory.
     pub fn new(alloc: Global) -> NameTable
         ensures { result ≡ no_names }
     {
@@ -72,12 +72,12 @@ impl NameTable {
         }
     }
 
-    /// The number of a tag: the one that it has, else the next.
+    /// Returns the number of a tag: its own if it has one, otherwise the next.
     ///
-    /// Where an allocation fails, the table stays as it was. A tag that has a number takes no
+    /// If an allocation fails, the table is unchanged. A tag that has a number takes no
     /// memory.
     ///
-    /// Cost: an index for a known name, and a search in an ordered map for another.
+    /// Indexes a table for a known name, and searches an ordered map for another.
     pub fn tag(&mut self, tag: &HtmlTag) -> Result<usize, AllocError>
         ensures { Numbers result self.old.tags self.new.tags tag.now self.old self.new
             (with_tag self.old tag.now) }
@@ -88,7 +88,8 @@ impl NameTable {
         self.add_tag(tag.try_clone()?)
     }
 
-    /// The number of a tag, as `tag` gives it. A tag without a number is moved into the table.
+    /// Consumes a tag and returns its number, as `tag` does. Moves a tag without a number into the
+    /// table instead of copying it.
     pub fn insert_tag(&mut self, tag: HtmlTag) -> Result<usize, AllocError>
         ensures { Numbers result self.old.tags self.new.tags tag self.old self.new
             (with_tag self.old tag) }
@@ -111,12 +112,12 @@ impl NameTable {
         Ok(number)
     }
 
-    /// The number of an attribute: the one that it has, else the next.
+    /// Returns the number of an attribute: its own if it has one, otherwise the next.
     ///
-    /// Where an allocation fails, the table stays as it was. An attribute that has a number takes no
+    /// If an allocation fails, the table is unchanged. An attribute that has a number takes no
     /// memory.
     ///
-    /// Cost: an index for a known name, and a search in an ordered map for another.
+    /// Indexes a table for a known name, and searches an ordered map for another.
     pub fn attr(&mut self, attr: &HtmlAttr) -> Result<usize, AllocError>
         ensures { Numbers result self.old.attrs self.new.attrs attr.now self.old self.new
             (with_attr self.old attr.now) }
@@ -127,7 +128,8 @@ impl NameTable {
         self.add_attr(attr.try_clone()?)
     }
 
-    /// The number of an attribute, as `attr` gives it. An attribute without a number is moved into the table.
+    /// Consumes an attribute and returns its number, as `attr` does. Moves an attribute without a
+    /// number into the table instead of copying it.
     pub fn insert_attr(&mut self, attr: HtmlAttr) -> Result<usize, AllocError>
         ensures { Numbers result self.old.attrs self.new.attrs attr self.old self.new
             (with_attr self.old attr) }
@@ -150,7 +152,7 @@ impl NameTable {
         Ok(number)
     }
 
-    /// How many tags have a number. No two of them are equal.
+    /// Returns how many tags have a number. No two of these tags are equal.
     pub fn tags(&self) -> usize
         ensures count { result ≡ length self.now.tags }
         ensures numbered { IsNumbered self.now.tags }
@@ -158,7 +160,7 @@ impl NameTable {
         self.kept_tags.len()
     }
 
-    /// How many attributes have a number. No two of them are equal.
+    /// Returns how many attributes have a number. No two of these attributes are equal.
     pub fn attrs(&self) -> usize
         ensures count { result ≡ length self.now.attrs }
         ensures numbered { IsNumbered self.now.attrs }
@@ -166,7 +168,7 @@ impl NameTable {
         self.kept_attrs.len()
     }
 
-    /// The tag of that number.
+    /// Returns the tag with this number.
     pub fn tag_at(&self, number: usize) -> &HtmlTag
         requires { number < length self.now.tags }
         ensures { result.now ≡ name_at self.now.tags number }
@@ -174,7 +176,7 @@ impl NameTable {
         &self.kept_tags[number]
     }
 
-    /// The attribute of that number.
+    /// Returns the attribute with this number.
     pub fn attr_at(&self, number: usize) -> &HtmlAttr
         requires { number < length self.now.attrs }
         ensures { result.now ≡ name_at self.now.attrs number }
@@ -182,7 +184,7 @@ impl NameTable {
         &self.kept_attrs[number]
     }
 
-    /// Whether the tag of that number is of a void element, as `tag::is_void` says.
+    /// Returns whether the tag with this number names a void element, as `tag::is_void` does.
     pub fn is_void(&self, number: usize) -> bool
         requires { number < length self.now.tags }
         ensures { result ≡ kinds.is_void (name_at self.now.tags number) }
@@ -190,7 +192,7 @@ impl NameTable {
         kind::is_void(&self.kept_tags[number])
     }
 
-    /// Whether the tag of that number is of an element of raw text, as `tag::is_raw` says.
+    /// Returns whether the tag with this number names a raw text element, as `tag::is_raw` does.
     pub fn is_raw(&self, number: usize) -> bool
         requires { number < length self.now.tags }
         ensures { result ≡ kinds.is_raw (name_at self.now.tags number) }
@@ -198,8 +200,8 @@ impl NameTable {
         kind::is_raw(&self.kept_tags[number])
     }
 
-    /// Whether the tag of that number is of an element of escapable raw text, as
-    /// `tag::is_escapable_raw` says.
+    /// Returns whether the tag with this number names an escapable raw text element, as
+    /// `tag::is_escapable_raw` does.
     pub fn is_escapable_raw(&self, number: usize) -> bool
         requires { number < length self.now.tags }
         ensures { result ≡ kinds.is_escapable_raw (name_at self.now.tags number) }
@@ -207,8 +209,8 @@ impl NameTable {
         kind::is_escapable_raw(&self.kept_tags[number])
     }
 
-    /// Whether the tag of that number is of a foreign element that is written self-closing, as
-    /// `tag::is_foreign_self_closing` says.
+    /// Returns whether the tag with this number names a foreign element that is written
+    /// self-closing, as `tag::is_foreign_self_closing` does.
     pub fn is_foreign_self_closing(&self, number: usize) -> bool
         requires { number < length self.now.tags }
         ensures { result ≡ kinds.is_foreign_self_closing (name_at self.now.tags number) }
@@ -216,7 +218,7 @@ impl NameTable {
         kind::is_foreign_self_closing(&self.kept_tags[number])
     }
 
-    /// The default display of the tag of that number, as `Display::default_for` says.
+    /// Returns the default display of the tag with this number, as `Display::default_for` does.
     pub fn default_for(&self, number: usize) -> Option<Display>
         requires { number < length self.now.tags }
         ensures { result ≡ default_display (name_at self.now.tags number) }
@@ -225,7 +227,7 @@ impl NameTable {
     }
 }
 
-/// `NameTable`
+/// Writes `NameTable`.
 impl fmt::Debug for NameTable {
     ghost use Rattle.std.specs.Prelude.{codes, Some};
 

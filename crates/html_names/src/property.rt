@@ -4,7 +4,7 @@ ghost use Rattle.std.specs.Prelude.{◌≡◌};
 
 use crate::html_tag::HtmlTag;
 
-/// A value of the css property `display` (CSS Display 3, MathML Core 4.1), spelled as `as_str` tells.
+/// A value of the css property `display` (CSS Display 3, MathML Core 4.1), spelled as in `as_str`.
 #[rattlefmt::skip]
 #[derive(Clone, Copy, Debug, PartialEq, Eq, Hash)]
 pub enum Display {
@@ -21,8 +21,8 @@ pub enum Display {
 impl Display {
     ghost use Rattle.html_names.specs.Displays.{default_display, is_tabular, is_border, display_text};
 
-    /// The display that a tag has without a style sheet, where it has one: this project's profile
-    /// of HTML Standard 15.3.
+    /// Returns the display that elements with this tag have without a style sheet, if they have
+    /// one. The defaults are this project's profile of HTML Standard 15.3.
     #[tactic(auto, using(crate::proofs::ByTable::display_by_table))]
     pub fn default_for(tag: &HtmlTag) -> Option<Display>
         ensures { result ≡ default_display tag.now }
@@ -30,7 +30,7 @@ impl Display {
         tag.name.display()
     }
 
-    /// Whether it is a table or a part of one.
+    /// Returns whether the display is that of a table or a part of one.
     #[rattlefmt::skip]
     pub fn is_tabular(self) -> bool
         ensures { result ≡ is_tabular self }
@@ -43,7 +43,7 @@ impl Display {
         )
     }
 
-    /// Whether a line ends before and after what has this display.
+    /// Returns whether a line ends before and after an element with this display.
     #[rattlefmt::skip]
     pub fn is_border(self) -> bool
         ensures { result ≡ is_border self }
@@ -56,7 +56,7 @@ impl Display {
         )
     }
 
-    /// The css text.
+    /// Returns the css text.
     pub fn as_str(self) -> &'static str
         ensures { result.now ≡ display_text self }
     {

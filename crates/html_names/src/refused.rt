@@ -5,9 +5,9 @@ use std::alloc::AllocError;
 use std::error::Error;
 use std::fmt;
 
-/// An allocation failed in a call that consumes values: they come back unchanged.
+/// The error of a failed allocation in a call that consumes values. It holds them unchanged.
 ///
-/// It is an error whatever comes back, so that `?` hands it on as any other.
+/// It implements `Error` for every type of value, so that `?` passes it on as any other error.
 ///
 /// ```
 /// use html_names::Refused;
@@ -22,12 +22,12 @@ use std::fmt;
 /// ```
 #[derive(Drop, PartialEq, Eq)]
 pub struct Refused<T> {
-    /// What the call had consumed.
+    /// The value that the call consumed.
     pub back: T,
 }
 
 impl<T> Refused<T> {
-    /// The number of "out of memory" among the faults: 0.
+    /// Returns 0, the number of "out of memory" among the faults.
     pub fn number(&self) -> u8
         ensures { result ≡ 0 }
     {
@@ -35,7 +35,7 @@ impl<T> Refused<T> {
     }
 }
 
-/// `out of memory`
+/// Writes `out of memory`.
 impl<T> fmt::Display for Refused<T> {
     ghost use Rattle.std.specs.Prelude.{codes, Some};
 
@@ -46,7 +46,7 @@ impl<T> fmt::Display for Refused<T> {
     }
 }
 
-/// `Refused(..)`
+/// Writes `Refused(..)`.
 impl<T> fmt::Debug for Refused<T> {
     ghost use Rattle.std.specs.Prelude.{codes, Some};
 

@@ -6,11 +6,11 @@ ghost use Rattle.html_names.specs.Texts.{two_digits};
 use std::alloc::{AllocError, Global};
 use std::marker::Model;
 
-/// A text that is being written, by the crates above: who uses names needs none.
+/// A writer of texts for the crates that build on this one. Users of names do not need it.
 ///
-/// A contract sees it as its characters. Each call that adds to it either adds all that it says, or
-/// answers that an allocation failed, and then the text stays as it was; only after `push_decimal`
-/// and `push_hex` it may have any characters.
+/// In contracts it is the list of its characters. Each method that appends fails only if an
+/// allocation fails. The text is then unchanged, except after `push_decimal` and `push_hex`, which
+/// may leave any characters.
 #[derive(Drop)]
 pub struct TextWriter {
     text: String,
@@ -25,7 +25,7 @@ impl Model for TextWriter {
 }
 
 impl TextWriter {
-    /// The empty text.
+    /// Creates a writer with an empty text.
     #[tactic(auto, using(std::proofs::StrCases::chars_of_empty))]
     pub fn new(alloc: Global) -> TextWriter
         ensures { result ≡ [] }
@@ -35,7 +35,7 @@ impl TextWriter {
         }
     }
 
-    /// Adds a character.
+    /// Appends a character.
     pub fn push(&mut self, c: char) -> Result<(), AllocError>
         ensures added { OnOk result (self.new ≡ self.old ++ c ∷ []) }
         ensures kept { OnErr result (self.new ≡ self.old) }
@@ -44,7 +44,7 @@ impl TextWriter {
         Ok(())
     }
 
-    /// Adds a text.
+    /// Appends a text.
     pub fn push_str(&mut self, text: &str) -> Result<(), AllocError>
         ensures added { OnOk result (self.new ≡ self.old ++ chars text.now) }
         ensures kept { OnErr result (self.new ≡ self.old) }
@@ -53,7 +53,7 @@ impl TextWriter {
         Ok(())
     }
 
-    /// Adds a text of ASCII.
+    /// Appends an ASCII text.
     #[tactic(auto, using(crate::proofs::Lists::chars_ascii))]
     pub fn push_ascii(&mut self, text: &str) -> Result<(), AllocError>
         requires { IsTrue (is_ascii text.now) }
@@ -63,7 +63,7 @@ impl TextWriter {
         self.push_str(text)
     }
 
-    /// Adds a number in decimal digits.
+    /// Appends a number in decimal digits.
     pub fn push_decimal(&mut self, n: u64) -> Result<(), AllocError>
         ensures { OnOk result (self.new ≡ self.old ++ decimal n) }
     {
@@ -71,7 +71,7 @@ impl TextWriter {
         Ok(())
     }
 
-    /// Adds a number below a hundred in two decimal digits.
+    /// Appends a number below a hundred in two decimal digits.
     pub fn push_two_digits(&mut self, n: u8) -> Result<(), AllocError>
         requires { n < 100 }
         ensures added { OnOk result (self.new ≡ self.old ++ two_digits n) }
@@ -83,7 +83,7 @@ impl TextWriter {
         Ok(())
     }
 
-    /// Adds a number in small hexadecimal digits.
+    /// Appends a number in lowercase hexadecimal digits.
     pub fn push_hex(&mut self, n: u32) -> Result<(), AllocError>
         ensures { OnOk result (self.new ≡ self.old ++ digits 16 false n) }
     {
@@ -91,14 +91,14 @@ impl TextWriter {
         Ok(())
     }
 
-    /// The text so far.
+    /// Returns the text so far.
     pub fn as_str(&self) -> &str
         ensures { chars result.now ≡ self.now }
     {
         self.text.as_str()
     }
 
-    /// The text.
+    /// Consumes the writer and returns the text.
     pub fn into_string(self) -> String
         ensures { chars (string_bytes result) ≡ self }
     {

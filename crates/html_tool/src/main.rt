@@ -1,4 +1,4 @@
-//! The program: writes the HTML text of a tree or of items that standard input spells in JSON.
+//! A program that writes the HTML text of a tree or of items, which standard input spells in JSON.
 #![tactic(auto)]
 
 use html_tool_run::{Status, run, words_of};
@@ -10,8 +10,8 @@ fn main(rt: HostRuntime) -> ExitCode {
     ExitCode::from(outcome(&rt).code())
 }
 
-/// Runs `run` on the process's arguments, standard input and standard output. Arguments that are no
-/// UTF-8 count as wrong words, like no arguments at all.
+/// Calls `run` with the process's arguments, standard input and standard output. Arguments that are
+/// not UTF-8 count as wrong words, just as an empty list of arguments.
 fn outcome(rt: &HostRuntime) -> Status {
     let mut args = Vec::new(rt.alloc());
     match env::args(rt) {

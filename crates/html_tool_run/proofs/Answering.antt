@@ -11,7 +11,7 @@ use Rattle.html_tool_spell.specs.Reading.{IsNoJson}
 use Rattle.html_tool_run.specs.Replies.{GivesAnswer, GivesAnswerAt, Says}
 use Rattle.html_tool_spell.specs.NameRefusals.{Refusal}
 use Rattle.html_tool_spell.specs.Refusals.{Gives, IsFirst}
-use Rattle.html_tool_spell.specs.Spelling.{IsTold}
+use Rattle.html_tool_spell.specs.Spelling.{IsSpellingFault}
 use Rattle.html_tool_spell.specs.declared.fault.Fault.{Fault}
 use Rattle.html_tool_spell.specs.declared.fault.Fault.TheVariants.{OutOfMemory, BadInput, Refused}
 use Rattle.html_tool_spell.specs.declared.fault.InputPlace.{InputPlace}
@@ -39,7 +39,7 @@ left_said answer wanted (Text line column) h = absurd h
 left_said answer wanted (Form n) h = rw h refl
 
 pub name_said : {A : Type 0} (names others : A → List Refusal) (text : A → List ℕ)
-    (wanted : Left A) (f : Fault) → IsTold names wanted f
+    (wanted : Left A) (f : Fault) → IsSpellingFault names wanted f
     → Says (answer_to (λ a. first_refusal_or_text (names a ++ others a) (text a)) wanted) f
 name_said names others text wanted OutOfMemory h = tt
 name_said names others text wanted (BadInput place) h = left_said _ wanted place h
@@ -55,8 +55,8 @@ pub no_json_said : (answer : Data → Answer) (wanted : Option Data) (f : Fault)
     → IsNoJson wanted f → (at : TextPlace) × Says (answer_if (in_text at) answer wanted) f
 no_json_said answer wanted OutOfMemory h = ((0, 0), tt)
 no_json_said answer wanted (BadInput place) h =
-    let told = text_place place h.0 in
-    (told.0, rw h.1 (ap bad_input told.1))
+    let agrees = text_place place h.0 in
+    (agrees.0, rw h.1 (ap bad_input agrees.1))
 no_json_said answer wanted (Refused number span) h = absurd h
 
 pub json_said : (answer : Data → Answer) (wanted : Option Data) (d : Data)

@@ -1,4 +1,4 @@
--- What a run answers, and what it does to its reader and its writer.
+-- The answer of a run, and what the run does to its reader and its writer.
 use Rattle.std.specs.Prelude.{◌≡◌, ℕ, List, [], ◌∷◌, ◌++◌, map, Option, Some, None, IfSome, ◌⊎◌, Ok, Err, codes, Bool}
 use Rattle.std.specs.Io.KnownBytes.{Appends, Keeps}
 use Rattle.std.specs.Fmt.{decimal}
@@ -38,7 +38,7 @@ code_of Refused = 1
 code_of BadInput = 2
 code_of Failed = 3
 
--- a status, and the bytes that are written
+-- a status and the bytes that are written
 pub record Answer : Type 0 where
   pub status : Status
   pub line : List ℕ
@@ -52,19 +52,19 @@ bad_input_line (Form n) = codes "bad input at " ++ (decimal n ++ codes "\n")
 abbrev pub bad_input : InputPlace → Answer
 bad_input place = record { status = BadInput; line = bad_input_line place }
 
--- the first of several spans, 0 if there is none
+-- the first of the spans, or 0 if there is none
 abbrev pub first_span : List ℕ → ℕ
 first_span [] = 0
 first_span (span ∷ spans) = span
 
--- a fault of constructing: its number and its span
+-- the number and the span of a fault of a constructor
 abbrev pub construct_refusal : ConstructFaultView → Refusal
 construct_refusal construct.out_of_memory = (0, 0)
 construct_refusal (construct.cast_faults []) = (0, 0)
 construct_refusal (construct.cast_faults (f ∷ fs)) = (cast.number_of f.0, f.1)
 construct_refusal (construct.body_kind span) = (24, span)
 
--- a fault of a tree or of items, or of a call that makes them: its number and its span
+-- the number and the span of a fault of a tree or of items, or of a call that makes them
 abbrev pub fault_refusal : ExportFaultView → Refusal
 fault_refusal out_of_memory = (0, 0)
 fault_refusal (too_deep span) = (8, span)
@@ -86,7 +86,7 @@ refusal_line r = codes "refused: " ++ (decimal r.0 ++ (codes " at " ++ (decimal 
 abbrev pub refused_answer : Refusal → Answer
 refused_answer r = record { status = Refused; line = refusal_line r }
 
--- the first refusal, if there is one, and else the text
+-- the answer with the first refusal, or with the text if there is none
 abbrev pub first_refusal_or_text : List Refusal → (text : List ℕ) → Answer
 first_refusal_or_text [] text = record { status = Done; line = encodes text }
 first_refusal_or_text (r ∷ rs) text = refused_answer r
@@ -101,11 +101,11 @@ tree_text pretty e = document_text no_frames (options_of pretty) e
 abbrev pub tree_refusals : (pretty : Bool) → ElementView → List Refusal
 tree_refusals pretty e = map fault_refusal (root_faults no_frames (options_of pretty) e)
 
--- how deep the bodies of items may stand
+-- how deep the bodies of items may be nested
 abbrev pub depth_limit : ℕ
 depth_limit = 50
 
--- the text of items, of whose document nothing is known and which have no footnotes, and what is
+-- the text of items without footnotes and without information about their document, and what is
 -- wrong with them
 abbrev pub doc_text : (pretty : Bool) → ItemsView → List ℕ
 doc_text pretty items = export_text no_frames (options_of pretty) no_info items no_items
@@ -114,7 +114,7 @@ abbrev pub doc_refusals : (pretty : Bool) → ItemsView → List Refusal
 doc_refusals pretty items = map fault_refusal
     (export_faults depth_limit no_frames (options_of pretty) no_info items no_items)
 
--- names are refused before what is wrong with a tree or with items
+-- the answers to a tree and to items: names are refused before other faults
 unfoldable pub tree_answer : (pretty : Bool) → ElementView → Answer
 tree_answer pretty e =
     first_refusal_or_text (element_refusals e ++ tree_refusals pretty e) (tree_text pretty e)
@@ -123,7 +123,7 @@ unfoldable pub doc_answer : (pretty : Bool) → ItemsView → Answer
 doc_answer pretty items =
     first_refusal_or_text (items_refusals items ++ doc_refusals pretty items) (doc_text pretty items)
 
--- the answer to what is spelled, or bad input where the form is left
+-- the answer to what an input spells, or bad input at the place where it leaves the form
 abbrev pub answer_to : {A : Type 0} → (answer : A → Answer) → Left A → Answer
 answer_to answer (Ok a) = answer a
 answer_to answer (Err n) = bad_input (Form n)
@@ -132,13 +132,13 @@ abbrev pub value_answer : Task → (pretty : Bool) → Data → Answer
 value_answer Tree pretty d = answer_to (tree_answer pretty) (spelled_element d)
 value_answer Doc pretty d = answer_to (doc_answer pretty) (spelled_items d)
 
--- the answer to something, or bad input at that place where there is nothing
+-- the answer to a value, or bad input at that place if there is none
 abbrev pub answer_if : {A : Type 0} → InputPlace → (answer : A → Answer) → Option A → Answer
 answer_if place answer None = bad_input place
 answer_if place answer (Some a) = answer a
 
--- a place in a text: its line and its column. Where an input is no JSON is what `serde_json` tells, and
--- no definition says: so an answer to an input is one for some place.
+-- a place in a text: its line and its column. `serde_json` reports where an input is not JSON, and
+-- no definition says which place that is, so an answer to an input is one for some place.
 abbrev pub TextPlace : Type 0
 TextPlace = ℕ × ℕ
 
@@ -155,25 +155,26 @@ task_answer input at wanted = input_answer wanted.0 wanted.1 input at
 abbrev pub words_answer : (words : List (List ℕ)) (input : List ℕ) → TextPlace → Answer
 words_answer words input at = answer_if Unknown (task_answer input at) (wanted_task words)
 
--- how a run ends that owes this answer: with the answer's status, and then all of its bytes were
+-- how a run with this answer ends: with the status of the answer, after all of its bytes were
 -- written and flushed; or with a failure, and then nothing was written, unless the last call on the
--- writer failed, after a beginning of the bytes
+-- writer failed after a beginning of the bytes
 abbrev pub EndsAs : Answer → Status → (old new : Option (List ℕ)) → LastCall → Type 0
 EndsAs answer status old new last =
     ((status ≡ answer.status) × Appends old new answer.line × (last ≡ last_call.Flushed))
     ⊎ ((status ≡ Failed) × (Keeps old new ⊎
     ((last ≡ last_call.Failed) × AppendsBeginning old new answer.line)))
 
--- so it ends for some end of the last call, where nothing tells how that ended
+-- how a run with this answer ends, for some outcome of the last call, if nothing records that
+-- outcome
 abbrev pub RunsAs : Answer → Status → (old new : Option (List ℕ)) → Type 0
 RunsAs answer status old new = (last : LastCall) × EndsAs answer status old new last
 
--- all that a reader has left, where that is known
+-- the input is all that the reader has left, if that is known
 abbrev pub IsAll : (input : List ℕ) (remaining : Option (List ℕ)) → Type 0
 IsAll input remaining = IfSome remaining (λ bytes. input ≡ bytes)
 
--- the run ends as one that owes the answer to some input, which is all that the reader has, and for
--- some place in it
+-- the run ends with the answer to some input, which is all that the reader has, and for some place
+-- in it
 abbrev pub EndsOn : (words : List (List ℕ)) (remaining : Option (List ℕ)) → Status
     → (old new : Option (List ℕ)) → LastCall → Type 0
 EndsOn words remaining status old new last =

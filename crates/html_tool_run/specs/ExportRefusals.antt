@@ -1,4 +1,4 @@
--- A fault of a tree or of items as one that is told.
+-- A fault of a tree or of items, as the fault that a call returns.
 use Rattle.typst_html_encode.specs.ExportFaults.{number_of, span_of}
 use Rattle.typst_html_encode.specs.declared.fault.ExportFault.{ExportFault}
 use Rattle.html_tool_spell.specs.Refusals.{numbered_fault}

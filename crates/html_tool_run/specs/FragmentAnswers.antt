@@ -1,4 +1,4 @@
--- What is answered to an input that spells items, of which the text stands by itself.
+-- The answer to an input that spells items without a document.
 use Rattle.std.specs.Prelude.{ℕ, List, ◌++◌, map}
 use Rattle.html_flow_convert.specs.Items.{ItemsView}
 use Rattle.html_flow_convert.specs.declared.convert.ConversionLevel.{ConversionLevel}
@@ -16,7 +16,7 @@ abbrev pub fragment_refusals : ConversionLevel → (limit : ℕ) → ItemsView �
 fragment_refusals level limit items =
     map fault_refusal (export_fragment_faults limit no_frames level items)
 
--- names are refused before what else is wrong
+-- the answer to the items; names are refused before other faults
 unfoldable pub fragment_answer : ConversionLevel → (limit : ℕ) → ItemsView → Answer
 fragment_answer level limit items = first_refusal_or_text
     (items_refusals items ++ fragment_refusals level limit items) (fragment_text level items)

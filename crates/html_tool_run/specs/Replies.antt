@@ -1,4 +1,4 @@
--- A text, or why there is none, and a reply as an answer.
+-- The answers that a reply, a text or a fault stand for.
 use Rattle.std.specs.Prelude.{◌≡◌, ℕ, List, Option, Result, MatchResult, String, string_bytes}
 use Rattle.std.specs.declared.alloc.Global.{Global}
 use Rattle.html_tool_run.specs.Answers.{Answer, TextPlace, IsAll, bad_input, refused_answer, words_answer}
@@ -13,22 +13,22 @@ reply_answer r = record { status = r.status; line = r.text.items }
 abbrev pub IsReply : Reply → Answer → Type 0
 IsReply r a = reply_answer r ≡ a
 
--- why there is no text is what the answer says, unless memory ran out
+-- the answer says why there is no text, unless an allocation failed
 abbrev pub Says : Answer → Fault → Type 0
 Says a OutOfMemory = Unit {0}
 Says a (BadInput place) = a ≡ bad_input place
 Says a (Refused number span) = a ≡ refused_answer (number, span.0)
 
--- a text is the whole answer, or why there is none is
+-- the text is the whole answer, or the fault is what the answer says
 abbrev pub GivesAnswer : Result (String Global) Fault → Answer → Type 0
 GivesAnswer r a =
     MatchResult r (λ text. a ≡ record { status = Done; line = string_bytes text }) (Says a)
 
--- so it is of an answer for some place in the input
+-- the result agrees with the answer for some place in the input
 abbrev pub GivesAnswerAt : Result (String Global) Fault → (TextPlace → Answer) → Type 0
 GivesAnswerAt r answer = (at : TextPlace) × GivesAnswer r (answer at)
 
--- and of the answer to some input, which is all that the reader has
+-- the result agrees with the answer to some input, which is all that the reader has
 abbrev pub GivesAnswerOn : (words : List (List ℕ)) (remaining : Option (List ℕ))
     → Result (String Global) Fault → Type 0
 GivesAnswerOn words remaining r =

@@ -1,5 +1,5 @@
--- What is known of a document that its text does not show, since its items have a root of their own, as
--- JSON: the names of the members that tell it.
+-- The information about a document that its text does not show because its items have a root of
+-- their own, as JSON: the names of the members that hold it.
 --     {"unused":["title","description","authors","keywords","lang","region","head"]}
 use Rattle.std.specs.Prelude.{ℕ, ◌==◌, Bool, List, [], ◌∷◌, ◌++◌, length, map, not, is_some, codes, chars, option_and_then, if◌then◌else◌}
 use Rattle.serde_json.specs.Data.{Data, string, array, object, member, no_members}
@@ -15,11 +15,11 @@ use Rattle.html_tool_spell.specs.Json.{json_of}
 use Rattle.html_tool_spell.specs.NameRefusals.{Refusal}
 use Rattle.html_tool_spell.specs.SpelledDocuments.{Spelling, names_refusals, spelled_document}
 
--- the name, where it tells something
-abbrev pub name_if : (tells : Bool) (name : List ℕ) → List (List ℕ)
-name_if tells name = if tells then name ∷ [] else []
+-- the name, if the member holds information
+abbrev pub name_if : (holds : Bool) (name : List ℕ) → List (List ℕ)
+name_if holds name = if holds then name ∷ [] else []
 
--- the names of the members that tell something; a list of no texts tells nothing
+-- the names of the members that hold information; an empty list of texts holds none
 abbrev pub known_names : InfoView → List (List ℕ)
 known_names info = name_if (is_some info.title) (codes "title")
     ++ name_if (is_some info.description) (codes "description")
@@ -28,14 +28,14 @@ known_names info = name_if (is_some info.title) (codes "title")
     ++ name_if (is_some info.locale) (codes "lang")
     ++ name_if (is_some (option_and_then (λ l. l.region) info.locale)) (codes "region")
 
--- those of a document: a head without nodes tells nothing
-abbrev pub told_names : Spelling → List (List ℕ)
-told_names s =
+-- the names of the members of a document that hold information; a head without nodes holds none
+abbrev pub filled_names : Spelling → List (List ℕ)
+filled_names s =
     known_names s.info ++ name_if (not (length (node_list s.head) == 0)) (codes "head")
 
--- all of them where the items have a root of their own, and else none
+-- all of these names if the items have a root of their own, and otherwise none
 abbrev pub unused_names : Spelling → List (List ℕ)
-unused_names s = if have_own_root s.items then told_names s else []
+unused_names s = if have_own_root s.items then filled_names s else []
 
 abbrev pub unused_data : List (List ℕ) → Data
 unused_data names =
@@ -48,7 +48,7 @@ unused_text s = chars (compact_text (unused_data (unused_names s)))
 abbrev pub unused_refusals : (limit : ℕ) → Spelling → List Refusal
 unused_refusals limit s = map fault_refusal (items_document_faults limit s.items no_items)
 
--- names are refused before what else is wrong
+-- the answer to a document; names are refused before other faults
 unfoldable pub unused_answer : (limit : ℕ) → Spelling → Answer
 unused_answer limit s =
     first_refusal_or_text (names_refusals s ++ unused_refusals limit s) (unused_text s)

@@ -12,13 +12,13 @@ abbrev pub task_of : (word : List ℕ) → Option Task
 task_of word = if bytes_eq word (codes "tree") then Some Tree
     else (if bytes_eq word (codes "doc") then Some Doc else None)
 
--- whether pretty text is wanted: after the task stands nothing, or `--pretty`
+-- whether pretty text is wanted: the task is followed by nothing or by `--pretty`
 abbrev pub wants_pretty : (options : List (List ℕ)) → Option Bool
 wants_pretty [] = Some false
 wants_pretty (w ∷ []) = if bytes_eq w (codes "--pretty") then Some true else None
 wants_pretty (w ∷ v ∷ ws) = None
 
--- the task, and whether pretty text is wanted, where the words are right
+-- the task, and whether pretty text is wanted, if the words are valid
 abbrev pub wanted_task : (words : List (List ℕ)) → Option (Task × Bool)
 wanted_task [] = None
 wanted_task (word ∷ options) = option_and_then

@@ -1,4 +1,4 @@
-//! The HTML text of documents with what is known of them and with footnotes.
+//! The HTML text of documents with information about them, footnotes and nodes for their heads.
 
 ghost use Rattle.std.specs.Prelude.{◌≡◌, ◌≤◌, ◌++◌, IfOk, Some};
 ghost use Rattle.serde_json.specs.View.{view};
@@ -13,7 +13,7 @@ ghost use Rattle.typst_html_encode.specs.Text as html;
 ghost use Rattle.html_dom_tree.specs.Views.{text_view};
 ghost use Rattle.html_tool_run.specs.Answers.{answer_to};
 ghost use Rattle.html_tool_run.specs.DocumentAnswers.{document_answer, document_input_answer};
-ghost use Rattle.html_tool_run.specs.DocumentAnswers.{document_faults, document_refusals, document_text};
+ghost use Rattle.html_tool_run.specs.DocumentAnswers.{spelling_faults, document_refusals, spelling_text};
 ghost use Rattle.html_tool_run.specs.DocumentAnswers.{dead_links, dead_links_in, input_dead_links, text_given};
 ghost use Rattle.html_tool_run.specs.DocumentAnswers.{made_document};
 ghost use Rattle.typst_html_export.specs.Assembled.{items_document_faults};
@@ -40,26 +40,26 @@ use typst_html_export::{export_items, export_with_head, html_document_with_head}
 /// How a document is written.
 #[derive(Clone, Copy, Debug, PartialEq, Eq)]
 pub struct Settings {
-    /// Whether the text is laid out.
+    /// Whether the text is pretty-printed.
     pub pretty: bool,
     /// Whether links get the `href` of their destination.
     pub links: bool,
-    /// How deep the bodies of items may stand, from 1 to 10,000.
+    /// How deep the bodies of items may be nested, from 1 to 10,000.
     pub limit: usize,
 }
 
-/// The text of a document, and what is to be known of its links.
+/// The text of a document, and its links that lead nowhere.
 #[derive(Debug, Drop)]
 pub struct DocumentText {
     /// The HTML text.
     pub text: String,
-    /// The links that stay without an `href`, where links were to get one, since none leads to their
-    /// destination: those of [`dead_links`](html_dom_link::dead_links), in document order.
+    /// The links that stay without an `href` because none leads to their destination, in document
+    /// order ([`dead_links`](html_dom_link::dead_links)). Empty if [`Settings::links`] is `false`.
     pub dead_links: Vec<DeadLink>,
 }
 
 #[tactic(auto, using(crate::proofs::FirstFaults::first_faults))]
-fn document_text(
+fn spelling_text(
     alloc: Global,
     document: SpelledDocument,
     settings: &Settings,
@@ -67,7 +67,7 @@ fn document_text(
     requires some_limit { 1 ≤ settings.now.limit }
     requires low_limit { settings.now.limit ≤ 10000 }
     ensures text { Gives text_view (text_given result)
-        (document_text settings.now (spelling_view document))
+        (spelling_text settings.now (spelling_view document))
         (document_refusals settings.now (spelling_view document)) }
     ensures dead { IfOk result (λ made.
         dead_links_view made.dead_links.items ≡ dead_links settings.now (spelling_view document)) }
@@ -86,8 +86,8 @@ fn exported(
     requires some_limit { 1 ≤ settings.now.limit }
     requires low_limit { settings.now.limit ≤ 10000 }
     ensures text { GivesDocument text_view (text_given result)
-        (document_text settings.now (spelling_view document))
-        (document_faults settings.now (spelling_view document)) }
+        (spelling_text settings.now (spelling_view document))
+        (spelling_faults settings.now (spelling_view document)) }
     ensures dead { IfOk result (λ made.
         dead_links_view made.dead_links.items ≡ dead_links settings.now (spelling_view document)) }
 {
@@ -101,7 +101,7 @@ fn exported(
     with_dead_links(text, Vec::new(alloc))
 }
 
-/// Where there are no nodes for the head, no item is copied.
+/// Copies no item if there are no nodes for the head.
 fn unlinked(
     alloc: Global,
     document: SpelledDocument,
@@ -169,7 +169,7 @@ fn linked(
     with_dead_links(html_of_made(alloc, document, options), dead)
 }
 
-/// The HTML text of a document that is not needed any more.
+/// Returns the HTML text of a document, which it consumes.
 fn html_of_made(
     alloc: Global,
     mut document: HtmlDocument,
@@ -192,25 +192,26 @@ fn spelled_text(alloc: Global, value: Value, settings: &Settings) -> Result<Docu
         ≡ dead_links_in settings.now (Some (spelled_document (view value)))) }
 {
     let document = document_in(alloc, value)?;
-    document_text(alloc, document, settings)
+    spelling_text(alloc, document, settings)
 }
 
-/// The HTML text of the document that an input spells, which is one JSON object.
+/// Returns the HTML text of the document that an input spells, which is one JSON object.
 ///
-/// Its members are the texts `title`, `description`, `lang` and `region`, the lists of texts `authors`
-/// and `keywords`, the lists `items` and `footnotes`, which are those of a run, and `head`, a list of
-/// nodes of a tree, which stand at the end of the document's head. Each may be left out, but for the
-/// `lang` of a `region`. An input that spells something else, another member too, is bad: before the
-/// first list where the object is wrong. The lists are numbered from 1 on, through the items, then the
-/// footnotes, then the head, wherever these members stand. Of two members of one name the last counts.
+/// Its members are the texts `title`, `description`, `lang` and `region`, the lists of texts
+/// `authors` and `keywords`, the lists `items` and `footnotes`, which are those of a run, and
+/// `head`, a list of nodes of a tree, which are put at the end of the document's head. Each may be
+/// left out, except the `lang` of a `region`. An input that spells something else, or that has any
+/// other member, is bad. If the object itself is wrong, the place is 0, before the first list. The
+/// lists are numbered from 1, through the items, then the footnotes, then the head, in whatever
+/// order these members stand. Of two members of one name the last counts.
 ///
-/// Its items and footnotes have more forms than those of a run: an element may have css, a start a label
-/// (`["start", n, dest, label]`), an item a role (`["role", role, item]`), and locations may have names
-/// (`["place", name]`, `["link", name]`) in place of numbers.
+/// Items and footnotes have more forms than those of a run: an element may have css, a start a
+/// label (`["start", n, dest, label]`), an item a role (`["role", role, item]`), and locations may
+/// have names (`["place", name]`, `["link", name]`) instead of numbers.
 ///
-/// The text is that of [`export_with_head`](typst_html_export::export_with_head). Where links are wanted,
-/// they get their `href` as by [`export_linked`](typst_html_export::export_linked), and it is told which
-/// links lead nowhere. Names are refused before what else is wrong.
+/// The text is that of [`export_with_head`](typst_html_export::export_with_head). If the settings
+/// ask for links, they get their `href` as by [`export_linked`](typst_html_export::export_linked),
+/// and the result lists the links that lead nowhere. Names are refused before other faults.
 ///
 /// ```
 /// use html_tool_run::{Settings, text_of_document};

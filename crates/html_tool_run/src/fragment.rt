@@ -1,4 +1,4 @@
-//! The HTML text of items by themselves, with no document around them.
+//! The HTML text of items without a document around them.
 
 ghost use Rattle.std.specs.Prelude.{◌≤◌};
 ghost use Rattle.serde_json.specs.View.{view};
@@ -18,14 +18,14 @@ use serde_json::Value;
 use std::alloc::Global;
 use typst_html_export::export_fragment;
 
-/// Returns the HTML text of the items that an input spells, with no document type, head and body: a
+/// Returns the HTML text of the items that an input spells, without document type, head and body: a
 /// piece of a page that another program makes, such as a template engine.
 ///
 /// The input is one JSON list of items, which have the forms of a document's items
 /// ([`text_of_document`](crate::text_of_document)). The text is that of
 /// [`export_fragment`](typst_html_export::export_fragment) at that level: links get neither anchors
-/// nor an `href`, since both depend on the ids of the whole page. Names are refused before what else
-/// is wrong.
+/// nor an `href`, since both depend on the ids of the whole page. Names are refused before other
+/// faults.
 ///
 /// ```
 /// use html_tool_run::text_of_fragment;

@@ -1,8 +1,8 @@
-//! A run of the program on any reader and writer: HTML text of a tree or of items that
-//! JSON spells. A part of html_tool, which is a program, so that nothing can stand on it: who runs it
-//! from a program stands on this part.
+//! A run of the program on any reader and writer: the HTML text of a tree or of items that JSON
+//! spells. The crate html_tool is the program and cannot be a dependency; depend on this crate to
+//! run it from other code.
 //!
-//! A tree is spelled by its root, and items by a list of them:
+//! JSON spells a tree by its root, and items by a list of them:
 //!
 //! ```json
 //! ["el", "p", [["class", "intro"]], [["text", "a"]]]

@@ -29,16 +29,17 @@ use std::io::{Read, Write};
 use typst_html_encode::{ExportFault, HtmlOptions, html_of};
 use typst_html_export::export_items;
 
-/// The most bytes that one read asks for.
+/// The largest number of bytes that one read asks for.
 const PIECE: usize = 4096;
 
-/// A reader that has not ended after so many reads counts as one that failed.
+/// The largest number of reads. A reader that has not ended after them counts as one that failed.
 const MOST_READS: u32 = 1_048_576;
 
-/// How deep the bodies of items may stand.
+/// How deep the bodies of items may be nested.
 const DEPTH_LIMIT: usize = 50;
 
-/// All that the reader has left, unless a read fails, the reader does not end, or memory runs out.
+/// Reads the reader to its end. Returns `None` if a read fails, the reader does not end, or an
+/// allocation fails.
 fn read_all<R: Read>(alloc: Global, reader: &mut R) -> Option<Vec<u8>>
     ensures { IfSome result (λ input.
         IfSome (R.remaining reader.old) (λ bytes. input.items ≡ bytes)) }
@@ -78,12 +79,12 @@ fn bad_input(alloc: Global, place: InputPlace) -> Result<Reply, AllocError>
     match place {
         InputPlace::Unknown => make_reply(alloc, Status::BadInput, b"bad input\n"),
         InputPlace::Text(line, column) => {
-            let told = format!(in alloc; "bad input at line {line} column {column}\n")?;
-            make_reply(alloc, Status::BadInput, told.as_bytes())
+            let line = format!(in alloc; "bad input at line {line} column {column}\n")?;
+            make_reply(alloc, Status::BadInput, line.as_bytes())
         }
         InputPlace::Form(number) => {
-            let told = format!(in alloc; "bad input at {number}\n")?;
-            make_reply(alloc, Status::BadInput, told.as_bytes())
+            let line = format!(in alloc; "bad input at {number}\n")?;
+            make_reply(alloc, Status::BadInput, line.as_bytes())
         }
     }
 }
@@ -167,13 +168,14 @@ fn value_text(alloc: Global, value: Value, task: Task, pretty: bool) -> Result<S
     }
 }
 
-/// The HTML text of what an input spells, which is one JSON value: the bytes that [`run`] writes of
-/// it, or why it writes none.
+/// Returns the HTML text of what an input spells, which is one JSON value: the bytes that [`run`]
+/// writes for it.
 ///
-/// Where an allocation fails, that is the fault, whatever the input is. Else an input that is no UTF-8
-/// or no JSON value, or that spells no tree or no items, is bad, with the [`InputPlace`]; and what it spells
-/// is refused by the first refusal, with the span of what is refused: the number of its list in the
-/// input, from 1 on. The cost is that of a run.
+/// Fails with [`Fault::OutOfMemory`] if an allocation fails, whatever the input is. Fails with
+/// [`Fault::BadInput`] and the [`InputPlace`] if the input is not UTF-8 or not a JSON value, or if
+/// it spells no tree or no items. Fails with the first refusal if what it spells is refused, with
+/// the span of what is refused: the number of its list in the input, counted from 1. The cost is
+/// that of a run.
 ///
 /// ```
 /// use html_tool_run::{Fault, InputPlace, Task, text_of_input};
@@ -196,7 +198,7 @@ pub fn text_of_input(alloc: Global, input: &[u8], task: Task, pretty: bool) -> R
     value_text(alloc, value, task, pretty)
 }
 
-/// The input is gone before anything is made of its value.
+/// Drops the input before it makes anything of its value.
 fn answer(alloc: Global, input: Vec<u8>, task: Task, pretty: bool) -> Result<String, Fault>
     ensures { GivesAnswerAt result (input_answer task pretty input.items) }
 {
@@ -205,7 +207,7 @@ fn answer(alloc: Global, input: Vec<u8>, task: Task, pretty: bool) -> Result<Str
     value_text(alloc, value, task, pretty)
 }
 
-/// A reader that fails counts as want of memory.
+/// Returns the text that the words ask for. Reports a reader that fails as out of memory.
 fn wanted<R: Read>(alloc: Global, reader: &mut R, words: &[String]) -> Result<String, Fault>
     ensures answers { GivesAnswerOn (texts_of words.now) (R.remaining reader.old) result }
     ensures wrong_words { wanted_task (texts_of words.now) ≡ None
@@ -221,7 +223,7 @@ fn wanted<R: Read>(alloc: Global, reader: &mut R, words: &[String]) -> Result<St
     }
 }
 
-fn tell<W: Write>(writer: &mut W, last: &mut LastCall, reply: &Reply) -> Status
+fn send<W: Write>(writer: &mut W, last: &mut LastCall, reply: &Reply) -> Status
     ensures { EndsAs (reply_answer reply.now) result
         (W.contents writer.old) (W.contents writer.new) last.new }
 {
@@ -245,26 +247,28 @@ fn run_on<R: Read, W: Write>(
     ensures unread { wanted_task (texts_of words.now) ≡ None → reader.new ≡ reader.old }
 {
     match reply_of(alloc, wanted(alloc, reader, words)) {
-        Ok(reply) => tell(writer, last, &reply),
+        Ok(reply) => send(writer, last, &reply),
         Err(AllocError) => Status::Failed,
     }
 }
 
-/// Reads all that the reader has, as one JSON value, and writes the HTML text of what it spells, or
+/// Reads the reader to its end, as one JSON value, and writes the HTML text of what it spells, or
 /// one line that says why there is none.
 ///
-/// `words` are those after the program's name: `tree` for a tree or `doc` for the document of a list
-/// of items, and then `--pretty` where pretty text is wanted. Others are told before anything is
-/// read. A document is made without footnotes, and nothing is known of it; bodies of its items may
-/// stand 50 deep. The reader is read in pieces of at most 4,096 bytes, at most 1,048,576 times.
+/// `words` are the arguments after the program's name: `tree` for a tree or `doc` for the document
+/// of a list of items, and then `--pretty` for pretty text. Other words are reported before
+/// anything is read. A document has no footnotes and no information about it; the bodies of its
+/// items may be nested 50 deep. The reader is read in pieces of at most 4,096 bytes, at most
+/// 1,048,576 times.
 ///
-/// Where the status is `Failed`, memory ran out or a read failed, and nothing was written, or a write
-/// or the flush after the last one failed, and a beginning of the answer was. With any other status
-/// the whole answer was written and flushed.
+/// With the status `Failed`, either an allocation or a read failed, or the reader did not end, and
+/// nothing was written; or a write or the flush after the last one failed, and a beginning of the
+/// answer was written. With any other status the whole answer was written and flushed.
 ///
-/// A writer tells by contract which bytes it holds, but not that a call on it failed, nor that it was
-/// flushed. So the contract says this for some end of the last call. [`run_recorded`], which makes the
-/// same run, says it for the end that its writer remembers.
+/// The contract of a writer says which bytes it holds, but not whether a call on it failed or
+/// whether it was flushed. So the contract of `run` holds for some outcome of the last call.
+/// [`run_recorded`] makes the same run, and its contract holds for the outcome that its writer
+/// remembers.
 ///
 /// ```
 /// use html_tool_run::{Status, run};
@@ -295,9 +299,8 @@ pub fn run<R: Read, W: Write>(
     run_on(alloc, reader, writer, &mut last, words)
 }
 
-/// The run that [`run`] makes, to a writer that remembers how its last call ended: so where the status
-/// is `Failed`, nothing was written unless that call, as [`Recorded::last`] tells, was a write or a
-/// flush that failed.
+/// Does the same as [`run`], with a writer that remembers how its last call ended. If the status is
+/// `Failed`, nothing was written unless [`Recorded::last`] is [`LastCall::Failed`].
 pub fn run_recorded<R: Read, W: Write>(
     alloc: Global,
     reader: &mut R,

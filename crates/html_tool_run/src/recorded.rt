@@ -8,27 +8,28 @@ use crate::whole::{flush, write_some, write_whole};
 use std::io::Write;
 use thiserror::Error;
 
-/// How the last call on a writer ended.
+/// The outcome of the last call on a writer.
 #[derive(Clone, Copy, Debug, PartialEq, Eq)]
 pub enum LastCall {
-    /// There was no call yet.
+    /// No call was made yet.
     NoCall,
-    /// A write took one byte or more.
+    /// A write took at least one byte.
     Wrote,
     /// A flush succeeded.
     Flushed,
-    /// A write or a flush failed. A write that takes no byte has failed.
+    /// A write or a flush failed. A write that takes no byte counts as failed.
     Failed,
 }
 
-/// A write or a flush failed.
+/// The error of a write or a flush that failed.
 #[derive(Clone, Copy, Debug, PartialEq, Eq, Error)]
 #[error("a write failed")]
 pub struct WriteFailed;
 
-/// A writer, and how the last call on it ended.
+/// A writer, and the outcome of the last call on it.
 ///
-/// Contracts tell by this record whether a write failed, which no writer says of itself.
+/// Contracts need this record to say whether a write failed, which the contract of a writer does
+/// not.
 #[derive(Drop)]
 pub struct Recorded<W> {
     pub(crate) writer: W,
@@ -36,7 +37,7 @@ pub struct Recorded<W> {
 }
 
 impl<W: Write> Recorded<W> {
-    /// The writer before any call.
+    /// Creates the record of a writer before any call on it.
     pub fn new(writer: W) -> Recorded<W>
         ensures writer { result.writer ≡ writer }
         ensures last { result.last ≡ LastCall.NoCall }
@@ -47,21 +48,21 @@ impl<W: Write> Recorded<W> {
         }
     }
 
-    /// How the last call ended.
+    /// Returns the outcome of the last call.
     pub fn last(&self) -> LastCall
         ensures { result ≡ self.now.last }
     {
         self.last
     }
 
-    /// The writer, with all that was written to it.
+    /// Consumes the record and returns the writer, with all that was written to it.
     pub fn into_writer(self) -> W
         ensures { result ≡ self.writer }
     {
         self.writer
     }
 
-    /// Writes some of the bytes, at least one, and answers how many.
+    /// Writes some of the bytes, at least one, and returns their number.
     pub fn write(&mut self, bytes: &[u8]) -> Result<usize, WriteFailed>
         requires { 0 < length bytes.now }
         ensures count { IfOk result (λ n. (0 < n) × (n ≤ length bytes.now)) }
@@ -82,7 +83,7 @@ impl<W: Write> Recorded<W> {
         flush(&mut self.writer, &mut self.last)
     }
 
-    /// Writes all of the bytes, and flushes after the last of them. Nothing is tried again.
+    /// Writes all of the bytes and then flushes the writer. Does not retry a call that failed.
     pub fn write_all(&mut self, bytes: &[u8]) -> Result<(), WriteFailed>
         ensures { WritesAll result bytes.now
             (W.contents self.old.writer) (W.contents self.new.writer) self.new.last }

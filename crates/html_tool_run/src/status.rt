@@ -1,21 +1,21 @@
 ghost use Rattle.std.specs.Prelude.{◌≡◌};
 ghost use Rattle.html_tool_run.specs.Answers.{code_of};
 
-/// How a run of the program ended.
+/// The outcome of a run of the program.
 #[derive(Clone, Copy, Debug, PartialEq, Eq)]
 pub enum Status {
     /// The HTML text was written.
     Done,
-    /// The tree was refused, and a line says why and where.
+    /// The tree or the items were refused, and a line says why and where.
     Refused,
     /// The words or the input are not what the program takes.
     BadInput,
-    /// Memory, the reader or the writer failed.
+    /// An allocation, the reader or the writer failed.
     Failed,
 }
 
 impl Status {
-    /// The exit code of the process, from 0 to 3 in the order of the variants.
+    /// Returns the exit code of the process, from 0 to 3 in the order of the variants.
     pub fn code(self) -> u8
         ensures { result ≡ code_of self }
     {

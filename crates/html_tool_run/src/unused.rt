@@ -1,4 +1,4 @@
-//! What is known of a document that its text does not show, as JSON.
+//! The information about a document that its text does not show, as JSON.
 
 ghost use Rattle.std.specs.Prelude.{◌≡◌, ◌≤◌, ◌==◌, ◌++◌, [], IfOk, OnOk, not, length, map, is_some, option_and_then, string_bytes, if◌then◌else◌};
 ghost use Rattle.serde_json.specs.Data.{string};
@@ -10,7 +10,7 @@ ghost use Rattle.html_flow_convert.specs.LoneNode.{node_list};
 ghost use Rattle.html_names.specs.Texts.{texts_view};
 ghost use Rattle.html_tool_run.specs.Answers.{answer_to};
 ghost use Rattle.html_tool_run.specs.Replies.{GivesAnswer, GivesAnswerAt};
-ghost use Rattle.html_tool_run.specs.UnusedInformation.{known_names, name_if, told_names, unused_data, unused_text};
+ghost use Rattle.html_tool_run.specs.UnusedInformation.{known_names, name_if, filled_names, unused_data, unused_text};
 ghost use Rattle.html_tool_run.specs.UnusedInformation.{unused_answer, unused_input_answer, unused_refusals};
 ghost use Rattle.html_tool_spell.specs.Refusals.{Gives};
 ghost use Rattle.html_tool_spell.specs.SpelledDocuments.{spelled_document};
@@ -24,13 +24,14 @@ use serde_json::{Value, json};
 use std::alloc::{AllocError, Global};
 use typst_html_export::has_own_root;
 
-/// The names of the members of an input that tell what the text of its document does not show, as JSON:
-/// all that tell something, where the items have a root of their own
-/// ([`has_own_root`](typst_html_export::has_own_root)), and else none.
+/// Returns as JSON the names of the members of an input whose information the text of its document
+/// does not show. If the items have a root of their own
+/// ([`has_own_root`](typst_html_export::has_own_root)), these are all members that hold any
+/// information; otherwise there are none.
 ///
-/// They stand in the order `title`, `description`, `authors`, `keywords`, `lang`, `region`, `head`. The input is
-/// that of [`text_of_document`](crate::text_of_document). It is refused as there, but for footnotes and
-/// for what can't be written.
+/// The names are in the order `title`, `description`, `authors`, `keywords`, `lang`, `region`,
+/// `head`. The input is that of [`text_of_document`](crate::text_of_document). It is refused as
+/// there, except for its footnotes, of which only the names count, and for what cannot be written.
 ///
 /// ```
 /// use html_tool_run::unused_of_document;
@@ -78,7 +79,7 @@ fn names_text(
     document: &SpelledDocument,
 ) -> Result<String, AllocError>
     ensures { IfOk result (λ text. string_bytes text ≡ compact_text (unused_data
-        (if own_root then told_names (spelling_view document.now) else []))) }
+        (if own_root then filled_names (spelling_view document.now) else []))) }
 {
     let value = names_value(alloc, own_root, document)?;
     Ok(value.to_string(alloc)?)
@@ -90,22 +91,22 @@ fn names_value(
     document: &SpelledDocument,
 ) -> Result<Value, AllocError>
     ensures { IfOk result (λ value. view value ≡ unused_data
-        (if own_root then told_names (spelling_view document.now) else [])) }
+        (if own_root then filled_names (spelling_view document.now) else [])) }
 {
     let mut names = Vec::new(alloc);
     if own_root {
-        push_told_names(alloc, &mut names, document)?;
+        push_filled_names(alloc, &mut names, document)?;
     }
     json!(in alloc; {"unused": names})
 }
 
-fn push_told_names(
+fn push_filled_names(
     alloc: Global,
     names: &mut Vec<Value>,
     document: &SpelledDocument,
 ) -> Result<(), AllocError>
     ensures { OnOk result (map view names.new.items
-        ≡ map view names.old.items ++ map string (told_names (spelling_view document.now))) }
+        ≡ map view names.old.items ++ map string (filled_names (spelling_view document.now))) }
 {
     push_known_names(alloc, names, &document.info)?;
     push_name(alloc, names, "head", has_nodes(&document.head))?;
@@ -128,14 +129,14 @@ fn push_known_names(
 {
     push_name(alloc, names, "title", info.title.is_some())?;
     push_name(alloc, names, "description", info.description.is_some())?;
-    push_name(alloc, names, "authors", are_told(&info.author))?;
-    push_name(alloc, names, "keywords", are_told(&info.keywords))?;
+    push_name(alloc, names, "authors", has_texts(&info.author))?;
+    push_name(alloc, names, "keywords", has_texts(&info.keywords))?;
     push_name(alloc, names, "lang", info.locale.is_some())?;
     push_name(alloc, names, "region", has_region(info))?;
     Ok(())
 }
 
-fn are_told(texts: &[String]) -> bool
+fn has_texts(texts: &[String]) -> bool
     ensures { result ≡ not (length (texts_view texts.now) == 0) }
 {
     !texts.is_empty()
@@ -159,12 +160,12 @@ fn push_name(
     alloc: Global,
     names: &mut Vec<Value>,
     name: &str,
-    tells: bool,
+    holds: bool,
 ) -> Result<(), AllocError>
     ensures { OnOk result (map view names.new.items
-        ≡ map view names.old.items ++ map string (name_if tells name.now)) }
+        ≡ map view names.old.items ++ map string (name_if holds name.now)) }
 {
-    if tells {
+    if holds {
         names.push(Value::String(name.to_string(alloc)?))?;
     }
     Ok(())

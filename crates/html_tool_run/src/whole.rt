@@ -1,4 +1,4 @@
-//! Writing, with how the last call ended.
+//! Writing that records the outcome of the last call.
 
 ghost use Rattle.std.specs.Prelude.{◌≡◌, ◌<◌, ◌≤◌, length, take, IfOk, OnErr};
 ghost use Rattle.std.specs.Io.KnownBytes.{Appends, Keeps};
@@ -48,7 +48,7 @@ pub(crate) fn flush<W: Write>(writer: &mut W, last: &mut LastCall) -> Result<(),
     }
 }
 
-/// Writes all of the bytes, and flushes after the last of them. Nothing is tried again.
+/// Writes all of the bytes and then flushes the writer. Does not retry a call that failed.
 pub(crate) fn write_whole<W: Write>(
     writer: &mut W,
     last: &mut LastCall,

@@ -3,7 +3,7 @@
 ghost use Rattle.std.specs.Prelude.{◌≡◌, drop};
 ghost use Rattle.html_tool_run.specs.Words.{task_of, texts_of, wanted_task, wants_pretty};
 
-/// What the program makes HTML text of.
+/// The kind of input that the program makes HTML text of.
 #[derive(Clone, Copy, Debug, PartialEq, Eq)]
 pub enum Task {
     /// A tree.
@@ -12,7 +12,7 @@ pub enum Task {
     Doc,
 }
 
-/// The arguments without the first, which is the program's name.
+/// Returns the arguments without the first, which is the program's name.
 pub fn words_of(args: &[String]) -> &[String]
     ensures { result.now ≡ drop 1 args.now }
 {
@@ -22,7 +22,7 @@ pub fn words_of(args: &[String]) -> &[String]
     }
 }
 
-/// The task, and whether pretty text is wanted, where the words are right.
+/// Returns the task and whether pretty text is wanted, or `None` if the words are invalid.
 pub fn wanted_task(words: &[String]) -> Option<(Task, bool)>
     ensures { result ≡ wanted_task (texts_of words.now) }
 {

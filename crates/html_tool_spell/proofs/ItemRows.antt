@@ -59,12 +59,12 @@ pub box_same : (span : ℕ) (items : ItemsView)
 unfolding item_refusals
 box_same span items = refl
 
-pub told_items : (forms : Forms) (d : Data) (made : ItemsView) (before after : Reader) (code : ℕ)
+pub refused_items : (forms : Forms) (d : Data) (made : ItemsView) (before after : Reader) (code : ℕ)
     (span : Span)
     → mark before ≡ at_start → before.refused ≡ None → after.refused ≡ Some (code, span)
     → IsRead items_refusals made (list_at forms d (mark before)) before after
     → IsOkAnd (items_at forms d) (λ items. IsFirst (Refused code span) (items_refusals items))
-told_items forms d made before after code span first clear is r =
+refused_items forms d made before after code span first clear is r =
     rw (← first, r.spelled)
     (refused_whole items_refusals made (list_at forms d (mark before)) before after code span clear
     is r)

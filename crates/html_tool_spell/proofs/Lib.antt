@@ -8,4 +8,4 @@ pub mod PairRows
 pub mod Readings
 pub mod Rows
 pub mod Tags
-pub mod ToldBodies
+pub mod RefusedBodies

@@ -50,20 +50,20 @@ pub own_first : IsOwnFirst element_made name_refusals all_name_refusals
 unfolding name_refusals
 own_first span tag pairs kids = refl
 
-told_node : (w : NodeView) (m : Mark) (code : ℕ) (span : Span)
+refused_node : (w : NodeView) (m : Mark) (code : ℕ) (span : Span)
     → IsFirst (Refused code span) (name_refusals w)
     → IsOkAnd (element_of (w, m)) (λ e. IsFirst (Refused code span) (element_refusals e))
 unfolding name_refusals
-told_node (element_node head kids) m code span h = h
-told_node x m code span h = absurd (cc (h.1))
+refused_node (element_node head kids) m code span h = h
+refused_node x m code span h = absurd (cc (h.1))
 
-pub told_element : (d : Data) (made : NodeView) (before after : Reader) (code : ℕ) (span : Span)
+pub refused_element : (d : Data) (made : NodeView) (before after : Reader) (code : ℕ) (span : Span)
     → mark before ≡ at_start → before.refused ≡ None → after.refused ≡ Some (code, span)
     → IsRead name_refusals made (spelled_node d (mark before)) before after
     → IsOkAnd (spelled_element d) (λ e. IsFirst (Refused code span) (element_refusals e))
-told_element d made before after code span first clear is r =
+refused_element d made before after code span first clear is r =
     rw (← first, r.spelled)
-    (told_node r.whole (mark after) code span
+    (refused_node r.whole (mark after) code span
     (refused_whole name_refusals made (spelled_node d (mark before)) before after code span clear is r))
 
 -- a node of a list that was just opened

@@ -88,10 +88,10 @@ read_mapped f ones others made wanted before after agrees r = record {
 }
 
 -- what is refused in the end is the first refusal
-first_told : (rs : List Refusal) (code : ℕ) (span : Span) → first_of None rs ≡ Some (code, span)
+first_refused : (rs : List Refusal) (code : ℕ) (span : Span) → first_of None rs ≡ Some (code, span)
     → IsFirst (Refused code span) rs
-first_told [] code span h = absurd (cc)
-first_told (r ∷ rs) code span h =
+first_refused [] code span h = absurd (cc)
+first_refused (r ∷ rs) code span h =
     let same : Some r ≡ Some (code, span.0) =
     ap (option_map (λ (p : ℕ × Span). (p.0, p.1.0))) h in
     (rs, cc)
@@ -101,7 +101,7 @@ pub refused_whole : {B : Type 0} (refusals : B → List Refusal) (made : B) (wan
     → after.refused ≡ Some (code, span) → (r : IsRead refusals made wanted before after)
     → IsFirst (Refused code span) (refusals r.whole)
 refused_whole refusals made wanted before after code span clear is r =
-    first_told (refusals r.whole) code span
+    first_refused (refusals r.whole) code span
     (ap (λ o. first_of o (refusals r.whole)) (sym clear) ∙ sym r.noted ∙ is)
 
 one_refusal : (f : NameFault) (span : ℕ) (o : Option NameFault)
@@ -116,14 +116,14 @@ pub name_refused : (fault : List ℕ → Option NameFault) (text made : List ℕ
     ≡ record before { refused = first_of before.refused ((name.number_of f, span.0) ∷ []) })
     → IsRead (λ t. refusals span.0 (fault t)) made (Ok (text, mark before)) before after
 name_refused fault text made f span before after first noted =
-    let told = one_refusal f span.0 (fault text) first noted.0 in
+    let agrees = one_refusal f span.0 (fault text) first noted.0 in
     let seen : after.refused ≡ first_of before.refused (refusals span.0 (fault text)) =
-    ap (λ r. r.refused) noted.1 ∙ ap (first_of before.refused) (sym told) in
+    ap (λ r. r.refused) noted.1 ∙ ap (first_of before.refused) (sym agrees) in
     record {
       whole = text;
       spelled = ap (λ r. Ok (text, mark r)) (sym noted.1);
       noted = seen;
-      same = λ h. absurd (cc ((first_of_none before.refused _ (sym seen ∙ h)).1, told));
+      same = λ h. absurd (cc ((first_of_none before.refused _ (sym seen ∙ h)).1, agrees));
     }
 
 -- a part, and then the rest

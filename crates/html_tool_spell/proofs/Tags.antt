@@ -63,11 +63,11 @@ pub named_item_read : (made : (location : ℕ) (name : List ℕ) → TagView) (n
     → IsRead item_refusals (tag_item (made location name))
     (named_leaf (λ l t. tag_item (made l t)) (Some name) (mark before)) before after
 unfolding item_refusals
-named_item_read made name location before after none is told =
+named_item_read made name location before after none is agrees =
     let Wanted : Reader → Type 0 = λ r. named_leaf (λ l t. tag_item (made l t)) (Some name)
     (mark before) ≡ Ok (tag_item (made location name), mark r) in
     read_clean item_refusals (tag_item (made location name)) _ before after
-    (subst Wanted (sym told) (rw (is, none) refl)) refl (ap (λ r. r.refused) told)
+    (subst Wanted (sym agrees) (rw (is, none) refl)) refl (ap (λ r. r.refused) agrees)
 
 -- where there are numbers, no name is read
 pub named_item_wrong : (made : (location : ℕ) (name : List ℕ) → TagView) (name : List ℕ)

@@ -11,7 +11,7 @@ use Rattle.html_tool_spell.specs.Marks.{Mark, are_there}
 use Rattle.html_tool_spell.specs.declared.input_forms.Forms.{Forms}
 use Rattle.html_tool_spell.specs.declared.input_forms.Forms.TheVariants.{Program, Document}
 
--- a text's characters
+-- the characters of a text
 abbrev pub text_at : Data → Option (List ℕ)
 text_at d = option_map chars (as_str d)
 
@@ -39,7 +39,7 @@ abbrev pub text_form : Items → Option (List ℕ)
 text_form (item d no_items) = text_at d
 text_form _ = None
 
--- a destination, or none
+-- the destination of a start, or none
 abbrev pub dest_form : Items → Option (Option ℕ)
 dest_form no_items = Some None
 dest_form (item d no_items) = option_map Some (whole_at d)
@@ -50,12 +50,12 @@ plain_start_form no_items = None
 plain_start_form (item l ds) = option_and_then
     (λ d. option_map (λ l. starts l None d) (whole_at l)) (dest_form ds)
 
--- a destination, or null for none
+-- the destination that a value spells, or null for none
 abbrev pub dest_at : Data → Option (Option ℕ)
 dest_at null = Some None
 dest_at d = option_map Some (whole_at d)
 
--- with a label
+-- a start with a label
 abbrev pub labelled_start : (l dest label : Data) → Option TagView
 labelled_start l dest label = option_and_then (λ n. option_and_then (λ t. option_map
     (λ d. starts n (Some t) d) (dest_at dest)) (text_at label)) (whole_at l)
@@ -72,30 +72,31 @@ abbrev pub no_fields : Items → Option (Unit {0})
 no_fields no_items = Some tt
 no_fields (item d ds) = None
 
--- what holds no other list that is numbered
+-- a node or item whose list holds no other numbered list
 abbrev pub leaf : {A B : Type 0} → (made : A → B) → Option A → Mark → Left (B × Mark)
 leaf made fields m = from_part m.lists (λ a. Ok (made a, m)) fields
 
--- a tag whose locations are numbers, beside which there are no names
+-- a tag whose locations are numbers, in a value without names of locations
 abbrev pub numbered_leaf : {B : Type 0} → (made : TagView → B) → Option TagView → Mark
     → Left (B × Mark)
 numbered_leaf made tag m = from_part m.lists (λ t. if are_there m.names then Err m.lists
     else Ok (made t, record m { numbered = true })) tag
 
--- a tag of a name, beside which there are no numbers; `made` tells its location
+-- a tag of a name, in a value without numbers of locations; `made` makes it of the location and the
+-- name
 abbrev pub named_leaf : {B : Type 0} → (made : (location : ℕ) (name : List ℕ) → B)
     → Option (List ℕ) → Mark → Left (B × Mark)
 named_leaf made name m = from_part m.lists (λ t. if m.numbered then Err m.lists
     else Ok (made (location_in m.names t) t, record m { names = with_name m.names t })) name
 
--- an element in the list that was opened last, made of its tag, its attributes and what it holds
+-- the element of the list that was opened last, made of its tag, its attributes and its content
 abbrev pub element_from : {A B : Type 0} → (made : List ℕ → List TextPair → A → B) → Mark
     → (tag : Option (List ℕ)) (pairs : Option (List TextPair)) (inside : Left (A × Mark))
     → Left (B × Mark)
 element_from made m tag pairs inside = from_part m.lists (λ t. from_part m.lists (λ ps.
     mapped (λ c. (made t ps c.0, c.1)) inside) pairs) tag
 
--- the first of a row, and then the rest
+-- the first of a list, and then the rest
 abbrev pub row_from : {A B : Type 0} → (add : A → B → B) → (first : Left (A × Mark))
     → (rest : Mark → Left (B × Mark)) → Left (B × Mark)
 row_from add first rest = and_then (λ p. mapped (λ q. (add p.0 q.0, q.1)) (rest p.1)) first

@@ -8,7 +8,7 @@ use Rattle.html_tool_spell.specs.declared.input_forms.Forms.TheVariants.{Program
 use Rattle.html_tool_spell.specs.declared.kind.Kind.{Kind}
 use Rattle.html_tool_spell.specs.declared.kind.Kind.TheVariants.{Text, Element, Block, Box, Start, End, Space, Break, Hole, Place, Link, Role}
 
--- the kind of that name that the program has too
+-- the kind of that name in the forms of the program
 unfoldable pub program_kind : (name : List ℕ) → Option Kind
 program_kind k = if bytes_eq k (codes "text") then Some Text
     else (if bytes_eq k (codes "el") then Some Element
@@ -20,13 +20,13 @@ program_kind k = if bytes_eq k (codes "text") then Some Text
     else (if bytes_eq k (codes "break") then Some Break
     else (if bytes_eq k (codes "hole") then Some Hole else None))))))))
 
--- the kind of that name that documents alone have
+-- the kind of that name that only the forms of documents have
 unfoldable pub document_kind : (name : List ℕ) → Option Kind
 document_kind k = if bytes_eq k (codes "place") then Some Place
     else (if bytes_eq k (codes "link") then Some Link
     else (if bytes_eq k (codes "role") then Some Role else None))
 
--- the kind of that name
+-- the kind of that name in these forms
 abbrev pub named_kind : Forms → (name : List ℕ) → Option Kind
 named_kind Program k = program_kind k
 named_kind Document k = or_else (program_kind k) (document_kind k)

@@ -1,4 +1,4 @@
--- The JSON value that bytes are: the reading of `serde_json`, of UTF-8.
+-- The JSON value of bytes, as `serde_json` reads it, if the bytes are UTF-8.
 use Rattle.std.specs.Prelude.{ℕ, List, Option, None, if◌then◌else◌}
 use Rattle.std.specs.Str.{is_utf8}
 use Rattle.serde_json.specs.Data.{Data}

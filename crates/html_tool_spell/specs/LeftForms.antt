@@ -1,10 +1,10 @@
--- What a JSON value spells, or where the form is left: how many lists of nodes or items are opened up to
--- the first value that is not what the form wants.
+-- What a JSON value spells, or the place where it leaves the form: how many lists of nodes or items
+-- are opened up to the first value that does not fit the form.
 use Rattle.std.specs.Prelude.{◌≡◌, ℕ, Option, Some, None, Result, Ok, Err}
 use Rattle.html_tool_spell.specs.declared.fault.InputPlace.{InputPlace}
 use Rattle.html_tool_spell.specs.declared.fault.InputPlace.TheVariants.{Unknown, Text, Form}
 
--- something that is spelled, or the place where the form is left
+-- what a value spells, or the place where it leaves the form
 abbrev pub Left : Type 0 → Type 0
 Left A = Result A ℕ
 
@@ -12,23 +12,24 @@ abbrev pub mapped : {A B : Type 0} → (A → B) → Left A → Left B
 mapped f (Ok a) = Ok (f a)
 mapped f (Err n) = Err n
 
--- one thing, and then what is made of it
+-- what is made of what a value spells, or the place where the value leaves the form
 abbrev pub and_then : {A B : Type 0} → (A → Left B) → Left A → Left B
 and_then f (Ok a) = f a
 and_then f (Err n) = Err n
 
--- what is made of a part that has no place of its own, or the form is left at n
+-- what is made of a part that has no place of its own; without the part, the value leaves the form
+-- at n
 abbrev pub from_part : {A B : Type 0} → (n : ℕ) → (A → Left B) → Option A → Left B
 from_part n f (Some a) = f a
 from_part n f None = Err n
 
--- the form is left at that place
+-- the value leaves the form at that place
 abbrev pub IsLeft : {A : Type 0} → Left A → InputPlace → Type 0
 IsLeft wanted Unknown = ⊥
 IsLeft wanted (Text line column) = ⊥
 IsLeft wanted (Form n) = wanted ≡ Err n
 
--- the text is no JSON at that place
+-- the place is one in a text that is not JSON
 abbrev pub IsInText : InputPlace → Type 0
 IsInText Unknown = ⊥
 IsInText (Text line column) = Unit {0}

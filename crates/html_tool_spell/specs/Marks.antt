@@ -1,18 +1,18 @@
--- What is remembered of a JSON value as far as it was read.
+-- What a reader of a JSON value remembers.
 use Rattle.std.specs.Prelude.{ℕ, ◌+◌, Bool, true, false, List, [], ◌∷◌}
 
--- how many lists of nodes or items are opened; the names of places, in the order of their locations;
--- and whether there was a tag whose location is a number
+-- what a reader remembers: how many lists of nodes or items were opened, the names of places in the
+-- order of their locations, and whether there was a tag whose location is a number
 pub record Mark : Type 0 where
   pub lists : ℕ
   pub names : List (List ℕ)
   pub numbered : Bool
 
--- before anything was read
+-- the state before anything was read
 abbrev pub at_start : Mark
 at_start = record { lists = 0; names = []; numbered = false }
 
--- one list more is opened
+-- the state with one more list opened
 abbrev pub opened : Mark → Mark
 opened m = record m { lists = m.lists + 1 }
 

@@ -1,12 +1,12 @@
--- What is wrong with the names of a tree or of items, in order: of each element its tag, its
--- attributes, and then what it holds.
+-- The refusals of the names of a tree or of items, in order: for each element those of its tag, of
+-- its attributes, and then of its content.
 use Rattle.std.specs.Prelude.{ℕ, List, [], ◌∷◌, ◌++◌, Option, Some, None}
 use Rattle.html_names.specs.NameFaults.{number_of}
 use Rattle.html_names.specs.Names.{tag_fault, attr_fault}
 use Rattle.html_names.specs.declared.fault.NameFault.{NameFault}
-use Rattle.html_dom_tree.specs.Tree.{TextPair, NodeView, tag_node, text_node, element_node, frame_node, NodesView, none, node, ElementView}
+use Rattle.html_dom_tree.specs.Tree.{TextPair, NodeView, element_node, NodesView, none, node, ElementView}
 use Rattle.html_flow_convert.specs.Items as flow
-use Rattle.html_flow_convert.specs.Items.{ItemView, tag_item, element_item, space_item, text_item, hole_item, break_item, box_item, block_item, frame_item, ItemsView, BodyView, absent, present}
+use Rattle.html_flow_convert.specs.Items.{ItemView, element_item, box_item, block_item, ItemsView, BodyView, absent, present}
 
 -- a refusal: its number and its span
 abbrev pub Refusal : Type 0
@@ -20,16 +20,14 @@ abbrev pub pairs_refusals : (span : ℕ) → List TextPair → List Refusal
 pairs_refusals span [] = []
 pairs_refusals span (p ∷ ps) = refusals span (attr_fault p.0) ++ pairs_refusals span ps
 
--- of an element's own names
+-- the refusals of the names of an element itself
 abbrev pub own_refusals : (span : ℕ) (tag : List ℕ) (pairs : List TextPair) → List Refusal
 own_refusals span tag pairs = refusals span (tag_fault tag) ++ pairs_refusals span pairs
 
 unfoldable mutual
   pub name_refusals : NodeView → List Refusal
-  name_refusals (tag_node t) = []
-  name_refusals (text_node s span) = []
   name_refusals (element_node h kids) = own_refusals h.span h.name h.attrs ++ all_name_refusals kids
-  name_refusals (frame_node b) = []
+  name_refusals _ = []
 
   pub all_name_refusals : NodesView → List Refusal
   all_name_refusals none = []
@@ -40,16 +38,11 @@ element_refusals e = name_refusals (element_node e.0 e.1)
 
 unfoldable mutual
   pub item_refusals : ItemView → List Refusal
-  item_refusals (tag_item t) = []
   item_refusals (element_item h body) =
       own_refusals h.span h.name h.attrs ++ body_refusals body
-  item_refusals (space_item span) = []
-  item_refusals (text_item s span) = []
-  item_refusals hole_item = []
-  item_refusals (break_item span) = []
   item_refusals (box_item body span) = body_refusals body
   item_refusals (block_item body span) = body_refusals body
-  item_refusals (frame_item f) = []
+  item_refusals _ = []
 
   pub body_refusals : BodyView → List Refusal
   body_refusals absent = []

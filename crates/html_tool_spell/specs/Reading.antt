@@ -1,5 +1,6 @@
--- How calls end that read a part of a JSON value: those before a name was refused make what the part
--- spells, and the others only see that it spells something, or where the form is left.
+-- The outcomes of calls that read a part of a JSON value. Before a name was refused, a call makes
+-- what the part spells; after that, it only checks that the part spells something. In both cases it
+-- may fail where the part leaves the form.
 use Rattle.std.specs.Prelude.{◌≡◌, ◌≢◌, ℕ, ◌+◌, true, false, List, [], ◌∷◌, ◌++◌, Option, Some, None, Result, Ok, MatchResult, String, Vec, vec_len, vec_capacity}
 use Rattle.std.specs.declared.alloc.Global.{Global}
 use Rattle.serde_json.specs.Data.{Data}
@@ -30,11 +31,11 @@ use Rattle.html_tool_spell.specs.declared.fault.Fault.TheVariants.{OutOfMemory, 
 use Rattle.html_tool_spell.specs.declared.fault.InputPlace.TheVariants.{Form}
 use Rattle.html_tool_spell.specs.declared.reader.Reader.{Reader}
 
--- what a reader remembers of what was read, apart from refusals
+-- the state of a reader, apart from refusals
 abbrev pub mark : Reader → Mark
 mark r = record { lists = r.lists; names = r.places; numbered = r.numbered }
 
--- the first refusal, of what was refused before and then these
+-- the first refusal: the earlier one, if there is one, or the first of these
 abbrev pub first_of : (before : Option (ℕ × Span)) → List Refusal → Option (ℕ × Span)
 first_of (Some r) rs = Some r
 first_of None [] = None
@@ -43,23 +44,24 @@ first_of None (r ∷ rs) = Some (r.0, record { 0 = r.1 })
 abbrev pub IsWant : Fault → Type 0
 IsWant fault = fault ≡ OutOfMemory
 
--- the form is left there; memory aside
+-- the part leaves the form at the place of the fault, or an allocation failed
 abbrev pub IsWrong : {A : Type 0} → Left A → Fault → Type 0
 IsWrong wanted OutOfMemory = Unit {0}
 IsWrong wanted (BadInput place) = IsLeft wanted place
 IsWrong wanted (Refused number span) = ⊥
 
--- there is no such part, and so the form is left before the first list; memory aside
+-- there is no such part, so the value leaves the form before the first list, or an allocation
+-- failed
 abbrev pub IsMissing : {A : Type 0} → Option A → Fault → Type 0
 IsMissing wanted OutOfMemory = Unit {0}
 IsMissing wanted (BadInput place) = (wanted ≡ None) × (place ≡ Form 0)
 IsMissing wanted (Refused number span) = ⊥
 
--- a part without names, which stands before the first list
+-- a part without names, which stands before the first list, was read or is missing
 abbrev pub ReadsMember : {A B : Type 0} → (view : A → B) → Result A Fault → Option B → Type 0
 ReadsMember view r wanted = MatchResult r (λ a. wanted ≡ Some (view a)) (IsMissing wanted)
 
--- the JSON value of a text was read, or there is none, and a place in the text is told; memory aside
+-- the text is not a JSON value and the fault has a place in it, or an allocation failed
 abbrev pub IsNoJson : Option Data → Fault → Type 0
 IsNoJson wanted OutOfMemory = Unit {0}
 IsNoJson wanted (BadInput place) = IsInText place × (wanted ≡ None)
@@ -73,7 +75,8 @@ abbrev pub Notes : (number : ℕ) → Span → Result (Unit {0}) Fault → (befo
 Notes number span r before after = MatchResult r (λ _. (number ≢ 0) × (after
     ≡ record before { refused = first_of before.refused ((number, span.0) ∷ []) })) IsWant
 
--- something is spelled, and its first refusal is remembered; it was made where nothing is refused
+-- the part spells something, and its first refusal is remembered; if nothing is refused, it was
+-- made
 pub record IsRead {B : Type 0} (refusals : B → List Refusal) (made : B) (wanted : Left (B × Mark))
     (before after : Reader) : Type 0 where
   pub whole : B
@@ -81,7 +84,7 @@ pub record IsRead {B : Type 0} (refusals : B → List Refusal) (made : B) (wante
   pub noted : after.refused ≡ first_of before.refused (refusals whole)
   pub same : after.refused ≡ None → made ≡ whole
 
--- a part was read, or the form is left in it
+-- a part was read, or it leaves the form
 abbrev pub Reads : {A B : Type 0} → (view : A → B) → (refusals : B → List Refusal)
     → Result A Fault → Left (B × Mark) → (before after : Reader) → Type 0
 Reads view refusals r wanted before after =
@@ -91,7 +94,7 @@ abbrev pub ReadsNode : Result HtmlNode Fault → Left (NodeView × Mark) → (be
     → Type 0
 ReadsNode = Reads node_view name_refusals
 
--- a node was read and added to others, of which there may be as many as before
+-- a node was read and appended to others, and the capacity is the same
 pub record IsAdded (wanted : Left (NodeView × Mark)) (old new : Vec HtmlNode Global)
     (before after : Reader) : Type 0 where
   pub made : HtmlNode
@@ -100,7 +103,7 @@ pub record IsAdded (wanted : Left (NodeView × Mark)) (old new : Vec HtmlNode Gl
   pub room : vec_capacity new ≡ vec_capacity old
   pub read : IsRead name_refusals (node_view made) wanted before after
 
--- a part was read as a node that was added to others, or the form is left in it
+-- a part was read as a node and appended to others, or it leaves the form
 abbrev pub AddsNode : Result (Unit {0}) Fault → Left (NodeView × Mark)
     → (old new : Vec HtmlNode Global) → (before after : Reader) → Type 0
 AddsNode r wanted old new before after =
@@ -123,17 +126,17 @@ part_refusals p = item_refusals p.0
 abbrev pub ReadsPart : Result Pair Fault → Left (Part × Mark) → (before after : Reader) → Type 0
 ReadsPart = Reads flow.pair_view part_refusals
 
--- what has no list that is numbered
+-- a part without a numbered list
 abbrev pub marked : {A : Type 0} → Mark → Option A → Left (A × Mark)
 marked m = from_part m.lists (λ a. Ok (a, m))
 
--- a part without names that are judged, which is read in the list that was opened last
+-- a part without names that can be refused was read in the list that was opened last
 abbrev pub ReadsHere : {A B : Type 0} → (view : A → B) → Result A Fault → Option B → Reader
     → Type 0
 ReadsHere view r wanted reader =
     MatchResult r (λ a. wanted ≡ Some (view a)) (IsWrong (marked (mark reader) wanted))
 
--- a name has a location; where there are numbers, it has none, memory aside
+-- the value has used a number for a location, so a name has none, or an allocation failed
 abbrev pub IsBesideNumbers : Reader → Fault → Type 0
 IsBesideNumbers reader OutOfMemory = Unit {0}
 IsBesideNumbers reader (BadInput place) = (reader.numbered ≡ true) × (place ≡ Form reader.lists)

@@ -1,9 +1,9 @@
--- The tree that a JSON value spells, by the shape of its lists. Names are not judged here.
+-- The tree that a JSON value spells, by the shape of its lists. Names are not checked here.
 --     ["text", t]   ["el", tag, [[name, value], ..], [node, ..]]
 --     ["start", n]   ["start", n, dest]   ["end", n]
--- The spans are the numbers of these lists, from 1 on, in the order of their opening brackets. Where a
--- value spells no tree, the form is left at the number of the last list that is opened, 0 before the
--- first: a list that is none of these is opened, and nothing in it is looked at.
+-- The spans are the numbers of these lists, counted from 1 in the order of their opening brackets.
+-- A value that spells no tree leaves the form at the number of the last list that is opened, or at
+-- 0 before the first. A list that is none of these counts as opened, but nothing in it is read.
 use Rattle.std.specs.Prelude.{ℕ, List, [], false, None, Ok, Err}
 use Rattle.serde_json.specs.Data.{Data, array, Items, no_items, item}
 use Rattle.html_dom_tree.specs.Tree.{TextPair, Head, NodeView, tag_node, text_node, element_node, frame_node, NodesView, none, node, ElementView}
@@ -34,13 +34,13 @@ kind_from Start fields m as_element = numbered_leaf tag_node (plain_start_form f
 kind_from End fields m as_element = numbered_leaf tag_node (end_form fields) m
 kind_from kind fields m as_element = Err m.lists
 
--- the node that a value spells behind what was read, and what is remembered then
+-- the node that a value spells, and the state of the reader after it
 abbrev mutual
   pub spelled_node : Data → Mark → Left (NodeView × Mark)
   spelled_node (array items) m = form items (opened m)
   spelled_node _ m = Err m.lists
 
-  -- that of the list that was opened last
+  -- the node of the list that was opened last
   pub form : Items → Mark → Left (NodeView × Mark)
   form no_items m = Err m.lists
   form (item kind fields) m = from_part m.lists

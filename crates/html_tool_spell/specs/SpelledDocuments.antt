@@ -1,12 +1,12 @@
--- The document that a JSON object spells: what is known of it, its items, its footnotes and nodes for
--- its head.
+-- The document that a JSON object spells: the information about it, its items, its footnotes and
+-- nodes for its head.
 --     {"title": t, "description": t, "authors": [t, ..], "keywords": [t, ..], "lang": t, "region": t,
 --      "items": [item, ..], "footnotes": [item, ..], "head": [node, ..]}
--- Each member may be left out; a region stands only beside a language. An object with another member
--- spells nothing. Items have the forms of documents, in which names of places stand for all of them.
--- Names of items are not judged here. The spans are the numbers of the lists of items
--- and nodes, from 1 on, through the items, then the footnotes, then the head. Where the object is wrong,
--- or there is none, the form is left before the first list.
+-- Each member may be left out, but a region needs a language. An object with any other member
+-- spells nothing. Items have the forms of documents; the name of a place has the same location in
+-- all of them. Names of elements and attributes are not checked here. The spans are the numbers
+-- of the lists of items and nodes, counted from 1 through the items, then the footnotes, then the
+-- head. If the object is wrong, or there is none, the value leaves the form before the first list.
 use Rattle.std.specs.Prelude.{ℕ, List, [], ◌∷◌, ◌++◌, codes, bytes_eq, Option, Some, None, option_map, option_and_then, if◌then◌else◌}
 use Rattle.serde_json.specs.Data.{Data, array, Items, no_items, item, Members, no_members, member}
 use Rattle.serde_json.specs.Find.{as_array, as_object}
@@ -32,7 +32,7 @@ named_member k = if bytes_eq k (codes "title") then Some Title
     else (if bytes_eq k (codes "lang") then Some Lang
     else (if bytes_eq k (codes "region") then Some Region else None)))))
 
--- these texts, and then those of a list
+-- these texts, followed by those of a list
 abbrev pub with_texts : List (List ℕ) → Items → Option (List (List ℕ))
 with_texts texts no_items = Some texts
 with_texts texts (item d ds) = option_and_then (λ t. with_texts (texts ++ t ∷ []) ds) (text_at d)
@@ -40,12 +40,12 @@ with_texts texts (item d ds) = option_and_then (λ t. with_texts (texts ++ t ∷
 abbrev pub texts_at : Data → Option (List (List ℕ))
 texts_at d = option_and_then (with_texts []) (as_array d)
 
--- the region of a language
+-- the locale with that region, if there is a language
 abbrev pub with_region : Option LocaleView → (region : List ℕ) → Option LocaleView
 with_region None region = None
 with_region (Some l) region = Some (record l { region = Some region })
 
--- what is known, and one member more of it
+-- the information with one more member
 abbrev pub with_info_member : InfoView → InfoMember → Data → Option InfoView
 with_info_member info Title d = option_map (λ t. record info { title = Some t }) (text_at d)
 with_info_member info Description d =
@@ -57,7 +57,7 @@ with_info_member info Lang d =
 with_info_member info Region d = option_and_then (λ t.
     option_map (λ l. record info { locale = Some l }) (with_region info.locale t)) (text_at d)
 
--- the parts of a document in an object: what is known, and the values of its items, its footnotes
+-- the parts of a document in an object: the information, and the values of its items, its footnotes
 -- and its head
 pub record DocumentPartsView : Type 0 where
   pub info : InfoView
@@ -65,7 +65,7 @@ pub record DocumentPartsView : Type 0 where
   pub footnotes : Data
   pub head : Data
 
--- nothing is known, and all lists are empty
+-- no information, and empty lists
 abbrev pub no_parts : DocumentPartsView
 no_parts = record {
   info = no_info;
@@ -74,20 +74,20 @@ no_parts = record {
   head = array no_items;
 }
 
--- the parts, with one member more of what is known
+-- the parts with one more member of the information
 abbrev pub with_known : DocumentPartsView → (name : List ℕ) → Data → Option DocumentPartsView
 with_known parts name d = option_map (λ info. record parts { info = info })
     (option_and_then (λ member. with_info_member parts.info member d) (named_member name))
 
--- the parts, and one member more
+-- the parts with one more member
 abbrev pub with_member : DocumentPartsView → (name : List ℕ) → Data → Option DocumentPartsView
 with_member parts name d = if bytes_eq name (codes "items") then Some (record parts { items = d })
     else (if bytes_eq name (codes "footnotes") then Some (record parts { footnotes = d })
     else (if bytes_eq name (codes "head") then Some (record parts { head = d })
     else with_known parts name d))
 
--- the parts, and the members of an object more, which stand in the order of their names: "lang"
--- before "region"
+-- the parts with the members of an object, which are in the order of their names, so that "lang"
+-- comes before "region"
 abbrev pub with_members : DocumentPartsView → Members → Option DocumentPartsView
 with_members parts no_members = Some parts
 with_members parts (member name d ms) =
@@ -96,25 +96,25 @@ with_members parts (member name d ms) =
 abbrev pub parts_at : Data → Option DocumentPartsView
 parts_at d = option_and_then (with_members no_parts) (as_object d)
 
--- what is known, the items, the footnotes, and the nodes for the head
+-- the information, the items, the footnotes, and the nodes for the head
 pub record Spelling : Type 0 where
   pub info : InfoView
   pub items : ItemsView
   pub footnotes : ItemsView
   pub head : NodesView
 
--- of the names of the items, then of the footnotes, and then of the head
+-- the refusals of the names in the items, then in the footnotes, and then in the head
 abbrev pub names_refusals : Spelling → List Refusal
 names_refusals s =
     items_refusals s.items ++ items_refusals s.footnotes ++ all_name_refusals s.head
 
--- with the nodes for the head, which are read behind the others
+-- the document with the nodes for its head, which are read after the other parts
 abbrev pub with_head : InfoView → (items notes : ItemsView) → (head : Data) → Mark → Left Spelling
 with_head info items notes head m = mapped
     (λ nodes. record { info = info; items = items; footnotes = notes; head = nodes.0 })
     (tree.list_at head m)
 
--- the items, the footnotes and the head in a row
+-- the document of these parts: the items are read first, then the footnotes, then the head
 abbrev pub spelling_from : DocumentPartsView → Left Spelling
 spelling_from parts = and_then (λ items. and_then (λ notes.
     with_head parts.info items.0 notes.0 parts.head notes.1)

@@ -1,14 +1,14 @@
--- The items that a JSON list spells, by the shape of its lists. Names are not judged here.
+-- The items that a JSON list spells, by the shape of its lists. Names are not checked here.
 --     ["text", t]   ["start", n]   ["start", n, dest]   ["end", n]   ["space"]   ["break"]   ["hole"]
 --     ["el", tag, [[name, value], ..], [item, ..]]   ["block", [item, ..]]   ["box", [item, ..]]
--- and in documents also, with css, labels, names of places and roles
+-- and in documents also, with css, labels, names of places and roles,
 --     ["el", tag, [[name, value], ..], [[property, value], ..], [item, ..]]   ["start", n, dest, label]
 --     ["place", name]   ["link", name]   ["role", role, item]
--- where dest and role may be null. The spans are the numbers of these lists, from 1 on, in the order of
--- their opening brackets. Every body is there, even an empty one, and each item has the role of its list,
--- unless it has one of its own. A place starts the location of its name, which is its label, and a link
--- leads there; a value has tags with names or tags with numbers. Where it spells no items, the form is
--- left as that of a tree is.
+-- where dest and role may be null. The spans are the numbers of these lists, counted from 1 in the
+-- order of their opening brackets. Every body is present, even an empty one, and each item has the
+-- role of its list, unless it has one of its own. A place starts the location of its name, which is
+-- its label, and a link leads there; a value has tags with names or tags with numbers, not both. A
+-- value that spells no items leaves the form at the same places as one that spells no tree.
 use Rattle.std.specs.Prelude.{ℕ, Bool, true, false, List, [], None, Some, Option, option_and_then, option_map, Ok, Err, if◌then◌else◌}
 use Rattle.serde_json.specs.Data.{Data, null, array, Items, no_items, item}
 use Rattle.serde_json.specs.Find.{as_array}
@@ -39,11 +39,11 @@ abbrev pub element_made :
 element_made css span tag pairs items =
     element_item (item_head css span tag pairs) (present items)
 
--- an item with its role, and then others
+-- an item with its role, followed by others
 abbrev pub with_part : Part → ItemsView → ItemsView
 with_part p items = flow.item p.0 p.1 items
 
--- these properties, and then those of a list; of one name the last counts
+-- these properties, followed by those of a list; the last of one name counts
 abbrev pub with_css : List TextPair → Items → Option (List TextPair)
 with_css css no_items = Some css
 with_css css (item d ds) =
@@ -52,7 +52,7 @@ with_css css (item d ds) =
 abbrev pub css_at : Data → Option (List TextPair)
 css_at d = option_and_then (with_css []) (as_array d)
 
--- a role, or null for none
+-- the role that a value spells, or null for none
 abbrev pub role_at : Data → Option RoleView
 role_at null = Some flow.unsets
 role_at d = option_map flow.sets (text_at d)
@@ -67,7 +67,7 @@ spelled_text fields m = leaf (λ t. text_item t m.lists) (text_form fields) m
 abbrev pub spelled_place : Items → Mark → Left (ItemView × Mark)
 spelled_place fields m = named_leaf (λ l t. tag_item (starts l (Some t) None)) (text_form fields) m
 
--- a link's own location is that of no name
+-- the start of a link has the location 0, which no name has
 abbrev pub spelled_link : Items → Mark → Left (ItemView × Mark)
 spelled_link fields m = named_leaf (λ l t. tag_item (starts 0 None (Some l))) (text_form fields) m
 
@@ -77,7 +77,7 @@ block_from span = mapped (λ p. (block_item (present p.0) span, p.1))
 abbrev pub box_from : (span : ℕ) → Left (ItemsView × Mark) → Left (ItemView × Mark)
 box_from span = mapped (λ p. (box_item (present p.0) span, p.1))
 
--- an item of that kind, where those whose lists hold others are given
+-- an item of that kind, given those whose lists hold others
 abbrev pub kind_from : Forms → Kind → Items → (m : Mark)
     → (as_element as_block as_box : Left (ItemView × Mark)) → Left (ItemView × Mark)
 kind_from forms Text fields m as_element as_block as_box = spelled_text fields m
@@ -98,7 +98,7 @@ kind_from forms Role fields m as_element as_block as_box = Err m.lists
 abbrev pub inner_from : Left (ItemView × Mark) → Left (Part × Mark)
 inner_from = mapped (λ p. (inheriting p.0, p.1))
 
--- the item of another list, with that role
+-- the item of another list with that role
 abbrev pub role_from : RoleView → Left (Part × Mark) → Left (Part × Mark)
 role_from role = mapped (λ p. ((p.0.0, role), p.1))
 
@@ -110,13 +110,13 @@ abbrev pub part_from : Kind → (as_item : Left (ItemView × Mark))
     (with_role : Left (Part × Mark)) → Left (Part × Mark)
 part_from kind as_item with_role = if is_role kind then with_role else inner_from as_item
 
--- the item that a value spells behind what was read, and what is remembered then
+-- the item that a value spells, and the state of the reader after it
 abbrev mutual
   pub spelled_part : Forms → Data → Mark → Left (Part × Mark)
   spelled_part forms (array items) m = part_form forms items (opened m)
   spelled_part forms _ m = Err m.lists
 
-  -- that of the list that was opened last
+  -- the item of the list that was opened last
   pub part_form : Forms → Items → Mark → Left (Part × Mark)
   part_form forms no_items m = Err m.lists
   part_form forms (item kind fields) m = from_part m.lists (λ k. part_from k
@@ -156,24 +156,24 @@ block_form forms fields m = block_from m.lists (body_form forms fields m)
 abbrev pub box_form : Forms → Items → Mark → Left (ItemView × Mark)
 box_form forms fields m = box_from m.lists (body_form forms fields m)
 
--- an item of that kind, in the list that was opened last
+-- an item of that kind in the list that was opened last
 abbrev pub item_of_kind : Forms → Kind → Items → Mark → Left (ItemView × Mark)
 item_of_kind forms kind fields m = kind_from forms kind fields m (element_form forms fields m)
     (block_form forms fields m) (box_form forms fields m)
 
--- an item and its role
+-- an item of that kind in the list that was opened last, and its role
 abbrev pub part_of_kind : Forms → Kind → Items → Mark → Left (Part × Mark)
 part_of_kind forms kind fields m =
     part_from kind (item_of_kind forms kind fields m) (role_form forms fields m)
 
--- the items that a list spells, in these forms
+-- the items that a value spells in these forms
 abbrev pub items_at : Forms → Data → Left ItemsView
 items_at forms d = mapped (λ p. p.0) (list_at forms d at_start)
 
--- in the forms of the program
+-- the items that a value spells in the forms of the program
 abbrev pub spelled_items : Data → Left ItemsView
 spelled_items = items_at Program
 
--- and in those of documents
+-- the items that a value spells in the forms of documents
 abbrev pub spelled_document_items : Data → Left ItemsView
 spelled_document_items = items_at Document

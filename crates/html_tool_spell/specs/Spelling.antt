@@ -1,4 +1,4 @@
--- How calls end that make something of what a JSON value spells.
+-- The outcomes of calls that make something of what a JSON value spells.
 use Rattle.std.specs.Prelude.{◌≡◌, List, [], Result, Ok, IsOkAnd, MatchResult, Vec}
 use Rattle.std.specs.declared.alloc.Global.{Global}
 use Rattle.serde_json.specs.View.{view}
@@ -18,19 +18,20 @@ use Rattle.html_tool_spell.specs.declared.documents.DocumentParts.{DocumentParts
 use Rattle.html_tool_spell.specs.declared.fault.Fault.{Fault}
 use Rattle.html_tool_spell.specs.declared.fault.Fault.TheVariants.{OutOfMemory, BadInput, Refused}
 
--- the form is left, or something is spelled and its first name that is none is told; memory aside
-abbrev pub IsTold : {B : Type 0} → (refusals : B → List Refusal) → Left B → Fault → Type 0
-IsTold refusals wanted OutOfMemory = Unit {0}
-IsTold refusals wanted (BadInput place) = IsLeft wanted place
-IsTold refusals wanted (Refused number span) =
+-- the value leaves the form, or the fault is that of the first name that is refused in what it
+-- spells, or an allocation failed
+abbrev pub IsSpellingFault : {B : Type 0} → (refusals : B → List Refusal) → Left B → Fault → Type 0
+IsSpellingFault refusals wanted OutOfMemory = Unit {0}
+IsSpellingFault refusals wanted (BadInput place) = IsLeft wanted place
+IsSpellingFault refusals wanted (Refused number span) =
     IsOkAnd wanted (λ b. IsFirst (Refused number span) (refusals b))
 
--- what is spelled was made, and no name in it is refused, or the fault is right
+-- what the value spells was made and no name in it is refused, or the fault is as defined above
 abbrev pub GivesSpelled : {A B : Type 0} → (view : A → B) → (refusals : B → List Refusal)
     → Result A Fault → Left B → Type 0
 GivesSpelled view refusals r wanted =
     MatchResult r (λ a. (wanted ≡ Ok (view a)) × (refusals (view a) ≡ []))
-    (IsTold refusals wanted)
+    (IsSpellingFault refusals wanted)
 
 abbrev pub GivesElement : Result HtmlElement Fault → Left ElementView → Type 0
 GivesElement = GivesSpelled element_view element_refusals

@@ -1,5 +1,5 @@
-//! What is known of a document, its items, its footnotes and the nodes for its head, as a JSON value
-//! spells them.
+//! The document that a JSON value spells: the information about it, its items, its footnotes and
+//! the nodes for its head.
 
 ghost use Rattle.std.specs.Prelude.{◌≡◌};
 ghost use Rattle.serde_json.specs.View.{view};
@@ -20,7 +20,8 @@ use html_flow_convert::Pair;
 use serde_json::Value;
 use std::alloc::Global;
 
-/// The parts of a document: what is known of it, and the values of its items, footnotes and head.
+/// The parts of a document: the information about it, and the values of its items, footnotes and
+/// head.
 #[derive(Drop)]
 pub(crate) struct DocumentParts {
     info: DocumentInfo,
@@ -95,10 +96,10 @@ fn with_known(
     Ok(DocumentParts { info, ..parts })
 }
 
-/// What a value spells as a document.
+/// A document that a value spells.
 #[derive(Drop)]
 pub struct SpelledDocument {
-    /// What is known of it.
+    /// The information about it.
     pub info: DocumentInfo,
     /// Its items.
     pub items: Vec<Pair>,
@@ -108,9 +109,11 @@ pub struct SpelledDocument {
     pub head: Vec<HtmlNode>,
 }
 
-/// The document that a value spells, where no name in it is refused. Its items have the forms of
-/// documents: more than those of [`items_in`](crate::items_in). It is made of the texts of a value, which
-/// is gone where nothing is made.
+/// Returns the document that a value spells. Its items have the forms of documents, which are more
+/// than those of [`items_in`](crate::items_in). Consumes the value and reuses its texts.
+///
+/// Fails with [`Fault::BadInput`] if the value spells no document, whatever its names are, and with
+/// [`Fault::Refused`] for the first name that is refused.
 pub fn document_in(alloc: Global, value: Value) -> Result<SpelledDocument, Fault>
     ensures { GivesSpelledDocument result (spelled_document (view value)) }
 {

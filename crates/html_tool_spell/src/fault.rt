@@ -2,28 +2,28 @@ use html_dom_tree::Span;
 use html_names::Refused;
 use std::alloc::{AllocError, AllocFailed};
 
-/// Where an input is bad.
+/// The place where an input is bad.
 #[derive(Clone, Copy, Debug, PartialEq, Eq)]
 pub enum InputPlace {
-    /// No place is told: the words or the numbers of the call are wrong, or a page is not read.
+    /// There is no place: the words or the numbers of the call are wrong.
     Unknown,
-    /// The text is no JSON value, or no UTF-8: the line, from 1 on, and the column, in bytes from 1 on,
-    /// as `serde_json` tells them. Where the text ends too soon, the column is how long its last line
-    /// is.
+    /// The place where the text is not a JSON value or not UTF-8: the line, counted from 1, and the
+    /// column, counted in bytes from 1, as `serde_json` reports them. If the text ends too soon,
+    /// the column is the length of its last line.
     Text(usize, usize),
-    /// The form is left: how many lists of nodes or items are opened up to the first value that is not
-    /// what the form wants, which is the number of the last of them.
+    /// The place where the value leaves the form: how many lists of nodes or items are opened up to
+    /// the first value that does not fit the form, which is the number of the last of them.
     Form(u64),
 }
 
-/// Why there is no text of a JSON value, or nothing that it spells.
+/// The reason why a call returns no text of a JSON value, or nothing that the value spells.
 #[derive(Clone, Copy, Debug, PartialEq, Eq)]
 pub enum Fault {
     /// An allocation failed.
     OutOfMemory,
     /// There is no JSON value, or it spells nothing.
     BadInput(InputPlace),
-    /// The value spells something that is refused: the number of the first fault, and its span.
+    /// The value spells something that is refused: the number of the first refusal, and its span.
     Refused(u8, Span),
 }
 

@@ -1,4 +1,4 @@
-//! What is known of a document, by the members of an object.
+//! The information about a document, from the members of an object.
 
 ghost use Rattle.std.specs.Prelude.{◌≡◌, option_map};
 ghost use Rattle.serde_json.specs.View.{view};
@@ -15,7 +15,7 @@ use html_dom_document::{DocumentInfo, Locale};
 use serde_json::Value;
 use std::alloc::Global;
 
-/// A member of an object that tells what is known of a document.
+/// A member of an object that holds information about a document.
 #[derive(Clone, Copy)]
 pub(crate) enum InfoMember {
     Title,

@@ -1,8 +1,8 @@
-/// Which forms of items a reader takes.
+/// The forms of items that a reader accepts.
 #[derive(Clone, Copy)]
 pub(crate) enum Forms {
-    /// Those of the program.
+    /// The forms of the program.
     Program,
-    /// Those of documents: also css, labels, names of places, and roles.
+    /// The forms of documents, which also have css, labels, names of places, and roles.
     Document,
 }

@@ -27,16 +27,17 @@ use html_values_css::Properties;
 use serde_json::Value;
 use std::alloc::Global;
 
-/// The items that a value spells, where no name in them is refused. The value is copied once.
+/// Returns the items that a value spells. Copies the value once.
 ///
-/// A value that spells none is bad input, whatever its names are.
+/// Fails with [`Fault::BadInput`] if the value spells no items, whatever its names are, and with
+/// [`Fault::Refused`] for the first name that is refused.
 pub fn items_in(alloc: Global, value: &Value) -> Result<Vec<Pair>, Fault>
     ensures { GivesItems result (spelled_items (view value.now)) }
 {
     into_items(alloc, value.clone()?)
 }
 
-/// The same, made of the texts of a value, which is gone where nothing is made.
+/// Does the same as [`items_in`], but consumes the value and reuses its texts.
 pub fn into_items(alloc: Global, value: Value) -> Result<Vec<Pair>, Fault>
     ensures { GivesItems result (spelled_items (view value)) }
 {
@@ -74,7 +75,7 @@ fn pair_of(reader: &mut Reader, forms: Forms, value: Value) -> Result<Pair, Faul
     opened_pair(reader, forms, list)
 }
 
-/// The item of the list that was opened last.
+/// Returns the item of the list that was opened last.
 #[cycle(spell)]
 fn opened_pair(reader: &mut Reader, forms: Forms, list: Vec<Value>) -> Result<Pair, Fault>
     ensures { ReadsPart result (part_form forms (items_view list.items) (mark reader.old))
@@ -109,7 +110,7 @@ fn is_role(kind: Kind) -> bool
     }
 }
 
-// (few items have a role or css, and each item within another takes stack)
+// Not inlined: few items have a role or css, and each level of items takes stack.
 #[cycle(spell)]
 #[inline(never)]
 #[tactic(auto, using(crate::proofs::ItemForms::item_forms))]

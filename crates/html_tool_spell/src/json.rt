@@ -5,8 +5,8 @@ use crate::{Fault, InputPlace};
 use serde_json::{Category, Value};
 use std::alloc::Global;
 
-/// The JSON value that the bytes are. Bytes that are none, or no UTF-8, are bad input at a place in the
-/// text.
+/// Parses the bytes as a JSON value. Fails with [`Fault::BadInput`] and a place in the text if they
+/// are not a JSON value or not UTF-8, and with [`Fault::OutOfMemory`] if an allocation fails.
 #[tactic(auto, using(crate::proofs::Bytes::json_of_steps))]
 pub fn parse(alloc: Global, bytes: &[u8]) -> Result<Value, Fault>
     ensures { ReadsJson result (json_of bytes.now) }

@@ -7,7 +7,7 @@ ghost use Rattle.html_tool_spell.specs.FormKinds.{document_kind, list_kind, name
 use crate::input_forms::Forms;
 use serde_json::Value;
 
-/// What a list spells.
+/// The kind of node or item that a list spells.
 #[derive(Clone, Copy)]
 pub(crate) enum Kind {
     Text,
@@ -24,7 +24,7 @@ pub(crate) enum Kind {
     Role,
 }
 
-/// The kind of a list, which its first value names.
+/// Returns the kind of a list, which its first value names.
 pub(crate) fn list_kind(forms: Forms, list: &[Value]) -> Option<Kind>
     ensures { result ≡ list_kind forms (items_view list.now) }
 {

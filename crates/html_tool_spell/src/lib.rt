@@ -1,7 +1,7 @@
-//! Trees, items and documents that JSON spells, or where the form is left. Each public name that a user
-//! of this project names is passed on by html_tool_run.
+//! The trees, items and documents that JSON spells, or the place where the JSON leaves their form.
+//! The crate html_tool_run reexports the names that a user of this project needs.
 //!
-//! A tree is spelled by its root, and items by a list of them:
+//! JSON spells a tree by its root, and items by a list of them:
 //!
 //! ```json
 //! ["el", "p", [["class", "intro"]], [["text", "a"]]]

@@ -20,16 +20,17 @@ use html_values_css::Properties;
 use serde_json::Value;
 use std::alloc::Global;
 
-/// The element that a value spells, where no name in it is refused. The value is copied once.
+/// Returns the element that a value spells. Copies the value once.
 ///
-/// A value that spells none is bad input, whatever its names are.
+/// Fails with [`Fault::BadInput`] if the value spells no element, whatever its names are, and with
+/// [`Fault::Refused`] for the first name that is refused.
 pub fn element_in(alloc: Global, value: &Value) -> Result<HtmlElement, Fault>
     ensures { GivesElement result (spelled_element (view value.now)) }
 {
     into_element(alloc, value.clone()?)
 }
 
-/// The same, made of the texts of a value, which is gone where nothing is made.
+/// Does the same as [`element_in`], but consumes the value and reuses its texts.
 pub fn into_element(alloc: Global, value: Value) -> Result<HtmlElement, Fault>
     ensures { GivesElement result (spelled_element (view value)) }
 {
@@ -67,7 +68,7 @@ fn push_node(reader: &mut Reader, nodes: &mut Vec<HtmlNode>, value: Value) -> Re
     push_list(reader, nodes, list)
 }
 
-/// Adds the node of the list that was opened last.
+/// Appends the node of the list that was opened last.
 #[cycle(spell)]
 fn push_list(reader: &mut Reader, nodes: &mut Vec<HtmlNode>, list: Vec<Value>) -> Result<(), Fault>
     requires { vec_len nodes.old < vec_capacity nodes.old }
@@ -96,8 +97,7 @@ fn push_form(
         Kind::Element => push_element(reader, nodes, list),
         Kind::Start => push_tag(reader, nodes, plain_start_in(list)),
         Kind::End => push_tag(reader, nodes, end_in(list)),
-        Kind::Block | Kind::Box | Kind::Space | Kind::Break | Kind::Hole => Err(reader.left()),
-        Kind::Place | Kind::Link | Kind::Role => Err(reader.left()),
+        _ => Err(reader.left()),
     }
 }
 

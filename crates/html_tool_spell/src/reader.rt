@@ -1,4 +1,4 @@
-//! What a reader of a JSON value remembers, and how it reads names.
+//! The state of a reader of a JSON value, and how it reads names.
 
 ghost use Rattle.std.specs.Prelude.{◌≡◌, [], None, OnOk, IfErr, chars, option_map};
 ghost use Rattle.serde_json.specs.View.{view};
@@ -21,19 +21,19 @@ use html_values_css::Properties;
 use serde_json::Value;
 use std::alloc::Global;
 
-/// What was read of a value so far. A name that is refused does not end the reading, since the rest
-/// may spell nothing, and then the value is bad input whatever its names are: another name stands in
-/// its place, and what was made is not given away.
+/// The state of a reader. A name that is refused does not end the reading, since the rest of the
+/// value may spell nothing, and then the value is bad input whatever its names are. The reader puts
+/// another name in its place, and what it made is not returned.
 #[derive(Drop)]
 pub(crate) struct Reader {
     alloc: Global,
-    /// How many lists of nodes or items were opened.
+    /// The number of lists of nodes or items that were opened.
     lists: u64,
     /// The locations of names.
     places: NamedPlaces,
     /// Whether there was a tag whose location is a number.
     numbered: bool,
-    /// The first name that was refused: the number of its fault, and the span.
+    /// The number of the fault of the first name that was refused, and its span.
     refused: Option<(u8, Span)>,
 }
 
@@ -70,21 +70,23 @@ impl Reader {
         Ok(())
     }
 
-    /// The span of the list that was opened last.
+    /// Returns the span of the list that was opened last.
     pub(crate) fn here(&self) -> Span
         ensures { result.0 ≡ self.now.lists }
     {
         Span(self.lists)
     }
 
-    /// The form is left in the list that was opened last, or before the first.
+    /// Returns the fault that the value leaves the form in the list that was opened last, or before
+    /// the first.
     pub(crate) fn left(&self) -> Fault
         ensures { result ≡ BadInput (Form self.now.lists) }
     {
         Fault::BadInput(InputPlace::Form(self.lists))
     }
 
-    /// That tag, whose locations are numbers. Names and numbers have no places beside one another.
+    /// Returns the tag, whose locations are numbers. Fails with bad input if there is no tag, or if
+    /// the value has used a name for a location: it has only names or only numbers.
     pub(crate) fn numbered(&mut self, tag: Option<Tag>) -> Result<Tag, Fault>
         ensures { Reads tag_view (λ t. []) result
             (numbered_leaf (λ t. t) (option_map tag_view tag) (mark self.old)) self.old self.new }
@@ -105,7 +107,8 @@ impl Reader {
         self.places.name(Location(1)).is_some()
     }
 
-    /// The location of a name, where there are no numbers.
+    /// Returns the location of a name. Fails with bad input if the value has used a number for a
+    /// location.
     pub(crate) fn named(&mut self, name: &str) -> Result<Location, Fault>
         ensures { Locates (chars name.now) result self.old self.new }
     {
@@ -115,7 +118,8 @@ impl Reader {
         Ok(self.places.location(name)?)
     }
 
-    /// Remembers the fault of a name of the element with that span, unless another was before it.
+    /// Remembers the fault of a name of the element with that span, unless there was one before.
+    /// Fails if the fault is that of an allocation.
     fn note(&mut self, fault: &NameFault, span: Span) -> Result<(), Fault>
         ensures { Notes (number_of fault.now) span result self.old self.new }
     {
@@ -167,7 +171,7 @@ impl Reader {
         Ok(HtmlAttrs(pairs))
     }
 
-    /// The css that a value tells.
+    /// Returns the css that a value spells.
     pub(crate) fn css(&self, value: Value) -> Result<Properties, Fault>
         ensures { ReadsHere (λ css. css) result (css_at (view value)) self.now }
     {

@@ -35,12 +35,12 @@ horizontal_text dir = dir_text (horizontal_dir dir)
 abbrev pub four_digits : ℕ → List ℕ
 four_digits n = two_digits (n / 100) ++ two_digits (n % 100)
 
--- the years that have four digits, except the year 0
+-- whether a year is from 1 to 9999, so that it has four digits
 abbrev pub year_fits : ℤ → Bool
 year_fits (pos n) = ltb 0 n && ltb n 10_000
 year_fits (negsuc n) = false
 
--- a moment without a year has a text, too
+-- whether the year of a moment, if it has one, is from 1 to 9999
 abbrev pub has_year : Moment → Bool
 has_year (Date d) = year_fits d.year
 has_year (Time t) = true
@@ -52,7 +52,7 @@ date_text d =
     four_digits (unsigned_abs d.year) ++ codes "-" ++ two_digits d.month
     ++ codes "-" ++ two_digits d.day
 
--- seconds are omitted if they are zero
+-- the seconds of a time, omitted if they are zero
 abbrev pub seconds_text : ℕ → List ℕ
 seconds_text n = if n == 0 then [] else codes ":" ++ two_digits n
 
@@ -66,11 +66,12 @@ moment_text (Date d) = date_text d
 moment_text (Time t) = time_text t
 moment_text (DateTime b) = date_text b.date ++ codes "T" ++ time_text b.time
 
--- two texts with a space between them, if neither is empty
+-- a text with a space at its end, unless it is empty
 abbrev pub gap_after : List ℕ → List ℕ
 gap_after [] = []
 gap_after (x ∷ xs) = x ∷ xs ++ codes " "
 
+-- two texts with a space between them, if neither is empty
 abbrev pub texts_with_gap : List ℕ → List ℕ → List ℕ
 texts_with_gap xs [] = xs
 texts_with_gap xs (y ∷ ys) = gap_after xs ++ y ∷ ys

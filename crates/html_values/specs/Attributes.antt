@@ -1,4 +1,4 @@
--- The promise of a call that makes a text: the result is this one, unless memory ran out.
+-- The contract of a call that returns a text: the result is this text, unless the call fails.
 use Rattle.std.specs.Prelude.{ℕ, List, IfOk, ◌≡◌, Result, String}
 use Rattle.std.specs.declared.alloc.Global.{Global}
 use Rattle.html_names.specs.Texts.{text_view}

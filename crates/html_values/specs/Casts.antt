@@ -26,22 +26,22 @@ pub data CastAnswer : Type 0 where
   nothing : CastAnswer
   refuses : CastFault → CastAnswer
 
--- the fault that an answer is, if it is one
+-- the fault of an answer, if it is a refusal
 abbrev pub answer_faults : CastAnswer → List CastFault
 answer_faults (gives t) = []
 answer_faults nothing = []
 answer_faults (refuses f) = f ∷ []
 
--- how a cast ends: with the value of the answer, as a view shows it, or with its fault
+-- how a cast ends: with a value whose view is the answer, or with the fault of the answer
 abbrev pub GivesCast : {A : Type 0} → (A → CastAnswer) → Result A CastFault → CastAnswer → Type 0
 GivesCast view r answer = Gives view r answer (answer_faults answer)
 
--- how a search for one value ends: with it, or with that fault
+-- how a call ends that returns a value if there is one, and fails with that fault otherwise
 abbrev pub Finds : {A B : Type 0} → (A → B) → CastFault → Result A CastFault → Option B → Type 0
 Finds view fault (Ok made) found = found ≡ Some (view made)
 Finds view fault (Err other) found = (other ≡ fault) × (found ≡ None)
 
--- the answer for what was made: a text, a candidate, or a text or nothing
+-- the answer for a result: a text, an image candidate, or an optional text
 abbrev pub text_answer : String Global → CastAnswer
 text_answer text = gives (text_view text)
 
@@ -49,7 +49,7 @@ abbrev pub candidate_answer : ImageCandidate → CastAnswer
 candidate_answer made =
     gives (candidate_text (text_view made.src) (option_map non_zero_u64_get made.width))
 
--- a text made for an array's item, or the refusal
+-- the result for an array's item: its text, or the fault
 abbrev pub text_result : Result (String Global) CastFault → Result (List ℕ) CastFault
 text_result (Ok text) = Ok (text_view text)
 text_result (Err fault) = Err fault
@@ -80,7 +80,7 @@ native_castable NativeType.IconSize (array_value vs) = true
 native_castable NativeType.ImageCandidate (image_value src width) = true
 native_castable t v = false
 
--- a number from 0 on, and one from 1 on
+-- an integer as a number from 0 on, and as one from 1 on, if it is in that range
 abbrev pub natural : ℤ → Option ℕ
 natural (pos n) = Some n
 natural (negsuc n) = None
@@ -90,7 +90,7 @@ positive (pos zero) = None
 positive (pos (suc n)) = Some (suc n)
 positive (negsuc n) = None
 
--- any other number is refused
+-- the answer for a number in the range, and the refusal of any other
 abbrev pub in_range : Option ℕ → (ℕ → CastAnswer) → CastAnswer
 in_range None answer = refuses NumberRange
 in_range (Some n) answer = answer n
@@ -105,12 +105,12 @@ horizontal RTL = gives (dir_text RTL)
 horizontal TTB = refuses VerticalDir
 horizontal BTT = refuses VerticalDir
 
--- a whole number
+-- the whole number that a value is, if it is one
 abbrev pub int_of : ValueView → Option ℤ
 int_of (int_value n) = Some n
 int_of v = None
 
--- exactly two whole numbers, none below zero
+-- the size of an icon: exactly two whole numbers, none below zero
 abbrev pub size_of : Option ℤ → Option ℤ → CastAnswer
 size_of None height = refuses WrongKind
 size_of (Some width) None = refuses WrongKind
@@ -130,7 +130,7 @@ abbrev pub candidate : List ℕ → Option ℕ → CastAnswer
 candidate src width =
     if is_bad_source src then refuses BadImageSource else gives (candidate_text src width)
 
--- a width is at least one
+-- an image, whose width, if it has one, is at least one
 abbrev pub image : List ℕ → Option ℤ → CastAnswer
 image src None = candidate src None
 image src (Some width) = in_range (positive width) (λ w. candidate src (Some w))
@@ -188,7 +188,7 @@ abbrev mutual
   presence_in no_attr_types = false
   presence_in (attr_type k ks) = has_presence k || presence_in ks
 
--- nothing, as the text of an item, is the empty text
+-- the answer for an item: its text, which is empty for nothing, or the refusal
 abbrev pub item_answer : CastAnswer → CastAnswer
 item_answer (gives t) = gives t
 item_answer nothing = gives []
@@ -199,7 +199,7 @@ abbrev pub shorthand_answer : Bool → CastAnswer → CastAnswer
 shorthand_answer false answer = refuses WrongKind
 shorthand_answer true answer = item_answer answer
 
--- the text of a list's item may not contain the separator
+-- the text of a list's item, which may not contain the separator
 abbrev pub item_text : ℕ → CastAnswer → Result (List ℕ) CastFault
 item_text separator (gives t) =
     if list_any (λ c. c == separator) t then Err SeparatorInItem else Ok t
@@ -220,7 +220,7 @@ item_texts inner separator no_values = Ok []
 item_texts inner separator (value v vs) =
     and_then (item_text separator (inner v)) (item_texts inner separator vs)
 
--- a space follows a comma
+-- the text between two items of a list: the separator, with a space after a comma
 abbrev pub list_separator_text : ℕ → List ℕ
 list_separator_text separator = if separator == 44 then codes ", " else separator ∷ []
 
@@ -228,7 +228,7 @@ abbrev pub list_answer : ℕ → Texts → CastAnswer
 list_answer separator (Ok texts) = gives (join_by (λ t. t) (list_separator_text separator) texts)
 list_answer separator (Err f) = refuses f
 
--- how a call ends that makes the texts of an array's items
+-- how a call ends that returns the texts of an array's items
 abbrev pub GivesTexts : Result (Vec (String Global) Global) CastFault → ℕ → Texts → Type 0
 GivesTexts (Ok made) separator texts = texts ≡ Ok (texts_view made.items)
 GivesTexts (Err fault) separator texts =

@@ -6,7 +6,8 @@ use Rattle.jiff_core.specs.DateTime.{civil_nanos}
 use Rattle.html_values.specs.declared.moment.Moment.{Moment}
 use Rattle.html_values.specs.declared.moment.Moment.TheVariants.{Date, Time, DateTime}
 
--- a day's number from 1970-01-01 on, the nanosecond of a day, or the nanosecond from that day on
+-- a moment as a number: the day from 1970-01-01 on, the nanosecond of a day, or the nanosecond from
+-- 1970-01-01 on
 pub data MomentView : Type 0 where
   day_moment : ℤ → MomentView
   time_moment : ℕ → MomentView

@@ -38,11 +38,12 @@ pub struct ListType {
 }
 
 impl ListType {
-    /// Creates a list of such items, separated by that character, and by a space after a comma.
-    /// With `shorthand`, a value that the inner type accepts may stand for an array of itself.
+    /// Creates the type of lists whose items have the type `inner`. A cast joins the texts of the
+    /// items by `separator`, with a space after a comma. With `shorthand`, a value that the inner
+    /// type accepts may stand for an array of itself.
     ///
-    /// Each item has a text: `inner` does not contain the type of presence. If an allocation fails,
-    /// the error holds `inner`.
+    /// Each item must have a text, so `inner` must not be `Presence` or a union that contains it.
+    /// If an allocation fails, the error holds `inner`.
     pub fn new(
         alloc: Global,
         inner: AttrType,
@@ -83,7 +84,7 @@ impl AttrType {
         }
     }
 
-    /// Returns whether the type is that of presence, or a union that contains it.
+    /// Returns whether the type is `Presence`, or a union that contains it, even in inner unions.
     #[cycle(presence)]
     pub fn has_presence(&self) -> bool
         ensures { result ≡ has_presence (attr_type_view self.now) }
@@ -137,8 +138,8 @@ impl AttrType {
     /// omitted.
     ///
     /// Fails with `WrongKind` if the type does not accept the value, or with `NotInStrings` if it
-    /// lists other texts. A value that the type accepts, but that has no text there, fails with the
-    /// fault that says why. A union casts by its first type that is `castable` for the value. A
+    /// lists other texts. If the type accepts the value but the value has no text in it, fails with
+    /// the fault that says why. A union casts by its first type that is `castable` for the value. A
     /// list joins the texts of its items.
     ///
     /// ```

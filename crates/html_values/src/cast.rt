@@ -1,4 +1,4 @@
-//! The parts of a cast.
+//! Functions that casts share.
 
 ghost use Rattle.std.specs.Prelude.{◌≡◌, ◌++◌, ◌==◌, chars, IfOk, IfErr, OnOk, Ok, Err};
 ghost use Rattle.std.specs.List.{flat_map, join_by, list_any};

@@ -48,7 +48,7 @@ fn push_count(text: &mut TextWriter, count: u64, unit: &str) -> Result<(), Alloc
     text.push_ascii(unit)
 }
 
-/// Returns the counts that are above zero.
+/// Returns the text of the counts that are above zero.
 fn counts(alloc: Global, seconds: u64) -> Result<String, AllocError>
     ensures { IsText result (counts_text seconds) }
 {

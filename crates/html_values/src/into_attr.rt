@@ -14,8 +14,8 @@ use std::num::{NonZeroI64, NonZeroU64};
 
 /// A value that has a text as an attribute. The value alone determines the text.
 ///
-/// A whole implementation, for an enum. It imports the variants by a path that begins with the name
-/// of the crate that contains them, `tests_surface`:
+/// A complete implementation for an enum. It imports the variants by a path that begins with the
+/// name of the crate that contains them, `tests_surface`:
 ///
 /// ```
 /// ghost use Rattle.std.specs.Prelude.{codes};

@@ -1,5 +1,5 @@
 //! Laws of this crate's types, as contracts of functions: what `==` tests. The laws of css values
-//! stand in [`css`], beside the type of quantities and its units.
+//! are in [`css`]; the type of quantities and its units are beside it.
 
 ghost use Rattle.std.specs.Prelude.{◌≡◌, ◌↔◌, IsTrue};
 ghost use Rattle.html_names.specs.Texts.{text_view};
@@ -39,7 +39,7 @@ pub fn equal_moments(a: Moment, b: Moment) -> bool
     a == b
 }
 
-/// Moments that have a text are equal if the moments are.
+/// Values of `Datetime` are equal if their moments are.
 pub fn equal_datetimes(a: Datetime, b: Datetime) -> bool
     ensures { IsTrue result ↔ (moment_view a.moment ≡ moment_view b.moment) }
 {
@@ -67,7 +67,7 @@ pub fn equal_icon_sizes(a: IconSize, b: IconSize) -> bool
     a == b
 }
 
-/// Candidates are equal if their sources and widths are.
+/// Image candidates are equal if their sources and widths are.
 pub fn equal_image_candidates(a: &ImageCandidate, b: &ImageCandidate) -> bool
     ensures { IsTrue result ↔ (image_candidate_view a.now ≡ image_candidate_view b.now) }
 {

@@ -46,7 +46,7 @@ pub enum NativeType {
     Str,
     /// A text of one character.
     Char,
-    /// A date, a time, or both, where a year is from 1 to 9999.
+    /// A date, a time, or both, whose year, if any, is from 1 to 9999.
     Datetime,
     /// A span of time.
     Duration,

@@ -1,4 +1,4 @@
-//! Texts that need no more than one step.
+//! Functions that create simple texts.
 
 ghost use Rattle.std.specs.Prelude.{◌≡◌, [], IsTrue};
 ghost use Rattle.html_names.specs.Names.{is_ascii};

@@ -7,7 +7,7 @@ use html_values_css::{Dir, Rgba};
 pub enum Value {
     /// Nothing.
     None,
-    /// A value that decides by itself.
+    /// The automatic value, `auto`.
     Auto,
     /// A Boolean.
     Bool(bool),

@@ -20,7 +20,7 @@ pub struct NoneEmpty;
 #[derive(Clone, Copy, Debug, PartialEq, Eq)]
 pub struct NoneUndefined;
 
-/// A value that decides by itself, written `auto`.
+/// The automatic value, written `auto`.
 #[derive(Clone, Copy, Debug, PartialEq, Eq)]
 pub struct AutoValue;
 

@@ -46,7 +46,7 @@ never_warns More text z = grind arith
 pub record Going {S : Type 0} (start : WriterState S) (all left : List Part) (before : List ℕ)
     (parts : Parts) (own : WriterState S) : Type 0 where
   pub at : before ≡ start.text
-  pub told : written_sum parts own.text left ≡ sum_text all
+  pub agrees : written_sum parts own.text left ≡ sum_text all
   pub failed : own.failed ≡ start.failed
   pub sink : own.sink ≡ start.sink
 
@@ -56,7 +56,7 @@ pub begun : {S : Type 0} (start : WriterState S) (all : List Part) (before : Lis
     → Going start all all before parts own
 begun {S} start all before parts own b o p = record {
   at = b;
-  told = rw (p, o) (sums all);
+  agrees = rw (p, o) (sums all);
   failed = ap (λ (s : WriterState S). s.failed) o;
   sink = ap (λ (s : WriterState S). s.sink) o;
 }
@@ -79,7 +79,7 @@ pub going : {S : Type 0} {takes : SinkAnswers S} {q : Result (Unit {0}) AllocErr
 going {S} {takes} {q} {u} {start} {all} {qs} {before} {before'} {parts} {parts'} {own} {own'} p
     held ok stays counted added none = record {
       at = stays ∙ held.at;
-      told = rw (counted, added_text takes q u own own' _ _ ok added) held.told;
+      agrees = rw (counted, added_text takes q u own own' _ _ ok added) held.agrees;
       failed = added.steady none ∙ held.failed;
       sink = handed_none takes q own.sink own'.sink _ none added.given ∙ held.sink;
     }
@@ -92,7 +92,7 @@ pub done : {S : Type 0} {takes : SinkAnswers S} {r : Result (Unit {0}) AllocErro
     → Emits takes r start final (sum_text all) []
 done {S} {takes} {r} {start} {all} {before} {parts} {own} {final} held closes =
     let same : record own { text = before } ≡ start = as_state held.at held.failed held.sink in
-    subst (λ (t : List ℕ). Emits takes r start final t []) held.told
+    subst (λ (t : List ℕ). Emits takes r start final t []) held.agrees
     (subst (λ (s : WriterState S). Emits takes r s final (own.text ++ sum_end parts) []) same closes)
   where
     as_state : before ≡ start.text → own.failed ≡ start.failed → own.sink ≡ start.sink

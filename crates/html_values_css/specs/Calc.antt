@@ -22,7 +22,7 @@ pub record KeepsFront {S : Type 0} (start : ℕ) (old new : CssWriter S) : Type 
   pub within : start ≤ length (string_bytes new.text)
   pub front : take start (string_bytes new.text) ≡ take start (string_bytes old.text)
 
--- the part of a value, whose type gives its number, its text and its negation
+-- the part of a value, whose type defines its number, its text and its negation
 abbrev pub part_of : {T : Type 0} → (T → ℤ) → (T → List ℕ) → (T → List Warning) → (T → T) → T → Part
 part_of number text warnings opposite x = record {
   number = number x;
@@ -38,7 +38,7 @@ next_part_text Zero p = p.text
 next_part_text One p = following_part p
 next_part_text More p = following_part p
 
--- the opening comes with the second part
+-- the text of a sum with the opening, which comes with the second part
 abbrev pub with_opening : Parts → List ℕ → List ℕ
 with_opening Zero text = text
 with_opening One text = codes "calc(" ++ text

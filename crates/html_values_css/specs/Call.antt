@@ -14,7 +14,7 @@ abbrev pub separator_text : Separator → List ℕ
 separator_text Space = codes " "
 separator_text Slash = codes " / "
 
--- no separator stands before the first argument
+-- the separator before an argument; there is none before the first one
 abbrev pub before_argument : Bool → Separator → List ℕ
 before_argument has_argument separator = if has_argument then separator_text separator else []
 

@@ -1,4 +1,4 @@
--- Numbers of the faults of casts, when one is the first, and that equality is decidable.
+-- The numbers of the faults of casts, the first of several faults, and their decidable equality.
 use Rattle.std.specs.Prelude.{◌≡◌, ℕ, ◌==◌, List, ◌∷◌, if◌then◌else◌, refl}
 use native.Mathlib.Decide.{ℕ_discrete}
 use Rattle.html_names.specs.Equal.{discrete_by}
@@ -21,7 +21,7 @@ abbrev pub IsFirst : CastFault → List CastFault → Type 0
 IsFirst OutOfMemory fs = Unit {0}
 IsFirst f fs = (rest : List CastFault) × (fs ≡ f ∷ rest)
 
--- the fault of a number
+-- the fault with a number
 abbrev fault_of : ℕ → CastFault
 fault_of n = if n == 16 then WrongKind else (if n == 17 then NotInStrings
     else (if n == 18 then NumberRange else (if n == 19 then NotOneChar

@@ -7,7 +7,7 @@ use Rattle.html_values_css.specs.declared.paint.Rgba.{Rgba}
 abbrev pub hex_byte : ℕ → List ℕ
 hex_byte n = digit_glyph false (n / 16) ∷ digit_glyph false (n % 16) ∷ []
 
--- an opaque alpha is omitted
+-- the text of an alpha, which is omitted if it is opaque
 abbrev pub alpha_text : ℕ → List ℕ
 alpha_text a = if a == 255 then [] else hex_byte a
 

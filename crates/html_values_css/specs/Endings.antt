@@ -1,11 +1,11 @@
--- How calls end that may return a `CastFault`: with the stated value and no fault, or with the
+-- The results of calls that may return a `CastFault`: the stated value if there is no fault, or the
 -- first fault; out of memory may come before.
 use Rattle.std.specs.Prelude.{List, Result}
 use Rattle.html_names.specs.Endings.{GivesBy}
 use Rattle.html_values_css.specs.CastFaults.{IsFirst}
 use Rattle.html_values_css.specs.declared.cast_fault.CastFault.{CastFault}
 
--- returns a value
+-- the call returns the value if there is no fault, or the first fault
 abbrev pub Gives : {A B : Type 0} (view : A → B) → Result A CastFault → (value : B)
     → List CastFault → Type 0
 Gives = GivesBy IsFirst

@@ -8,7 +8,7 @@ use Rattle.html_names.specs.Names.{listed_names}
 use Rattle.html_values_css.specs.Quantities.{IsQuantity}
 use Rattle.html_values_css.specs.Sums.{length_text, rel_text}
 
--- unit by unit: millionths of one, of an em, of a point
+-- amounts by unit: millionths of one, of an em, of a point
 pub record Amounts : Type 0 where
   pub ratio : ℤ
   pub em : ℤ
@@ -38,7 +38,7 @@ digits_of text = take_while is_digit text
 abbrev pub after_digits : List ℕ → List ℕ
 after_digits text = drop (prefix_len is_digit text) text
 
--- behind the point each digit is worth a tenth of the one before
+-- the value of the digits behind the point, each worth a tenth of the one before
 abbrev pub decimals : ℕ → List ℕ → ℕ
 decimals worth [] = 0
 decimals worth (d ∷ ds) = digit_value d * worth + decimals (worth / 10) ds
@@ -51,7 +51,7 @@ in_unit unit n =
     else (if bytes_eq unit (codes "%") then Some (record nothing { ratio = pos (n / 100) })
     else None))
 
--- whole units, and the text behind their digits
+-- the value of n millionths in whole units, and of the text behind their digits
 abbrev pub behind : ℕ → List ℕ → Option Amounts
 behind n [] = None
 behind n (c ∷ cs) = if c == 46 then in_unit (after_digits cs) (n + decimals 100000 (digits_of cs))
@@ -61,14 +61,14 @@ abbrev pub unsigned_value : List ℕ → List ℕ → Option Amounts
 unsigned_value [] rest = None
 unsigned_value (d ∷ ds) rest = behind (digits_value 10 (d ∷ ds) * 1000000) rest
 
--- an optional minus, a decimal, a unit
+-- the value of a part: an optional minus, a decimal number, and a unit
 abbrev pub part_value : List ℕ → Option Amounts
 part_value [] = None
 part_value (c ∷ cs) =
     if c == 45 then option_map negative_amounts (unsigned_value (digits_of cs) (after_digits cs))
     else unsigned_value (digits_of (c ∷ cs)) (after_digits (c ∷ cs))
 
--- the words of a sum: a part, then signs and parts
+-- the value of the words of a sum: a part, then signs and parts
 abbrev pub value_with_sign : List ℕ → Option Amounts → Option Amounts
 value_with_sign sign value = if bytes_eq sign (codes "+") then value
     else (if bytes_eq sign (codes "-") then option_map negative_amounts value else None)
@@ -96,8 +96,8 @@ abbrev pub of_body : List ℕ → Option (List ℕ) → Option Amounts
 of_body text (Some body) = sum_value (listed_names body)
 of_body text None = part_value text
 
--- `0` is zero; a part has its own value; `calc(..)` is the signed sum of its parts, which spaces
--- separate
+-- the value of a text: `0` is zero, a part has its own value, and `calc(..)` is the signed sum of
+-- its parts, which spaces separate
 abbrev pub css_value : List ℕ → Option Amounts
 css_value text = if bytes_eq text (codes "0") then Some nothing else of_body text (calc_body text)
 

@@ -13,19 +13,19 @@ paint_text (Solid c) = color_text c
 paint_text Gradient = []
 paint_text Tiling = []
 
--- a paint that fails has its own warning
+-- the warnings of a paint: one that fails has its own
 abbrev pub paint_warnings : Paint → List Warning
 paint_warnings (Solid c) = []
 paint_warnings Gradient = warning.Gradient ∷ []
 paint_warnings Tiling = warning.Tiling ∷ []
 
--- so the list of warnings gains at most that one
+-- the list of warnings gains at most the paint's own
 abbrev pub PaintWarns : (old new : List Warning) → Paint → Type 0
 PaintWarns old new (Solid c) = new ≡ old
 PaintWarns old new Gradient = AddsAtMost old new warning.Gradient
 PaintWarns old new Tiling = AddsAtMost old new warning.Tiling
 
--- and the call ends as the sink does
+-- the call of a paint that fails ends as the sink's does
 abbrev pub PaintGives : {S : Type 0} → SinkAnswers S → (old new : S) → Result (Unit {0}) AllocError
     → Paint → Type 0
 PaintGives gives old new r (Solid c) = Unit {0}

@@ -1,6 +1,5 @@
 -- Css properties: a finite map from names to texts, listed by name, and the text of a `style`
--- attribute (CSS Style
--- Attributes, section 3).
+-- attribute (CSS Style Attributes, section 3).
 use Rattle.std.specs.Prelude.{ℕ, List, [], ◌∷◌, ◌++◌, codes, map, Option}
 use Rattle.std.specs.List.{flat_map}
 use Rattle.std.specs.List.Sorted.{IsStrictlySortedBy}
@@ -42,11 +41,12 @@ IsListed pairs = IsStrictlySortedBy by_name (keys_of pairs)
 abbrev pub value_of : List TextPair → List ℕ → Option (List ℕ)
 value_of pairs name = lookup (is_at (by_name name)) pairs
 
--- with the value of a name, at the index for its order, or instead of the value that the name had
+-- the pairs with that value of a name, at the index for its order or instead of the name's old
+-- value
 abbrev pub with_property : List TextPair → List ℕ → List ℕ → List TextPair
 with_property pairs name value = insert_entry by_name pairs name value
 
--- without a name
+-- the pairs without a name
 abbrev pub without : List TextPair → List ℕ → List TextPair
 without pairs name = remove_entry (is_at (by_name name)) pairs
 
@@ -57,7 +57,7 @@ declaration p = p.0 ++ codes ": " ++ p.1
 abbrev pub following_pairs : List TextPair → List ℕ
 following_pairs = flat_map (λ p. codes "; " ++ declaration p)
 
--- `name: value` joined by `; `
+-- the text of a `style` attribute: each `name: value`, joined by `; `
 abbrev pub inline_text : List TextPair → List ℕ
 inline_text [] = []
 inline_text (p ∷ ps) = declaration p ++ following_pairs ps

@@ -11,7 +11,7 @@ abbrev pub properties_after : List TextPair → List TextPair → List TextPair
 properties_after old [] = old
 properties_after old (p ∷ ps) = properties_after (with_property old p.0 p.1) ps
 
--- pushed in any order, distinct names give the same properties, and so the same text
+-- pushing distinct names in any order makes the same properties, and so the same text
 abbrev pub AnyOrder : Type 0
 AnyOrder = (old first second : List TextPair) → IsListed old → IsDistinct bytes_eq (keys_of first)
     → IsPermutation first second
@@ -24,7 +24,7 @@ PushSets = (pairs : List TextPair) (name value other : List ℕ)
     → value_of (with_property pairs name value) other
     ≡ (if bytes_eq other name then Some value else value_of pairs other)
 
--- after a remove that name has no value, and the others keep theirs
+-- a removed name has no value, and the others keep theirs
 abbrev pub RemoveClears : Type 0
 RemoveClears = (pairs : List TextPair) (name other : List ℕ) → IsListed pairs
     → value_of (without pairs name) other ≡ (if bytes_eq other name then None

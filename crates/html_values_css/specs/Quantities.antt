@@ -2,7 +2,7 @@
 use Rattle.std.specs.Prelude.{ℕ, zero, suc, ◌+◌, ◌/◌, ◌%◌, ◌^◌, ◌≤◌, ℤ, unsigned_abs, pos, negsuc, List, [], ◌∷◌, ◌++◌, codes, Bool, true, false}
 use Rattle.std.specs.Fmt.{decimal}
 
--- at most 10^15 millionths
+-- a number of millionths whose absolute value is at most 10^15
 abbrev pub IsQuantity : ℤ → Type 0
 IsQuantity z = unsigned_abs z ≤ 10 ^ 15
 
@@ -25,7 +25,7 @@ fraction_digits zero n = []
 fraction_digits (suc k) zero = []
 fraction_digits (suc k) (suc n) = (48 + suc n / 10 ^ k) ∷ fraction_digits k (suc n % 10 ^ k)
 
--- a rounded zero has no sign
+-- the sign of a rounded number; a rounded zero has none
 abbrev pub sign_text : ℤ → ℕ → List ℕ
 sign_text (pos n) hundreds = []
 sign_text (negsuc n) zero = []
@@ -35,12 +35,12 @@ abbrev pub point_text : ℕ → ℕ → List ℕ
 point_text k zero = []
 point_text k (suc n) = codes "." ++ fraction_digits k (suc n)
 
--- hundreds of millionths, with the last k digits behind the point
+-- the text of a number of millionths: its rounded hundreds, with the last k digits behind the point
 abbrev pub fixed_text : ℕ → ℤ → List ℕ
 fixed_text k z = sign_text z (nearest_hundreds z) ++ decimal (nearest_hundreds z / 10 ^ k)
     ++ point_text k (nearest_hundreds z % 10 ^ k)
 
--- millionths of a point, of an em, and of one
+-- the texts of millionths of a point, of an em, and of one
 abbrev pub abs_text : ℤ → List ℕ
 abs_text z = fixed_text 4 z ++ codes "pt"
 

@@ -14,17 +14,17 @@ pub record Part : Type 0 where
   pub opposite_text : List ℕ
   pub opposite_warnings : List Warning
 
--- a part behind others
+-- the text of a part behind others
 abbrev pub following_part : Part → List ℕ
 following_part p = if is_negative p.number then codes " - " ++ p.opposite_text else codes " + " ++ p.text
 
--- none is `0`, one is alone, and more are in `calc`
+-- the text of nonzero parts: none is `0`, one is alone, and more are in `calc`
 abbrev pub whole_sum : List Part → List ℕ
 whole_sum [] = codes "0"
 whole_sum (p ∷ []) = p.text
 whole_sum (p ∷ q ∷ ps) = codes "calc(" ++ p.text ++ flat_map following_part (q ∷ ps) ++ codes ")"
 
--- parts of exactly zero are dropped
+-- the text of a sum, which drops parts of exactly zero
 abbrev pub sum_text : List Part → List ℕ
 sum_text parts = whole_sum (filter (λ p. not (is_zero p.number)) parts)
 
@@ -45,7 +45,7 @@ abbrev pub rel_text : (ratio em abs : ℤ) → List ℕ
 rel_text ratio em abs = sum_text (quantity_part ratio_text ratio ∷ quantity_part em_text em ∷
     quantity_part abs_text abs ∷ [])
 
--- The text that a sum has written so far, step by step. The number of its parts after one more:
+-- the number of parts that a sum has after one more, as its text is written step by step
 abbrev pub next : Parts → Parts
 next Zero = One
 next One = More
@@ -54,7 +54,7 @@ next More = More
 abbrev pub next_parts : Parts → Part → Parts
 next_parts parts p = if is_zero p.number then parts else next parts
 
--- the second part puts the opening before the first
+-- the text of a sum after one more part; the second part puts the opening before the first
 abbrev pub with_part : Parts → List ℕ → Part → List ℕ
 with_part Zero own p = own ++ p.text
 with_part One own p = codes "calc(" ++ own ++ following_part p
@@ -83,6 +83,6 @@ abbrev pub written_sum : Parts → List ℕ → List Part → List ℕ
 written_sum parts own [] = own ++ sum_end parts
 written_sum parts own (p ∷ ps) = written_sum (next_parts parts p) (next_text parts own p) ps
 
--- part by part, a sum writes its text
+-- a sum writes its text part by part
 abbrev pub SumWritten : Type 0
 SumWritten = (parts : List Part) → written_sum Zero [] parts ≡ sum_text parts

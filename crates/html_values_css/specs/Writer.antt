@@ -21,13 +21,13 @@ writer_state w = record { text = text_of w; failed = w.failed; sink = w.sink }
 abbrev pub empty : {S : Type 0} → S → WriterState S
 empty sink = record { text = []; failed = false; sink = sink }
 
--- a value fails if it warns
+-- whether a value with these warnings fails: it does if it warns
 abbrev pub fails : List Warning → Bool
 fails [] = false
 fails (w ∷ ws) = true
 
--- The text grows by `text`, or if the call fails by the beginning of any text. The sink receives
--- the warnings. If there are none, the flag stays.
+-- the effect of a call: the text grows by `text`, or by any text if the call fails; the sink
+-- receives the warnings; the flag stays if there are none
 pub record Emits {S : Type 0} (takes : SinkAnswers S) (r : Result (Unit {0}) AllocError)
     (old new : WriterState S) (text : List ℕ) (warnings : List Warning) : Type 0 where
   pub appended : OnOk r (new.text ≡ old.text ++ text)
@@ -36,8 +36,8 @@ pub record Emits {S : Type 0} (takes : SinkAnswers S) (r : Result (Unit {0}) All
   pub steady : warnings ≡ [] → new.failed ≡ old.failed
   pub given : Hands takes r old.sink warnings new.sink
 
--- A step of a sum: the text that the sum itself has written becomes `text`; if the step fails, it
--- still begins with what it was.
+-- the effect of a step of a sum: the text that the sum itself has written becomes `text`, or still
+-- begins with the old one if the step fails
 pub record SumsUp {S : Type 0} (takes : SinkAnswers S) (r : Result (Unit {0}) AllocError)
     (old new : WriterState S) (text : List ℕ) (warnings : List Warning) : Type 0 where
   pub written : OnOk r (new.text ≡ text)

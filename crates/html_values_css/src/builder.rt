@@ -57,7 +57,7 @@ impl<S: WarningSink> PropertiesBuilder<S> {
 
     /// Sets the value of a name to the css text of a value, unless the value fails. Passes the
     /// value's warnings to the sink, in order. If the sink refuses one, or an allocation fails, the
-    /// properties are unchanged, and the sink has got the first of the warnings.
+    /// properties are unchanged, and the sink has received only the warnings before that, if any.
     pub fn push<T: ToCss>(&mut self, name: &str, value: &T) -> Result<(), AllocError>
         ensures ok { OnOk result (self.new.properties ≡ (if fails (T.warnings value.now)
             then self.old.properties else with_property self.old.properties (chars name.now)

@@ -11,7 +11,7 @@ use std::alloc::AllocError;
 ///
 /// Its law: `is_zero`, `is_negative` and `negated` refer to the same number.
 ///
-/// A whole implementation, with the text of the part:
+/// A complete implementation, with the text of the part:
 ///
 /// ```
 /// ghost use Rattle.std.specs.Prelude.{neg_ℤ, refl, []};

@@ -1,4 +1,4 @@
-//! Laws of all css values, as contracts of functions that do nothing.
+//! Laws of all css values. The contract of each function is a law.
 
 ghost use Rattle.html_values_css.specs.Lengths.{LengthValue, Nearest, RelValue};
 ghost use Rattle.html_values_css.specs.Properties.{property_view};
@@ -29,7 +29,7 @@ pub fn remove_clears()
     ensures { RemoveClears }
 {}
 
-/// Pushed in any order, distinct names give the same properties and the same text.
+/// Pushing distinct names in any order makes the same properties and the same text.
 #[tactic(auto, using(crate::proofs::Pushes::any_order))]
 pub fn any_order()
     ensures { AnyOrder }

@@ -1,5 +1,5 @@
-//! Css values: quantities, colours, their texts, and maps of properties; and why casts fail, which
-//! the layers above report too. A part of html_values, which re-exports these names.
+//! Css values: quantities, colours, their texts, and maps of properties; and the faults of casts,
+//! which the layers above report too. A part of html_values, which re-exports these names.
 //!
 //! In contracts a text is a list of characters, and a quantity a whole number of millionths.
 //!

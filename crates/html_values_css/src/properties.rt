@@ -56,9 +56,10 @@ impl Properties {
         }
     }
 
-    /// Creates an empty list with room for so many properties. Fails only if the allocation does.
+    /// Creates an empty list with room for that many properties. Fails only if an allocation fails.
     ///
-    /// One property needs no room of its own, and a growing list allocates room for four at once.
+    /// A single property needs no room of its own, and a growing list allocates room for four at
+    /// once.
     pub fn with_capacity(alloc: Global, capacity: usize) -> Result<Properties, AllocError>
         ensures { IfOk result (λ properties. properties ≡ []) }
     {

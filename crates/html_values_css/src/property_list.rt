@@ -22,7 +22,7 @@ pub(crate) enum PropertyList {
 }
 
 impl PropertyList {
-    /// Creates an empty list with room for so many properties.
+    /// Creates an empty list with room for that many properties.
     pub(crate) fn with_room(alloc: Global, capacity: usize) -> Result<PropertyList, AllocError>
         ensures { IfOk result (λ list. items_of list ≡ []) }
     {

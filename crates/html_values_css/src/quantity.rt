@@ -17,7 +17,7 @@ pub trait Unit: Copy {
     /// The unit's css text.
     ghost unit_text: { List ℕ };
 
-    /// The most decimals of a css text.
+    /// The maximum number of decimals in a css text.
     ghost most_decimals: { ℕ };
 
     /// Returns the unit's css text.
@@ -25,7 +25,7 @@ pub trait Unit: Copy {
         ensures text { result.now ≡ unit_text }
         ensures ascii { IsTrue (is_ascii result.now) };
 
-    /// Returns the most decimals of a css text: 4 or fewer.
+    /// Returns the maximum number of decimals in a css text, which is at most 4.
     fn decimals() -> u32
         ensures value { result ≡ most_decimals }
         ensures few { result < 5 };
@@ -138,7 +138,7 @@ impl<U> Model for Quantity<U> {
 }
 
 impl<U> Quantity<U> {
-    /// Creates a quantity of n millionths of the unit. Use
+    /// Creates a quantity of that many millionths of the unit. Use
     /// [`try_from_millionths`](Quantity::try_from_millionths) for numbers without a known bound.
     pub fn from_millionths(millionths: i64) -> Quantity<U>
         requires { IsQuantity millionths }
@@ -150,7 +150,8 @@ impl<U> Quantity<U> {
         }
     }
 
-    /// Creates a quantity of n millionths of the unit, unless their absolute value exceeds 10^15.
+    /// Creates a quantity of that many millionths of the unit, or returns `None` if their absolute
+    /// value exceeds 10^15.
     ///
     /// ```
     /// use html_values::Abs;

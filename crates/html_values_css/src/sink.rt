@@ -20,10 +20,10 @@ pub enum Warning {
 
 /// A receiver of warnings.
 ///
-/// Its law: after `emit` the list of warnings is the one before, with at most that warning
-/// appended. `emit_gives` says what else a sink does.
+/// Its law: `emit` appends at most that warning to the list of warnings. `emit_gives` says what
+/// else a sink does.
 ///
-/// A whole implementation, which stores what it receives:
+/// A complete implementation, which stores the warnings that it receives:
 ///
 /// ```
 /// ghost use Rattle.std.specs.Prelude.{None};

@@ -16,7 +16,7 @@ use std::alloc::{AllocError, Global};
 /// nothing else, and passes those warnings and no others to the writer's sink. A value that warns
 /// fails: it has no proper text.
 ///
-/// A whole implementation, which writes two texts:
+/// A complete implementation, which writes two texts:
 ///
 /// ```
 /// ghost use Rattle.std.specs.Prelude.{chars, ◌++◌, []};
@@ -55,7 +55,7 @@ pub trait ToCss {
             (writer_state out.old) (writer_state out.new) (text self.now) (warnings self.now) };
 
     /// Returns the value's text. Passes its warnings to the sink, in order. If the sink refuses
-    /// one, or an allocation fails, the sink has got the first of them.
+    /// one, or an allocation fails, the sink has received only the warnings before that, if any.
     fn to_css<S: WarningSink>(&self, alloc: Global, sink: &mut S) -> Result<String, AllocError>
         ensures text { IfOk result (λ css. text_view css ≡ text self.now) }
         ensures given { Hands (TakesWarning S.warnings S.borrow S.emit_gives) result

@@ -1,6 +1,6 @@
-//! For tests: their results, and assertions. `?` passes a failure on, since a library may not end
-//! the process. A test that calls a few small functions is proved in a second or two; the time
-//! grows with the square of what one function does itself.
+//! For tests: results and assertions. A failed assertion is returned, to be passed on by `?`, since
+//! a library may not end the process. A test that calls a few small functions is proved in a second
+//! or two; the time grows with the square of what one function does itself.
 //!
 //! ```
 //! let text = String::from_str(rt.alloc(), "a text")?;
@@ -38,7 +38,7 @@ pub fn assert_number(number: usize, wanted: usize) -> TestResult {
     Err(Fail::new(format_args!("{number} in place of {wanted}")))
 }
 
-/// Asserts how a value is shown to programmers.
+/// Asserts that `{:?}` shows a value as the expected text.
 pub fn assert_debug<T: Debug>(alloc: Global, value: &T, wanted: &str) -> TestResult {
     assert_text(&format!(in alloc; "{value:?}")?, wanted)
 }

@@ -1,4 +1,4 @@
-//! The guide's functions, word for word, on the crate that users name.
+//! The guide's functions, word for word, with the crate that users name.
 
 mod attributes;
 mod elements;

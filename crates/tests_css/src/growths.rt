@@ -93,7 +93,7 @@ fn other_values(rt: HostRuntime) -> TestResult {
     assert_text(alloc, &Paint::Gradient)
 }
 
-/// `rgb(x / y)`.
+/// Writes `rgb(x / y)`.
 fn called(out: &mut CssWriter<()>) -> Result<(), AllocError> {
     let mut call = out.call("rgb", Separator::Space)?;
     call.arg(&"x")?;
@@ -101,7 +101,7 @@ fn called(out: &mut CssWriter<()>) -> Result<(), AllocError> {
     call.finish()
 }
 
-/// `calc(0.5em + 2pt)`.
+/// Writes `calc(0.5em + 2pt)`.
 fn summed(out: &mut CssWriter<()>) -> Result<(), AllocError> {
     let mut sum = out.calc();
     sum.sum(&Em::from_millionths(500_000))?;
@@ -109,7 +109,7 @@ fn summed(out: &mut CssWriter<()>) -> Result<(), AllocError> {
     sum.finish()
 }
 
-/// Writes several pieces, with room for all that come before a piece.
+/// Writes several pieces, each with room only for those before it.
 #[test]
 fn writers_and_sinks(rt: HostRuntime) -> TestResult {
     let alloc = rt.alloc();
@@ -129,13 +129,13 @@ fn writers_and_sinks(rt: HostRuntime) -> TestResult {
     )
 }
 
-/// A colour and a width.
+/// Returns a map of a colour and a width.
 fn map_of(alloc: Global) -> Result<Properties, AllocError> {
     let map = Properties::new(alloc).with("color", String::from_str(alloc, "red")?)?;
     Ok(map.with("width", String::from_str(alloc, "2pt")?)?)
 }
 
-/// A map, and the value of a further property.
+/// Returns a map, and the value of a further property.
 fn addition_of(alloc: Global) -> Result<(Properties, String), AllocError> {
     Ok((map_of(alloc)?, String::from_str(alloc, "1em")?))
 }
@@ -176,7 +176,7 @@ fn is_there(started: &Started) -> bool {
     started.is_some()
 }
 
-/// Returns whether there are a colour and a width.
+/// Returns whether the map has a colour and a width.
 fn is_built(builder: PropertiesBuilder<()>) -> bool {
     matches!(
         builder.finish().as_slice(),

@@ -9,7 +9,7 @@ use html_values_css::{
 use std::alloc::AllocError;
 use tests_asserts::{TestResult, assert_text};
 
-/// Millionths of a point and their texts: four decimals, rounded half away from zero.
+/// Lengths in millionths of a point, and their texts: four decimals, rounded half away from zero.
 const POINTS: [(i64, &str); 8] = [
     (-10, "0pt"),
     (-50, "-0.0001pt"),
@@ -54,7 +54,7 @@ fn parts_of_a_sum_speak_of_one_number(rt: HostRuntime) {
     assert!(rt; Abs::from_millionths(1) < Abs::from_millionths(2));
 }
 
-/// Millionths of an em and of a point, and the texts of their lengths.
+/// Lengths in millionths of an em and of a point, and their texts.
 const LENGTHS: [(i64, i64, &str); 5] = [
     (0, 0, "0"),
     (-500_000, 250_000, "calc(-0.5em + 0.25pt)"),
@@ -63,7 +63,7 @@ const LENGTHS: [(i64, i64, &str); 5] = [
     (0, 10, "0pt"),
 ];
 
-/// The length of that many millionths of an em and of a point.
+/// Returns the length of that many millionths of an em and of a point.
 fn length(em: i64, abs: i64) -> Option<Length> {
     let em = Em::try_from_millionths(em)?;
     let abs = Abs::try_from_millionths(abs)?;

@@ -1,4 +1,4 @@
-//! The warnings of values, and what a sink receives.
+//! The warnings of values, and those that a sink receives.
 
 use crate::asserts::{assert_inline, assert_warned};
 use html_values_css::{CssWriter, Paint, Properties, ToCss, Warning, WarningSink};

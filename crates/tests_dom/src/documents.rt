@@ -30,7 +30,7 @@ fn information_is_compared(rt: HostRuntime) -> TestResult {
     Ok(())
 }
 
-/// Gives element 1 an anchor, empties the root, and removes the title.
+/// Sets an anchor for element 1, empties the root, and removes the title.
 fn change(rt: &impl Tester, document: &mut HtmlDocument) -> TestResult {
     let mut anchors = BTreeMap::new(rt.alloc());
     anchors.insert(Location(1), String::from_str(rt.alloc(), "loc-1")?)?;

@@ -9,7 +9,7 @@ use std::alloc::{AllocError, Global};
 use tests_asserts::{TestResult, Tester, assert_debug, assert_number};
 use tests_given::{nested, point, start, text_of};
 
-/// A node for each word: `-` a start tag, `<` a `span`, any other a text.
+/// Returns a node for each word: a start tag for `-`, a `span` for `<`, a text for any other.
 fn nodes(alloc: Global, words: &[&str]) -> Result<Vec<HtmlNode>, AllocError> {
     let mut nodes = Vec::new(alloc);
     for word in words {
@@ -22,8 +22,8 @@ fn nodes(alloc: Global, words: &[&str]) -> Result<Vec<HtmlNode>, AllocError> {
     Ok(nodes)
 }
 
-/// Words, and the DOM indices of their nodes. Neighbouring texts are one, even those on both sides
-/// of a tag, and empty ones count.
+/// Words, and the DOM indices of their nodes. Neighbouring texts are one, even on both sides of a
+/// tag, and empty texts count.
 static INDICES: [(&[&str], &[usize]); 3] = [
     (
         &[
@@ -62,8 +62,8 @@ fn assert_path(rt: &impl Tester, introspector: &HtmlIntrospector, location: u64,
     assert!(rt; position(rt, introspector, location).path() == wanted);
 }
 
-/// A text and a frame that holds a start tag of 3, which links to 4, and a group, which holds one
-/// of 5 and a link to 6.
+/// Returns a text and a frame. The frame holds a start tag of 3, which links to 4, and a group,
+/// which holds a start tag of 5 and a link to 6.
 fn framed(alloc: Global) -> Result<Vec<HtmlNode>, AllocError> {
     let tag = FrameItem::Tag(start(5, None));
     let link = FrameItem::Link(Some(Location(6)));
@@ -95,7 +95,7 @@ fn tags_in_frames_have_points_and_targets(rt: HostRuntime) -> TestResult {
     assert_debug(alloc, introspector.frame_link_targets(), "{Location(6)}")
 }
 
-/// That many `span`s, each after a text, and a start tag.
+/// Returns that many `span`s, each after a text, and a start tag.
 fn row(alloc: Global, length: u32) -> Result<Vec<HtmlNode>, AllocError> {
     let mut nodes = Vec::new(alloc);
     for _ in 0..length {
@@ -125,7 +125,7 @@ fn assert_element_at(rt: &impl Tester, root: &HtmlElement, path: &[usize], wante
     assert!(rt; found == wanted);
 }
 
-/// A tag and a `b` that holds a text and an `a`.
+/// The tree is a tag and a `b` that holds a text and an `a`.
 #[test]
 fn paths_lead_to_elements(rt: HostRuntime) -> TestResult {
     let alloc = rt.alloc();

@@ -33,7 +33,7 @@ fn pairs_are_pushed_found_and_changed(rt: HostRuntime) -> TestResult {
     assert_attrs(&rt, &list, &[("lang", "en"), ("id", "10"), ("id", "3")])
 }
 
-/// `<ul class="a" id="b"><li class="c">x</li><my-li></my-li></ul>`, and the text `y`.
+/// Returns `<ul class="a" id="b"><li class="c">x</li><my-li></my-li></ul>`, and the text `y`.
 fn sample(alloc: Global) -> Result<Vec<HtmlNode>, Fail> {
     let mut item = HtmlElement::new(alloc, tag::li).with_text(alloc, "x")?;
     item.attrs = attrs_of(alloc, &[("class", "c")])?;
@@ -52,8 +52,8 @@ fn element<'a>(rt: &impl Tester, tree: &'a FlatTree, place: usize) -> &'a FlatEl
     element.expect(rt, "an element")
 }
 
-/// The list ends before the text, the first item before the second, and that one at once. Names are
-/// numbered in the order in which they come, and a repeated one keeps its number.
+/// The list ends before the text, the first item before the second, and the second one at once.
+/// Names are numbered in their order, and a repeated one keeps its number.
 #[test]
 fn flat_trees(rt: HostRuntime) -> TestResult {
     let nodes = sample(rt.alloc())?;

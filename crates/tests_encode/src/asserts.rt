@@ -13,7 +13,7 @@ pub(crate) const PLAIN: HtmlOptions = HtmlOptions { pretty: false };
 
 pub(crate) const PRETTY: HtmlOptions = HtmlOptions { pretty: true };
 
-/// A text, or the fault with its fields.
+/// Returns the text, or the fault with its fields.
 fn shown(alloc: Global, answer: Result<String, ExportFault>) -> Result<String, AllocError> {
     match answer {
         Ok(text) => Ok(text),
@@ -37,7 +37,7 @@ pub(crate) fn assert_answer<F: FrameWriter>(
     assert_text(&shown(rt.alloc(), answer)?, wanted)
 }
 
-/// An element with span 1, whose texts have the spans 2, 3 and so on.
+/// Returns an element with span 1, whose texts have the spans 2, 3 and so on.
 pub(crate) fn element(alloc: Global, name: &str, texts: &[&str]) -> Result<HtmlElement, Fail> {
     let mut element = HtmlElement::new(alloc, HtmlTag::intern(alloc, name)?).spanned(Span(1));
     let mut span = 2u64;

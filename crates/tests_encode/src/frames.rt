@@ -13,7 +13,7 @@ use tests_asserts::{TestResult, Tester};
 use tests_given::point;
 use typst_html_encode::{FrameFault, FrameWriter, HtmlOptions};
 
-/// Writes one text in pretty writing and another in plain writing, and refuses the pictures with
+/// A writer with one text for pretty and another for plain writing, which refuses the pictures with
 /// one number.
 #[derive(Clone, Copy)]
 struct TwoTexts<'a> {
@@ -35,7 +35,7 @@ impl FrameWriter for TwoTexts<'_> {
     }
 }
 
-/// Has no memory for any frame.
+/// A writer that has no memory for any frame.
 struct Exhausted;
 
 impl FrameWriter for Exhausted {
@@ -51,7 +51,7 @@ impl FrameWriter for Exhausted {
     }
 }
 
-/// A frame with that picture, which holds a tag and a link that are not written.
+/// Returns a frame with that picture, which holds a tag and a link that are not written.
 fn frame(alloc: Global, picture: u64, span: Span) -> Result<HtmlNode, AllocError> {
     let location = Location(7);
     let tag = FrameItem::Tag(Tag::End { location });
@@ -62,8 +62,8 @@ fn frame(alloc: Global, picture: u64, span: Span) -> Result<HtmlNode, AllocError
     Ok(HtmlNode::from(frame))
 }
 
-/// An element with span 1 and that many frames, with the pictures 1, 2 and so on, and the spans 3,
-/// 5 and so on.
+/// Returns an element with span 1 and that many frames, with the pictures 1, 2 and so on, and the
+/// spans 3, 5 and so on.
 fn with_frames(alloc: Global, name: &str, count: u8) -> Result<HtmlElement, Fail> {
     let mut element = element(alloc, name, &[])?;
     for number in 1..=u64::from(count) {
@@ -122,8 +122,8 @@ static PLAIN_ROWS: [Row; 2] = [
     ),
 ];
 
-/// The indents of its level join the lines of a frame, and a last line feed is dropped. Where
-/// pretty writing is off inside an element, the writer of a frame learns it.
+/// Each line of a frame has the indent of its level, and a last line feed is dropped. If pretty
+/// writing is off inside an element, it is off for the writer of a frame too.
 static PRETTY_ROWS: [Row; 3] = [
     (
         "div",
@@ -151,7 +151,7 @@ static PRETTY_ROWS: [Row; 3] = [
     ),
 ];
 
-/// Frames are no text, and a frame is a child: both are reported before it is written.
+/// A frame is no text, and it is a child: such faults are reported before the frame is written.
 static REFUSED_ROWS: [Row; 6] = [
     ("div", 2, "<svg/>", "", 2, "FrameRefused { span: Span(5) }"),
     ("span", 3, "<svg/>", "", 3, "FrameRefused { span: Span(7) }"),
@@ -218,7 +218,7 @@ fn assert_lines(
     Ok(())
 }
 
-/// A few lines of a million letters, and many short ones.
+/// The texts are a few lines of a million letters, and many short lines.
 #[test]
 fn long_texts_of_frames(rt: HostRuntime) -> TestResult {
     let long = long_text(rt.alloc(), 1_000_000)?;

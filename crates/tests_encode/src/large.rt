@@ -22,7 +22,7 @@ fn assert_length(
     Ok(())
 }
 
-/// For 5,000 nested `div`s there are 15 characters of the document type, and 5 and 6 for each
+/// For 5,000 nested `div`s there are 15 characters for the document type, and 5 and 6 for each
 /// element's tags. Pretty text adds a line feed after each line, and 2 spaces a level before it:
 /// the n-th element from outside has level n - 1, and all but the innermost have two lines.
 #[test]

@@ -5,7 +5,7 @@ use std::alloc::{AllocError, Global};
 use tests_asserts::TestResult;
 use typst_html_export::html_document_for_bundle;
 
-/// A title, an author and an Austrian locale.
+/// Returns a title, an author and an Austrian locale.
 fn austrian(alloc: Global) -> Result<DocumentInfo, AllocError> {
     let mut info = DocumentInfo::new(alloc);
     info.title = Some(String::from_str(alloc, "T")?);

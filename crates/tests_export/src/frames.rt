@@ -32,7 +32,7 @@ fn place() -> Point {
     point(3, 0)
 }
 
-/// A frame with a start tag of 7.
+/// Returns a frame with a start tag of 7.
 fn frame(rt: &impl Abort, alloc: Global) -> FrameElem {
     let mut items = Vec::new(alloc);
     let item = (place(), FrameItem::Tag(start(7, Some(7))));
@@ -85,7 +85,8 @@ fn assert_inside(rt: &impl Abort, frame: &HtmlFrame, wanted: &str) {
     assert_eq!(rt; name.as_str(), wanted);
 }
 
-/// A frame serves the start tag before it, and has an anchor of its own for one in it.
+/// The anchor of the start tag before a frame is the frame's id. A start tag in the frame has an
+/// anchor of its own.
 #[test]
 fn anchors_in_frames(rt: HostRuntime) {
     let mut items = Vec::new(rt.alloc());
@@ -112,7 +113,7 @@ fn assert_href(rt: &impl Abort, nodes: &[HtmlNode], place: usize, wanted: &str) 
     assert_eq!(rt; href.as_str(), wanted);
 }
 
-/// Links to a frame, and to a place in it.
+/// The links lead to a frame, and to a place in it.
 #[test]
 fn links_lead_into_frames(rt: HostRuntime) {
     let mut items = Vec::new(rt.alloc());
@@ -141,7 +142,8 @@ fn frame_of(rt: &impl Abort, alloc: Global, id: &str, anchor: &str) -> HtmlFrame
     frame
 }
 
-/// The `id` of a frame, its anchor, and whether these and the `id` `a` of an element differ.
+/// The `id` of a frame, its anchor, and whether both differ from each other and from the `id` `a`
+/// of an element.
 static FRAMES: [(&str, &str, bool); 4] = [
     ("b", "c", true),
     ("a", "c", false),
@@ -167,7 +169,7 @@ fn ids_of_frames_count(rt: HostRuntime) {
     }
 }
 
-/// A link to that name, then a frame with the `id` `a` and an anchor with the name `b`.
+/// Returns a link to that name, and then a frame with the `id` `a` and an anchor with the name `b`.
 fn framed(rt: &impl Abort, alloc: Global, href: &str) -> Result<HtmlElement, AllocError> {
     let link = HtmlElement::new(alloc, tag::a).with_attr(attr::href, text_of(rt, alloc, href))?;
     let frame = frame_of(rt, alloc, "a", "b");

@@ -10,7 +10,7 @@ use tests_given::{css_of, id_of};
 use typst_html_encode::HtmlOptions;
 use typst_html_export::{export_with_head, has_own_root, html_document_with_head};
 
-/// A `link` with css and that `id`.
+/// Returns a `link` with css and that `id`.
 fn link_of(alloc: Global, id: &str) -> Result<HtmlElement, AllocError> {
     Ok(HtmlElement {
         attrs: id_of(alloc, id)?,
@@ -19,7 +19,7 @@ fn link_of(alloc: Global, id: &str) -> Result<HtmlElement, AllocError> {
     })
 }
 
-/// Its css is written, and no anchor gets its id.
+/// The css of a `link` is written, and no anchor gets its id.
 #[test]
 fn own_nodes(rt: HostRuntime) -> TestResult {
     let alloc = rt.alloc();
@@ -38,7 +38,7 @@ fn own_nodes(rt: HostRuntime) -> TestResult {
     Ok(())
 }
 
-/// A root that the items bring has a head of its own.
+/// A root among the items has a head of its own.
 #[test]
 fn own_root(rt: HostRuntime) -> TestResult {
     let alloc = rt.alloc();

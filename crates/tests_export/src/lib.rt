@@ -1,6 +1,6 @@
-//! Tests of documents made from items: their information, their frames, and calls on documents and
-//! pages whose growths of memory are refused, over public calls. The rows of `tests_rows` say what
-//! items become.
+//! Tests of documents made from items, over public calls: their information, their frames, and
+//! calls on documents and pages whose growths of memory are refused. The rows of `tests_rows` say
+//! what items become.
 #![tactic(auto)]
 
 #[cfg(test)]

@@ -11,7 +11,7 @@ use html_values::{CastFault, Value};
 use std::alloc::{AllocError, Global};
 use tests_asserts::{TestResult, assert_text};
 
-/// The value of an argument, as a table has it.
+/// The value of an argument in a table.
 #[derive(Clone, Copy)]
 enum Sample {
     None,
@@ -21,10 +21,10 @@ enum Sample {
     Hole,
 }
 
-/// An argument, as a table has it: its name or nothing, its span and its value.
+/// An argument in a table: its name or an empty text, its span and its value.
 type Row = (&'static str, u64, Sample);
 
-/// The value that a table means, in which a hole is a body without a role.
+/// Returns the value for one in a table. A hole is a body without a role.
 fn value_of(alloc: Global, sample: Sample) -> Result<ArgValue, AllocError> {
     Ok(match sample {
         Sample::None => ArgValue::Plain(Value::None),

@@ -12,14 +12,14 @@ use html_dom_tree::HtmlFrame;
 use std::alloc::{AllocError, Global};
 use typst_html_encode::{FrameFault, FrameWriter};
 
-/// Writes one text for each frame.
+/// A writer with one text for all frames.
 #[derive(Drop)]
 pub struct OneText {
     text: String,
 }
 
 impl OneText {
-    /// Writes `[frame]` for each.
+    /// Creates a writer of `[frame]`.
     pub fn new(alloc: Global) -> Result<OneText, AllocError> {
         let text = String::from_str(alloc, "[frame]")?;
         Ok(OneText { text })

@@ -6,7 +6,7 @@ use html_dom_tree::{HtmlElement, HtmlNode};
 use html_names::tag;
 use std::alloc::{AllocError, Global};
 
-/// A language with a region.
+/// Returns a language with a region.
 pub fn locale_of(alloc: Global) -> Result<Locale, AllocError> {
     Ok(Locale {
         lang: String::from_str(alloc, "de")?,
@@ -14,7 +14,7 @@ pub fn locale_of(alloc: Global) -> Result<Locale, AllocError> {
     })
 }
 
-/// Information of each kind.
+/// Returns information of each kind.
 pub fn info_of(alloc: Global) -> Result<DocumentInfo, AllocError> {
     Ok(DocumentInfo {
         title: Some(String::from_str(alloc, "Tides")?),
@@ -28,7 +28,7 @@ pub fn info_of(alloc: Global) -> Result<DocumentInfo, AllocError> {
     })
 }
 
-/// A text, then an `html` around a `div` in which an element starts.
+/// Returns a text, and then an `html` around a `div` in which an element starts.
 pub fn output_of(alloc: Global) -> Result<HtmlOutput, AllocError> {
     let inner = vec![in alloc; HtmlNode::from(element_of(alloc)?)]?;
     let root = HtmlElement::new(alloc, tag::html).with_children(inner);
@@ -38,7 +38,7 @@ pub fn output_of(alloc: Global) -> Result<HtmlOutput, AllocError> {
     Ok(HtmlOutput::new(nodes, 1))
 }
 
-/// A document with that root, and with information of each kind.
+/// Returns a document with that root, and with information of each kind.
 pub fn document_of(alloc: Global) -> Result<HtmlDocument, AllocError> {
     Ok(HtmlDocument::new(alloc, output_of(alloc)?, info_of(alloc)?)?)
 }

@@ -5,7 +5,7 @@ use html_dom_tree::{Frame, FrameItem, HtmlFrame, Location, Point, Span, Tag};
 use html_values_css::Abs;
 use std::alloc::{AllocError, Global};
 
-/// The start tag of that element, with a link to another, if any.
+/// Returns the start tag of that element, with a link to another, if any.
 pub fn start(location: u64, dest: Option<u64>) -> Tag {
     Tag::Start {
         location: Location(location),
@@ -14,7 +14,7 @@ pub fn start(location: u64, dest: Option<u64>) -> Tag {
     }
 }
 
-/// The start tag of an element with a label, with a link to another.
+/// Returns the start tag of an element with a label, with a link to another.
 pub fn start_of(alloc: Global) -> Result<Tag, AllocError> {
     Ok(Tag::Start {
         location: Location(1),
@@ -23,7 +23,7 @@ pub fn start_of(alloc: Global) -> Result<Tag, AllocError> {
     })
 }
 
-/// A point, that many points to the right and down.
+/// Returns the point that is that many points to the right and down.
 pub fn point(right: u8, down: u8) -> Point {
     Point {
         x: Abs::from_millionths(i64::from(right) * 1_000_000),
@@ -36,7 +36,7 @@ fn place() -> Point {
     Point { x, y }
 }
 
-/// A frame with a tag and a link.
+/// Returns a frame with a tag and a link.
 pub fn group_of(alloc: Global) -> Result<Frame, AllocError> {
     let (tag, link) = (
         FrameItem::Tag(start_of(alloc)?),
@@ -46,14 +46,14 @@ pub fn group_of(alloc: Global) -> Result<Frame, AllocError> {
     Ok(Frame { picture: 1, items })
 }
 
-/// A frame with a frame in it.
+/// Returns a frame with a frame in it.
 pub fn frame_of(alloc: Global) -> Result<Frame, AllocError> {
     let group = FrameItem::Group(group_of(alloc)?);
     let items = vec![in alloc; (place(), group), (place(), FrameItem::Other)]?;
     Ok(Frame { picture: 2, items })
 }
 
-/// A frame with a name, css and an anchor.
+/// Returns a frame with a name, css and an anchor.
 pub fn html_frame_of(alloc: Global) -> Result<HtmlFrame, AllocError> {
     Ok(HtmlFrame {
         id: Some(String::from_str(alloc, "drawn")?),

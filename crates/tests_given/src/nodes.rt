@@ -7,7 +7,7 @@ use html_values_css::Properties;
 use std::alloc::{AllocError, Global};
 use std::test::Fail;
 
-/// The attributes of these names and values, pushed in that order.
+/// Returns the attributes of these names and values, pushed in that order.
 pub fn attrs_of(alloc: Global, pairs: &[(&str, &str)]) -> Result<HtmlAttrs, Fail> {
     let mut list = HtmlAttrs::new(alloc);
     for (name, value) in pairs {
@@ -19,22 +19,22 @@ pub fn attrs_of(alloc: Global, pairs: &[(&str, &str)]) -> Result<HtmlAttrs, Fail
     Ok(list)
 }
 
-/// A list of one pair, without room for more.
+/// Returns a list of one pair, without room for more.
 pub fn id_of(alloc: Global, text: &str) -> Result<HtmlAttrs, AllocError> {
     Ok(HtmlAttrs(vec![in alloc; (attr::id, String::from_str(alloc, text)?)]?))
 }
 
-/// A property.
+/// Returns a map of one property.
 pub fn css_of(alloc: Global, name: &str, value: &str) -> Result<Properties, AllocError> {
     Ok(Properties::new(alloc).with(name, String::from_str(alloc, value)?)?)
 }
 
-/// A text of that span.
+/// Returns a text with that span.
 pub fn text_of(alloc: Global, text: &str, span: u64) -> Result<HtmlNode, AllocError> {
     Ok(HtmlNode::text(String::from_str(alloc, text)?, Span(span)))
 }
 
-/// The element in that many nested `div`s.
+/// Returns the element in that many nested `div`s.
 pub fn nested(alloc: Global, inner: HtmlElement, levels: u32) -> Result<HtmlElement, AllocError> {
     let mut element = inner;
     for _ in 0..levels {
@@ -43,7 +43,7 @@ pub fn nested(alloc: Global, inner: HtmlElement, levels: u32) -> Result<HtmlElem
     Ok(element)
 }
 
-/// An element with css, an attribute and these nodes.
+/// Returns an element with css, an attribute and these nodes.
 fn styled_of(
     alloc: Global,
     tag: HtmlTag,
@@ -57,7 +57,8 @@ fn styled_of(
     })
 }
 
-/// A `p` with css, an attribute, a tag, a text and a frame, whose lists have no room for more.
+/// Returns a `p` with css, an attribute, a tag, a text and a frame, whose lists have no room for
+/// more.
 pub fn inner_of(alloc: Global) -> Result<HtmlElement, AllocError> {
     let mut nodes = Vec::with_capacity(alloc, 3)?;
     nodes.push(HtmlNode::from(start_of(alloc)?))?;
@@ -66,7 +67,8 @@ pub fn inner_of(alloc: Global) -> Result<HtmlElement, AllocError> {
     styled_of(alloc, tag::p, "inner", nodes)
 }
 
-/// A `div` with css, an attribute, and a `p` between texts, whose lists have no room for more.
+/// Returns a `div` with css, an attribute, and a `p` between texts, whose lists have no room for
+/// more.
 pub fn element_of(alloc: Global) -> Result<HtmlElement, AllocError> {
     let mut nodes = Vec::with_capacity(alloc, 3)?;
     nodes.push(text_of(alloc, "one", 6)?)?;

@@ -12,8 +12,8 @@ use tests_asserts::TestResult;
 /// The greatest number of attempts of a call.
 const MOST_ATTEMPTS: usize = 100_000;
 
-/// The number of values that are enough for a call that consumes one each time and does not return
-/// it: what a refused attempt frees is there for the next.
+/// The number of values that is enough for a call that consumes one each time and does not return
+/// it. The memory that a refused attempt frees is available to the next.
 pub const SPARES: usize = 40;
 
 /// The result of a call, of which a test needs to know only whether it is right.
@@ -22,14 +22,14 @@ pub trait Made: Drop {
     fn is_right(&self) -> bool;
 }
 
-/// The test has asked already.
+/// The test has checked the result already.
 impl Made for bool {
     fn is_right(&self) -> bool {
         *self
     }
 }
 
-/// The test asks nothing.
+/// The test checks nothing.
 impl Made for () {
     fn is_right(&self) -> bool {
         true
@@ -44,7 +44,7 @@ struct Attempts {
 }
 
 impl Attempts {
-    /// Takes all the memory there is.
+    /// Takes all memory.
     fn begin(alloc: Global) -> Result<Attempts, AllocError> {
         let memory = Memory::take(alloc)?;
         Ok(Attempts {
@@ -63,7 +63,8 @@ impl Attempts {
         Ok(())
     }
 
-    /// Ends an attempt that must fail with a fault that is shown as that text, in the same way.
+    /// Ends an attempt that must fail with a fault that is shown as that text, and otherwise does
+    /// the same as `refuse`.
     fn refuse_by<E: Debug>(&mut self, fault: &E, refusal: &str, is_kept: bool) -> TestResult {
         if !is_shown(fault, refusal) {
             return Err(Fail::new("a call fails by another fault than that of memory"));
@@ -82,7 +83,7 @@ impl Attempts {
         Ok(())
     }
 
-    /// Ends the attempts if all were refused.
+    /// Fails, since all attempts were refused.
     fn give_up(self) -> TestResult {
         Err(Fail::new("each growth is refused"))
     }
@@ -133,7 +134,8 @@ where
     attempts.give_up()
 }
 
-/// Does the same with an argument that no text shows, and that this test checks.
+/// Asserts the same as [`refuses_lent`] for an argument that no text shows, and that `is_kept`
+/// checks.
 pub fn refuses_kept<T, R, E, K, F>(alloc: Global, mut lent: T, is_kept: K, call: F) -> TestResult
 where
     T: Drop,
@@ -174,8 +176,8 @@ pub fn refuses<R: Made, E: From<AllocError> + Debug + Drop, F: Fn() -> Result<R,
     attempts.give_up()
 }
 
-/// Does the same with a call that consumes its argument and does not return it: each attempt takes
-/// another of these values, which were made while there was memory.
+/// Asserts the same as [`refuses`] for a call that consumes its argument and does not return it.
+/// Each attempt takes another of these values, which were made while there was memory.
 pub fn refuses_taken<T, R, E, F>(alloc: Global, values: Vec<T>, call: F) -> TestResult
 where
     T: Drop,
@@ -215,7 +217,7 @@ pub fn refuses_copy<T: Debug + Drop, F: Fn(&T) -> Result<T, AllocError>>(
     attempts.give_up()
 }
 
-/// Returns the text that shows a fault of memory.
+/// Returns the text that shows a failed allocation.
 fn refusal_of<E: From<AllocError> + Debug + Drop>(alloc: Global) -> Result<String, AllocError> {
     shown_of(alloc, &E::from(AllocError))
 }

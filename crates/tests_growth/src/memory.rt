@@ -11,10 +11,10 @@ const LARGEST: usize = 1 << 46;
 /// The size of a block that is freed for another attempt: no smaller one frees less.
 const SMALLEST: usize = 24;
 
-/// How often a size is halved on the way from the largest to 32 bytes.
+/// The number of times that a size is halved from the largest down to 32 bytes.
 const HALVES: usize = 42;
 
-/// The number of sizes that are tried, each 16 bytes above the one before: the allocator keeps
+/// The number of sizes that are tried, each 16 bytes above the one before. The allocator keeps
 /// freed blocks of these for the next ones of exactly their sizes.
 const KEPT_SIZES: usize = 65;
 

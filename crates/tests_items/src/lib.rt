@@ -13,7 +13,7 @@ use html_values_css::Abs;
 use std::alloc::{AllocError, Global};
 use tests_given::{css_of, frame_of, id_of, start_of};
 
-/// A frame with a frame in it.
+/// Returns a frame with a frame in it.
 pub fn frame_elem_of(alloc: Global) -> Result<FrameElem, AllocError> {
     Ok(FrameElem {
         frame: frame_of(alloc)?,
@@ -22,23 +22,23 @@ pub fn frame_elem_of(alloc: Global) -> Result<FrameElem, AllocError> {
     })
 }
 
-/// A text with blanks and a line end.
+/// Returns a text with blanks and a line end.
 pub fn text_item_of(alloc: Global) -> Result<Item, AllocError> {
     Ok(Item::Text(String::from_str(alloc, "  two  words \n")?, Span(2)))
 }
 
-/// A role of its own.
+/// Returns a role of its own.
 pub fn role_of(alloc: Global) -> Result<Role, AllocError> {
     Ok(Role::Set(String::from_str(alloc, "note")?))
 }
 
-/// A frame with a role of its own.
+/// Returns a frame with a role of its own.
 pub fn noted_frame_of(alloc: Global) -> Result<Pair, AllocError> {
     let (item, role) = (Item::Frame(frame_elem_of(alloc)?), role_of(alloc)?);
     Ok(Pair { item, role })
 }
 
-/// Items of a line, with a text in a box.
+/// Returns items of a line, with a text in a box.
 pub fn line_of(alloc: Global) -> Result<Vec<Pair>, AllocError> {
     let mut items = Vec::with_capacity(alloc, 7)?;
     items.push(Pair::from(Item::Tag(start_of(alloc)?)))?;
@@ -52,7 +52,7 @@ pub fn line_of(alloc: Global) -> Result<Vec<Pair>, AllocError> {
     Ok(items)
 }
 
-/// An element with css, an attribute and items of a line.
+/// Returns an element with css, an attribute and items of a line.
 pub fn elem_of(alloc: Global, tag: HtmlTag) -> Result<HtmlElem, AllocError> {
     Ok(HtmlElem {
         attrs: id_of(alloc, "inner")?,
@@ -62,17 +62,17 @@ pub fn elem_of(alloc: Global, tag: HtmlTag) -> Result<HtmlElem, AllocError> {
     })
 }
 
-/// A block with items of a line in it.
+/// Returns a block with items of a line in it.
 pub fn block_of(alloc: Global) -> Result<Pair, AllocError> {
     Ok(Pair::from(Item::Block(Some(line_of(alloc)?), Span(5))))
 }
 
-/// An element with css, an attribute and items of a line, as an item.
+/// Returns an element with css, an attribute and items of a line, as an item.
 fn element_item_of(alloc: Global, tag: HtmlTag) -> Result<Pair, AllocError> {
     Ok(Pair::from(Item::Element(elem_of(alloc, tag)?)))
 }
 
-/// A `p`, a block with items of a line in it, and a row of a table whose cell holds a line.
+/// Returns a `p`, a block with items of a line in it, and a row of a table whose cell holds a line.
 pub fn blocks_of(alloc: Global) -> Result<Vec<Pair>, AllocError> {
     let mut items = Vec::with_capacity(alloc, 3)?;
     items.push(element_item_of(alloc, tag::p)?)?;
@@ -83,12 +83,12 @@ pub fn blocks_of(alloc: Global) -> Result<Vec<Pair>, AllocError> {
     Ok(items)
 }
 
-/// An `a` with items of a line, which links to the element that starts in it.
+/// Returns an `a` with items of a line, which links to the element that starts in it.
 fn link_of(alloc: Global) -> Result<HtmlElem, AllocError> {
     Ok(elem_of(alloc, tag::a)?.with_attr(attr::href, String::from_str(alloc, "#here")?)?)
 }
 
-/// Items of a document: a `p`, a block, and a link.
+/// Returns items of a document: a `p`, a block, and a link.
 pub fn content_of(alloc: Global) -> Result<Vec<Pair>, AllocError> {
     let mut items = Vec::with_capacity(alloc, 3)?;
     items.push(element_item_of(alloc, tag::p)?)?;

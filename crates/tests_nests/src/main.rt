@@ -5,9 +5,9 @@
 //! cd crates/tests_nests && rt try -- data/pages.json
 //! ```
 //!
-//! Each line of a file is the text of a page in JSON, as `html` writes it. It makes a line with the
-//! path of each misnested node and its rule: `[[[1,0,1],"ClosesParagraph"]]`. If the text is not
-//! read, the line is where reading stops.
+//! Each line of a file is the text of a page in JSON, as `html` writes it. For each, prints a line
+//! with the path of each misnested node and its rule: `[[[1,0,1],"ClosesParagraph"]]`. If the text
+//! is not read, the line is the fault, with the place where reading stops.
 #![tactic(auto)]
 
 use anyhow::{Context, Result, ensure};
@@ -27,8 +27,8 @@ fn main(rt: HostRuntime) -> Result<()> {
     for name in words.iter().skip(1) {
         let pages = fs::read_to_string(&rt, name).context(format_args!("{name}"))?;
         for (index, line) in pages.lines().enumerate() {
-            let told = page_line(rt.alloc(), line).context(format_args!("{name}: {index}"))?;
-            println!(rt; "{told}")?;
+            let report = page_line(rt.alloc(), line).context(format_args!("{name}: {index}"))?;
+            println!(rt; "{report}")?;
         }
     }
     Ok(())
@@ -42,13 +42,13 @@ fn page_line(alloc: Global, spelled: &str) -> Result<String> {
         Ok(root) => {
             let written = html_in_bundle(alloc, &root, &HtmlOptions::default(), &())?;
             ensure!(written.as_str() == text, "written as {written}");
-            told_line(alloc, &root)
+            misnested_line(alloc, &root)
         }
         Err(fault) => Ok(Value::String(format!(in alloc; "{fault}")?).to_string(alloc)?),
     }
 }
 
-fn told_line(alloc: Global, root: &HtmlElement) -> Result<String> {
+fn misnested_line(alloc: Global, root: &HtmlElement) -> Result<String> {
     let mut line = String::new(alloc);
     line.push('[')?;
     for (index, node) in misnested(alloc, root)?.iter().enumerate() {

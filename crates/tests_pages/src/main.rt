@@ -6,8 +6,8 @@
 //! ```
 //!
 //! An element is its name, its attributes and its children, which may be texts:
-//! `["p",[["class","a"]],["b & c",["br",[],[]]]]`. For a page that is not read, the line is why and
-//! where: `"a name that no element of this project has at 3:14"`.
+//! `["p",[["class","a"]],["b & c",["br",[],[]]]]`. For a page that is not read, the line is the
+//! reason and the place: `"a name that no element of this project has at 3:14"`.
 #![tactic(auto)]
 
 use anyhow::{Context, Result};
@@ -35,8 +35,8 @@ fn page_line(alloc: Global, page: &[u8]) -> Result<String> {
     let (root, _) = match read_page_bytes(alloc, page, DEEPEST) {
         Ok(read) => read,
         Err(fault) => {
-            let told = format!(in alloc; "{fault}")?;
-            push_text(alloc, &mut line, told.as_str())?;
+            let reason = format!(in alloc; "{fault}")?;
+            push_text(alloc, &mut line, reason.as_str())?;
             return Ok(line);
         }
     };

@@ -23,7 +23,7 @@ fn is_read(alloc: Global) -> Result<bool, PageFault> {
     Ok(root.children.len() == 2 && notes.count == 3)
 }
 
-/// Returns whether the other page is refused there.
+/// Returns whether the other page is refused at that offset.
 fn is_refused(alloc: Global) -> Result<bool, PageFault> {
     match read_page(alloc, REFUSED.0, 30) {
         Err(PageFault::Refused { place, .. }) => Ok(place.offset == REFUSED.1),

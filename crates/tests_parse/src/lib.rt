@@ -1,5 +1,5 @@
-//! Tests of pages that are read as browsers read them, when growths of memory are refused. The rows
-//! of `tests_rows` say what is read.
+//! Tests of reading pages as browsers do, when growths of memory are refused. The rows of
+//! `tests_rows` say what is read.
 #![tactic(auto)]
 
 #[cfg(test)]

@@ -1,4 +1,4 @@
-//! Texts that are read back.
+//! Reading of written texts.
 
 use crate::normal::normal_of;
 use html_dom_flat::{FlatNode, FlatTree};

@@ -1,4 +1,4 @@
-//! For tests: reads a written text back, and compares the tree with the one that it was written of.
+//! For tests: reads a written text back, and compares the tree with the one that was written.
 //!
 //! ```
 //! let text = html_in_bundle(alloc, &root, &options, &())?;

@@ -17,22 +17,22 @@
 //! - `nodes LEVEL SPACE [depth=N] [limit=N] [role=TEXT]`, where the level is `block` or `inline`
 //!   and white space `normal` or `pre`: the content of a `body` with their nodes. By default the
 //!   depth is 0, the limit 50, and there is no role.
-//! - `block-fragment`, `inline-fragment`, `math-fragment`, each `[depth=N] [limit=N]`: the same by the call
-//!   of that name, with the span 9
+//! - `block-fragment`, `inline-fragment`, `math-fragment`, each `[depth=N] [limit=N]`: the same by
+//!   the call of that name, with the span 9
 //! - `spans`: the spans of these nodes, those of children in brackets
-//! - `bare`: 1 or 0 for each lone space that is bare or not, and the number of nodes looked at
+//! - `bare`: 1 or 0 for each lone space that is bare or not, and the number of visited nodes
 //! - `fragment-text LEVEL [limit=N]`: their text by themselves, at that level
 //! - `items-text`: what is visible of their document, written plain and pretty
 //!
-//! For items, or an object with `items`, `footnotes`, `head`, and information about a document (`title`,
-//! `description`, `authors`, `keywords`, `lang`, `region`) as `html_tool_spell` reads it, each with
-//! `[limit=N]`:
+//! For items, or an object with `items`, `footnotes`, `head`, and information about a document
+//! (`title`, `description`, `authors`, `keywords`, `lang`, `region`) as `html_tool_spell` reads it,
+//! each with `[limit=N]`:
 //!
 //! - `document`: the content of the body, or the whole text if there is information
 //! - `links`: the same with links resolved
 //! - `anchors`: each link target and its anchor
 //! - `positions`: each location below 100 and its path
-//! - `dead-links`: span and destination of each
+//! - `dead-links`: the span and the destination of each
 //! - `distinct-ids`: whether the ids differ
 //!
 //! For a page, of which the input is the text behind the document type:
@@ -42,13 +42,13 @@
 //!   `too deep at N, L:C`
 //! - `page-text`: what is visible: texts in brackets, objects, `/` for a line break, `|` for an
 //!   edge
-//! - `dead-fragments`, `repeated-ids`: path and name of each
-//! - `misnested`: path and rule of each
+//! - `dead-fragments`, `repeated-ids`: the path and the name of each
+//! - `misnested`: the path and the rule of each
 //!
 //! For a whole page:
 //!
 //! - `as-browsers [limit=N]`: the text of the tree that `read_page_bytes` reads, and after each
-//!   ` ! ` a recovered error, with its line and column; or `refused, `, why and where
+//!   ` ! ` a recovered error, with its line and column; or `refused, `, the reason and the place
 //! - `page-places`: the elements of that tree, in document order, each with the place of its span
 //!
 //! For an input of the library for C, its reply and its buffer, which had `room=N` points:

@@ -67,7 +67,7 @@ pub(crate) fn misnested_list(alloc: Global, row: &Row<'_>) -> Result<String> {
     Ok(text)
 }
 
-/// Whether an address is a script.
+/// Returns whether an address is a script.
 pub(crate) fn is_script(alloc: Global, row: &Row<'_>) -> Result<String> {
     let answer = if href_is_script(row.text()?) {
         "script"

@@ -91,7 +91,8 @@ fn text_or_refusal(alloc: Global, text: Result<String, ExportFault>) -> Result<S
     }
 }
 
-/// Shows a refusal: number and span, an element's name if it is not alone, spans of footnotes.
+/// Returns the words for a refusal: its number and span, the name of an element that is not alone,
+/// and the spans of further footnotes.
 fn refusal(alloc: Global, fault: &ExportFault) -> Result<String> {
     let mut text = format!(in alloc; "refused {} at {}", fault.number(), fault.span().0)?;
     match fault {
@@ -130,7 +131,7 @@ pub(crate) fn text(alloc: Global, row: &Row<'_>, linked: bool) -> Result<String>
     text_or_refusal(alloc, text)
 }
 
-/// The text of items by themselves, or why there is none.
+/// Returns the text of items by themselves, or the refusal.
 pub(crate) fn fragment_text(alloc: Global, row: &Row<'_>) -> Result<String> {
     let level = match row.words.as_slice() {
         [_, "block", ..] => ConversionLevel::Block,

@@ -5,9 +5,9 @@
 //! cd crates/tests_rows && rt try -- data/trees.rows data/links.rows
 //! ```
 //!
-//! A row is a line of three fields, `words | input | output`, cut at the first two ` | `. Lines
-//! that begin with `#` are comments. If a row has another output, it is printed with its file and
-//! line.
+//! A row is a line of three fields, `words | input | output`, split at the first two ` | `. Lines
+//! that begin with `#` are comments. If the output of a row differs, it is printed with its file
+//! and line.
 //!
 //! - The input is taken as it is, unless `escaped` is the last of the words: then it is read like
 //!   the output, and `\xff` is a byte.

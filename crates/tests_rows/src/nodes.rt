@@ -95,7 +95,7 @@ fn add_spans(spans: &mut String, nodes: &[HtmlNode]) -> Result<(), AllocError> {
 }
 
 /// Returns 1 or 0 for each lone space of the row's items that is bare or not, and the number of
-/// nodes looked at. The items become nodes where white space stays, so that each text is one.
+/// visited nodes. The items become nodes with preserved white space, so that each text is one node.
 pub(crate) fn bare(alloc: Global, row: &Row<'_>) -> Result<String> {
     let nodes = nodes_of(alloc, row, ConversionLevel::Inline, Whitespace::Pre)??;
     let found = bare_spaces(alloc, &FlatTree::from_nodes(alloc, &nodes)?)?;

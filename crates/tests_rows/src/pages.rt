@@ -1,4 +1,4 @@
-//! Pages that are read, and their visible text.
+//! Reading of pages, and their visible text.
 
 use crate::runs::inner_text;
 use anyhow::{Result, ensure};
@@ -91,31 +91,31 @@ pub(crate) fn as_browsers(alloc: Global, row: &Row<'_>) -> Result<String> {
         Err(fault) => return Ok(format!(in alloc; "refused, {fault}")?),
     };
     let text = html_in_bundle(alloc, &root, &HtmlOptions::default(), &())?;
-    let mut told = inner_text(alloc, &text, (DOCUMENT_TYPE, ""))?;
+    let mut shown = inner_text(alloc, &text, (DOCUMENT_TYPE, ""))?;
     for note in &notes.first {
-        write!(told, " ! {} at {}", note.error, note.place)?;
+        write!(shown, " ! {} at {}", note.error, note.place)?;
     }
-    Ok(told)
+    Ok(shown)
 }
 
 /// Returns the elements of a page that `read_page_bytes` reads, each with the place of its span.
 pub(crate) fn element_places(alloc: Global, row: &Row<'_>) -> Result<String> {
     let (root, _) = read_page_bytes(alloc, &row.input, DEEPEST)?;
     let mut places = Places::new(str::from_utf8(&row.input)?);
-    let mut told = String::new(alloc);
-    tell_places(&root, &mut places, &mut told)?;
-    Ok(told)
+    let mut shown = String::new(alloc);
+    add_places(&root, &mut places, &mut shown)?;
+    Ok(shown)
 }
 
-fn tell_places(element: &HtmlElement, places: &mut Places<'_>, told: &mut String) -> Result<()> {
-    if !told.is_empty() {
-        told.push(' ')?;
+fn add_places(element: &HtmlElement, places: &mut Places<'_>, shown: &mut String) -> Result<()> {
+    if !shown.is_empty() {
+        shown.push(' ')?;
     }
     let place = places.at(usize::try_from(element.span.0)?);
-    write!(told, "{} {place}", element.tag.resolve())?;
+    write!(shown, "{} {place}", element.tag.resolve())?;
     for child in &element.children {
         if let HtmlNode::Element(element) = child {
-            tell_places(element, places, told)?;
+            add_places(element, places, shown)?;
         }
     }
     Ok(())

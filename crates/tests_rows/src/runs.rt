@@ -3,11 +3,11 @@
 //! The output of a run is
 //!
 //! - `refused 12 at 4` if the number and the span of a refusal are written,
-//! - `bad input at 2` if the form is left, `bad input at line 1 column 5` if the input is no JSON,
-//!   or `wrong words` if the words are wrong and nothing is read,
-//! - else the text: for a tree everything behind the document type; for items the content of the
-//!   body, if all around it is as in a document without information, else the whole text. The line
-//!   feeds that `--pretty` writes at the beginning and at the end are left out, too.
+//! - `bad input at 2` if a value does not have the form, `bad input at line 1 column 5` if the
+//!   input is no JSON, or `wrong words` if the words are wrong and nothing is read,
+//! - otherwise the text: for a tree everything behind the document type; for items the content of
+//!   the body, if all around it is as in a document without information, else the whole text. The
+//!   line feeds that `--pretty` writes at the beginning and at the end are left out, too.
 
 use anyhow::{Context, Result, ensure};
 use html_tool_run::{Status, run, wanted_task};

@@ -1,4 +1,4 @@
-//! Rows, and how they are read.
+//! Rows, and reading them from lines.
 
 use anyhow::{Context, Result, bail, ensure};
 use std::alloc::Global;
@@ -8,7 +8,7 @@ use std::alloc::Global;
 pub struct Row<'a> {
     /// The arguments of the program, or a call of the library and its options.
     pub words: Vec<&'a str>,
-    /// Its bytes, which may be no text.
+    /// The bytes of the input, which may be no text.
     pub input: Vec<u8>,
     /// The output.
     pub output: String,
@@ -38,7 +38,7 @@ impl<'a> Row<'a> {
         Ok(str::from_utf8(&self.input)?)
     }
 
-    /// Returns the number in a word such as `limit=50`, or else this one.
+    /// Returns the number in a word such as `limit=50`, or else `otherwise`.
     pub fn number(&self, name: &str, otherwise: usize) -> Result<usize> {
         match self.value(name) {
             None => Ok(otherwise),

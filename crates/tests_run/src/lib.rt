@@ -1,5 +1,5 @@
-//! Tests of runs of the program with readers and writers of their own, and of reading texts that
-//! are changed. The rows of `tests_rows` have inputs and their outputs.
+//! Tests of runs of the program with readers and writers of their own, and of reading changed
+//! texts. The rows of `tests_rows` have inputs and their outputs.
 #![tactic(auto)]
 
 #[cfg(test)]

@@ -1,4 +1,4 @@
-//! The values that JSON spells, apart from a run.
+//! The values that JSON spells, without a run.
 
 use html_tool_run::{Fault, InputPlace, element_in, items_in};
 use serde_json::Value;

@@ -73,10 +73,10 @@ fn assert_read(root: &HtmlElement, notes: &PageNotes) -> Result<(), Fail> {
         column: 20,
     };
     let error = PageError::EndTagWithoutStart;
-    let told = PageNote { error, place };
+    let wanted = PageNote { error, place };
     match notes.first.as_slice() {
-        [note] if root.tag == tag::html && *note == told => Ok(()),
-        _ => Err(Fail::new("an html is to be read, and one error told")),
+        [note] if root.tag == tag::html && *note == wanted => Ok(()),
+        _ => Err(Fail::new("an html is to be read, and one error reported")),
     }
 }
 
@@ -103,16 +103,16 @@ fn offsets_have_places(rt: HostRuntime) {
     assert!(rt; Places::new("a\r\nb").at(offset) == place);
 }
 
-/// Asserts that the root is reported, and how.
+/// Asserts that the root is reported as no page.
 fn assert_no_page(found: &[Misnested]) -> Result<(), Fail> {
     match found {
         [node] if node.path.is_empty() && node.why == Misnesting::NoPage => Ok(()),
-        _ => Err(Fail::new("the root is to be told")),
+        _ => Err(Fail::new("the root is to be reported")),
     }
 }
 
 #[test]
-fn roots_are_told_that_are_no_pages(rt: HostRuntime) -> Result<(), Fail> {
+fn roots_that_are_no_pages_are_reported(rt: HostRuntime) -> Result<(), Fail> {
     let root = HtmlElement::new(rt.alloc(), tag::p);
     assert_no_page(&misnested(rt.alloc(), &root)?)
 }

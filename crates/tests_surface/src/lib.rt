@@ -1,6 +1,6 @@
-//! Tests of what users find: each public name is where users look for it (`names`), the types have
-//! their traits (`traits`), and a caller implements each trait, word for word as the docs do
-//! (`own`). `calls`, `faults` and `program` have what no other test calls or shows. They use only
+//! Tests of the public surface: each public name is where users look for it (`names`), the types
+//! have their traits (`traits`), and a caller implements each trait, word for word as the docs do
+//! (`own`). `calls`, `faults` and `program` test what no other test calls or shows. They use only
 //! the crates that users name, html_tool_run for the program, and tests_asserts and tests_frames.
 #![tactic(auto)]
 

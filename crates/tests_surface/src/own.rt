@@ -1,4 +1,4 @@
-//! Whole implementations by a user, of each trait that users may implement.
+//! A user's whole implementation of each trait that users may implement.
 
 mod attr;
 mod frame;

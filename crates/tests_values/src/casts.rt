@@ -44,7 +44,7 @@ static NUMBER_OR_AUTO: [(Sample, &str); 3] = [
     (Int(3), "'3'"),
 ];
 
-/// A union refuses by its first type.
+/// A union refuses a value with the fault of its first type.
 #[test]
 fn unions(rt: HostRuntime) -> TestResult {
     let auto = strings(rt.alloc(), &["auto"])?;
@@ -75,7 +75,7 @@ fn texts_by(alloc: Global, separator: char, shorthand: bool) -> Result<AttrType,
 
 static BY_COMMAS: [(&[Sample], &str); 2] = [(&[Text("a"), Text("b")], "'a, b'"), (&[], "''")];
 
-/// Arrays may be cast whatever their items.
+/// Arrays may be cast whatever their items are.
 #[test]
 fn separated_by_commas(rt: HostRuntime) -> TestResult {
     let commas = texts_by(rt.alloc(), ',', false)?;

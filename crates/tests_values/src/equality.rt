@@ -44,7 +44,7 @@ fn small_values(rt: HostRuntime) {
     assert!(rt; !equal_icon_sizes(icon(2, 1), icon(1, 2)));
 }
 
-/// An image of that width, or of none where it is 0.
+/// Returns an image of that width, or without a width if it is 0.
 fn image(alloc: Global, width: u64) -> Result<ImageCandidate, AllocError> {
     let (src, width) = (String::from_str(alloc, "a")?, NonZeroU64::new(width));
     Ok(ImageCandidate { src, width })

@@ -1,10 +1,10 @@
-//! Values as tables have them, and the results of casting them.
+//! Values in tables, and the results of casting them.
 
 use html_values::{AttrType, CastFault, Dir, Value};
 use std::alloc::{AllocError, Global};
 use tests_asserts::{TestResult, assert_text};
 
-/// A value of a document, as a table has it.
+/// A value of a document in a table.
 #[derive(Clone, Copy)]
 pub(crate) enum Sample {
     None,

@@ -65,7 +65,7 @@ fn numbers(rt: HostRuntime) -> TestResult {
     )
 }
 
-/// A width of zero stands for none.
+/// A width of zero stands for no width.
 #[test]
 fn images_and_sizes(rt: HostRuntime) -> TestResult {
     for (src, width, wanted) in [(",é", 480, ",é 480w"), ("x.png", 0, "x.png")] {

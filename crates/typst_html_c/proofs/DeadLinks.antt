@@ -1,4 +1,4 @@
--- Dead links as JSON have a text, and a reply without a text tells of none.
+-- Dead links as JSON have a text, and a reply without a text reports none.
 use Rattle.std.proofs.Common.{◌≡◌, List, [], ◌∷◌, false, refl}
 use Rattle.html_dom_link.specs.Links.{DeadLinkView}
 use Rattle.html_tool_spell.specs.declared.fault.Fault.{Fault}

@@ -16,8 +16,8 @@ use Rattle.typst_html_parse.specs.declared.fault.PageFault.{PageFault}
 use Rattle.typst_html_parse.specs.declared.fault.PageFault.TheVariants.{OutOfMemory, NotText, Refused}
 use Rattle.typst_html_parse.specs.declared.fault.PageNotes.{PageNotes}
 use Rattle.typst_html_c.specs.declared.reply.Reply.{Reply}
-use Rattle.typst_html_c.specs.PageTold.{Told, Tells, unread, failed, page_told}
-use Rattle.typst_html_c.specs.PageSteps.{IsTold, unread_reply}
+use Rattle.typst_html_c.specs.PageReports.{Report, Reports, unread, failed, page_report}
+use Rattle.typst_html_c.specs.PageSteps.{IsFaultReport, unread_reply}
 
 pub text_written : (s : String Global) → encodes (text_view s) ≡ string_bytes s
 text_written s = encodes-chars (string_bytes s) (IsUtf8-string_bytes s)
@@ -58,17 +58,17 @@ module _ (limit : ℕ) (page : List ℕ) where
       GivesBytes (Ok (root, notes)) page limit → is_utf8 page ≡ true
   read_is_text = text_if_read (is_utf8 page) refl
 
--- what is told of both
+-- what is reported of both
 module _ (data_of : (text : List ℕ) → ElementView → Data) (limit : ℕ) (page : List ℕ) where
-  pub read_told : (root : HtmlElement) (notes : PageNotes) → GivesBytes (Ok (root, notes)) page limit
-      → page_told data_of page limit ≡ Ok (compact_text (data_of (chars page) (element_view root)))
-  unfolding page_told
-  read_told root notes g =
+  pub read_reported : (root : HtmlElement) (notes : PageNotes) → GivesBytes (Ok (root, notes)) page limit
+      → page_report data_of page limit ≡ Ok (compact_text (data_of (chars page) (element_view root)))
+  unfolding page_report
+  read_reported root notes g =
       let is = read_is_text limit page root notes g in rw (is, (g.text is).made.read) refl
 
   fault_if : (b : Bool) → is_utf8 page ≡ b → (f : PageFault) → GivesBytes (Err f) page limit
-      → IsTold (page_told data_of page limit) f
-  unfolding page_told
+      → IsFaultReport (page_report data_of page limit) f
+  unfolding page_report
   fault_if b is OutOfMemory g = tt
   fault_if true is (NotText place) g = absurd (g.text is).fault
   fault_if false is (NotText place) g = rw (is, g.no_text is) refl
@@ -76,13 +76,13 @@ module _ (data_of : (text : List ℕ) → ElementView → Data) (limit : ℕ) (p
       let found = (g.text is).fault in rw (is, found.1, found.2) refl
   fault_if false is (Refused refusal place) g = absurd (g.no_text is)
 
-  pub fault_told : (f : PageFault) → GivesBytes (Err f) page limit →
-      IsTold (page_told data_of page limit) f
-  fault_told = fault_if (is_utf8 page) refl
+  pub fault_reported : (f : PageFault) → GivesBytes (Err f) page limit →
+      IsFaultReport (page_report data_of page limit) f
+  fault_reported = fault_if (is_utf8 page) refl
 
--- the reply to a fault tells it
-pub fault_replied : (told : Told) (old : List ℕ) (reply : Reply) (new : List ℕ) (f : PageFault)
-    → IsTold told f → reply ≡ unread_reply f → new ≡ old → Tells told old reply new
-fault_replied told old reply new OutOfMemory is r kept = failed r kept
-fault_replied told old reply new (NotText place) is r kept = unread (is ∙ ap Err (sym r)) kept
-fault_replied told old reply new (Refused refusal place) is r kept = unread (is ∙ ap Err (sym r)) kept
+-- the reply to a fault reports it
+pub fault_replied : (report : Report) (old : List ℕ) (reply : Reply) (new : List ℕ) (f : PageFault)
+    → IsFaultReport report f → reply ≡ unread_reply f → new ≡ old → Reports report old reply new
+fault_replied report old reply new OutOfMemory is r kept = failed r kept
+fault_replied report old reply new (NotText place) is r kept = unread (is ∙ ap Err (sym r)) kept
+fault_replied report old reply new (Refused refusal place) is r kept = unread (is ∙ ap Err (sym r)) kept

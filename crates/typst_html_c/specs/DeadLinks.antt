@@ -10,7 +10,7 @@ use Rattle.html_tool_run.specs.declared.status.Status.{Status}
 use Rattle.html_tool_run.specs.declared.status.Status.TheVariants.{Done, Refused, BadInput, Failed}
 use Rattle.typst_html_c.specs.CallReplies.{call_dead_links, document_call_answer}
 
--- its destination, and its span
+-- the destination and the span of a link, as JSON
 abbrev pub dead_link_data : DeadLinkView → Data
 dead_link_data link = object (
     member (codes "destination") (number (unsigned link.1)) (
@@ -26,11 +26,11 @@ line_in_place Refused bytes line = line
 line_in_place BadInput bytes line = line
 line_in_place Failed bytes line = line
 
--- an answer with these bytes in place of its text, if it has one
+-- the answer with these bytes instead of its text, if it has one
 abbrev pub in_place_of_text : (bytes : List ℕ) → Answer → Answer
 in_place_of_text bytes a = record a { line = line_in_place a.status bytes a.line }
 
--- the answer to an input that spells a document, with its dead links in place of its text
+-- the answer to an input that spells a document, with its dead links instead of its text
 abbrev pub dead_links_answer : (limit : ℕ) (input : List ℕ) → TextPlace → Answer
 dead_links_answer limit input at =
     in_place_of_text (compact_text (dead_links_data (call_dead_links 0 1 limit input)))

@@ -6,5 +6,5 @@ pub mod MisnestedNodes
 pub mod PageFindings
 pub mod PageLinks
 pub mod PageSteps
-pub mod PageTold
+pub mod PageReports
 pub mod Unused

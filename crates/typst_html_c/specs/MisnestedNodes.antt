@@ -1,4 +1,5 @@
--- The nodes of a page that a browser would not leave where they are if its tree were written, as JSON:
+-- The nodes of a page that a browser would not leave where they are if its tree were written, as
+-- JSON:
 --     [{"rule":t,"why":t,"keeps":n,"path":[n,..],"offset":n,"line":n,"column":n},..]
 use Rattle.std.specs.Prelude.{ℕ, List, [], ◌∷◌, codes}
 use Rattle.serde_json.specs.Data.{Data, string, array, object, member}
@@ -40,20 +41,20 @@ rule_name why.ClosesRubyPart = codes "ClosesRubyPart"
 rule_name why.LeavesForeign = codes "LeavesForeign"
 rule_name why.Filled = codes "Filled"
 
--- the rule that a node breaks, and where it stands: its place is that of its span, of a text so that of
--- the element that it stands in
+-- the rule that a node breaks, and where it stands: its place is that of its span, which for a text
+-- is that of the element that it stands in
 abbrev pub misnested_node : (text previous : List ℕ) → Finding → Data
 misnested_node text previous f = object (
     member (codes "rule") (string (rule_name f.why)) (
     member (codes "why") (string (rule_words f.why)) (
     where_behind previous f.path (place_at text f.span))))
 
--- each node behind the one before
+-- the nodes, each with its place after the previous one
 abbrev pub misnested_behind : (text previous : List ℕ) → List Finding → List Data
 misnested_behind text previous [] = []
 misnested_behind text previous (f ∷ fs) =
     misnested_node text previous f ∷ misnested_behind text f.path fs
 
--- those of a page with that text; before the first none is kept
+-- the list of the nodes of a page with that text; the first keeps no index
 abbrev pub misnested_data : (text : List ℕ) → List Finding → Data
 misnested_data text fs = array (items_of (misnested_behind text [] fs))

@@ -1,5 +1,5 @@
--- What links between pages need to know of a page, as JSON: to which names in it links may lead, and its
--- own links.
+-- What a check of links between pages needs from a page, as JSON: the names in it to which links
+-- may lead, and its own links.
 --     {"ids":[{"id":t,..},..],"names":[{"name":t,..},..],"links":[{"href":t,..},..]}
 use Rattle.std.specs.Prelude.{ℕ, List, codes}
 use Rattle.serde_json.specs.Data.{Data, object, member, no_members}
@@ -7,9 +7,9 @@ use Rattle.html_dom_findings.specs.PlacedTexts.{TextKind, element_placed}
 use Rattle.html_dom_findings.specs.WantedTexts.{hrefs, linked_ids, linked_names}
 use Rattle.html_dom_tree.specs.Tree.{ElementView}
 use Rattle.typst_html_c.specs.FindingLists.{element_place, findings}
-use Rattle.typst_html_c.specs.PageTold.{Told, told_by}
+use Rattle.typst_html_c.specs.PageReports.{Report, report_by}
 
--- a list of the texts of that kind in a page, in document order, each under that name
+-- the list of the texts of that kind in a page, in document order, each as the member of that name
 abbrev pub listed : (text : List ℕ) → ElementView → (name : List ℕ) → TextKind → Data
 listed text root name kind = findings (element_place text root) name (element_placed kind root)
 
@@ -20,5 +20,5 @@ page_links text root = object (
     member (codes "names") (listed text root (codes "name") linked_names) (
     member (codes "links") (listed text root (codes "href") hrefs) no_members)))
 
-abbrev pub links_told : (limit : ℕ) (page : List ℕ) → Told
-links_told = told_by page_links
+abbrev pub links_report : (limit : ℕ) (page : List ℕ) → Report
+links_report = report_by page_links

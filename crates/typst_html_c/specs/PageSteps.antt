@@ -1,4 +1,4 @@
--- What the steps of telling something of a page give.
+-- The results of the steps that make the report on a page.
 use Rattle.std.specs.Prelude.{◌≡◌, ℕ, List, ◌++◌, Result, Err, Ok, MatchResult, String, string_bytes}
 use Rattle.std.specs.declared.alloc.Global.{Global}
 use Rattle.serde_json.specs.Data.{Data}
@@ -16,39 +16,39 @@ use Rattle.typst_html_c.specs.CallReplies.{without_text}
 use Rattle.typst_html_c.specs.FindingLists.{element_place, findings_behind}
 use Rattle.typst_html_c.specs.PageFindings.{page_findings}
 use Rattle.typst_html_c.specs.PageLinks.{page_links}
-use Rattle.typst_html_c.specs.PageTold.{Told, placed}
+use Rattle.typst_html_c.specs.PageReports.{Report, placed}
 use Rattle.typst_html_c.specs.declared.lists.FindingList.{FindingList}
 use Rattle.typst_html_c.specs.declared.page.Page.{Page}
 use Rattle.typst_html_c.specs.declared.reply.Reply.{Reply}
-use Rattle.typst_html_c.specs.declared.told.Asked.{Asked}
-use Rattle.typst_html_c.specs.declared.told.Asked.TheVariants as asked
+use Rattle.typst_html_c.specs.declared.report.Asked.{Asked}
+use Rattle.typst_html_c.specs.declared.report.Asked.TheVariants as asked
 
 -- the place of the element at a path
 abbrev pub place_in : Page → (path : List ℕ) → Place
 place_in page = element_place (text_of page.places) (element_view page.root.now)
 
--- the text with the whole list that is being written, if these findings are still added
+-- the text with the whole list that is being written, if these findings are added to it
 abbrev pub text_with : FindingList → List Placed → List ℕ
 text_with list ps = string_bytes list.text ++ items_text list.later (items_of
     (findings_behind (place_in list.page) (string_bytes list.name) list.previous.items ps))
 
--- what a call is to tell
+-- the data that a call is asked for
 abbrev pub asked_data : Asked → (text : List ℕ) → ElementView → Data
 asked_data asked.Findings = page_findings
 asked_data asked.Links = page_links
 
--- why a page is not read, as a reply
+-- the reply for a page that is not read
 abbrev pub unread_reply : PageFault → Reply
 unread_reply OutOfMemory = without_text 3 0 0
 unread_reply (NotText place) = placed 2 0 place
 unread_reply (Refused refusal place) = placed 1 (refusal_number refusal) place
 
--- a fault is what is told, unless memory ran out
-abbrev pub IsTold : Told → PageFault → Type 0
-IsTold told OutOfMemory = Unit {0}
-IsTold told (NotText place) = told ≡ Err (unread_reply (NotText place))
-IsTold told (Refused refusal place) = told ≡ Err (unread_reply (Refused refusal place))
+-- the fault is the report, unless an allocation failed
+abbrev pub IsFaultReport : Report → PageFault → Type 0
+IsFaultReport report OutOfMemory = Unit {0}
+IsFaultReport report (NotText place) = report ≡ Err (unread_reply (NotText place))
+IsFaultReport report (Refused refusal place) = report ≡ Err (unread_reply (Refused refusal place))
 
--- a text is all that is told, or a fault is
-abbrev pub GivesTold : Result (String Global) PageFault → Told → Type 0
-GivesTold r told = MatchResult r (λ t. told ≡ Ok (string_bytes t)) (IsTold told)
+-- the text is the whole report, or the fault is the report
+abbrev pub GivesReport : Result (String Global) PageFault → Report → Type 0
+GivesReport r report = MatchResult r (λ t. report ≡ Ok (string_bytes t)) (IsFaultReport report)

@@ -1,5 +1,5 @@
--- The answer to an input that spells a document: what is known that its text does not show; bad input
--- where the limit is wrong.
+-- The answer to an input that spells a document: the information that its text does not show; bad
+-- input if the limit is invalid.
 use Rattle.std.specs.Prelude.{ℕ, List}
 use Rattle.html_tool_run.specs.Answers.{Answer, TextPlace, answer_if}
 use Rattle.html_tool_run.specs.UnusedInformation.{unused_input_answer}

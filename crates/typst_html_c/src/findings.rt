@@ -1,4 +1,4 @@
-//! What is wrong in a page, as JSON.
+//! The findings in a page, as JSON.
 
 ghost use Rattle.std.specs.Prelude.{◌≡◌, string_bytes, IfOk};
 ghost use Rattle.serde_json.specs.Written.{compact_text};
@@ -9,11 +9,10 @@ ghost use Rattle.typst_html_c.specs.PageFindings.{page_findings};
 use crate::lists::{begun, ended, push_key};
 use crate::misnested::push_misnested;
 use crate::page::Page;
-use html_dom_findings::{tell_dead_fragments, tell_repeated_ids};
+use html_dom_findings::{report_dead_fragments, report_repeated_ids};
 use html_dom_nest::misnested;
 use std::alloc::{AllocError, Global};
 
-/// What is wrong in a page, as JSON.
 pub(crate) fn findings_text(alloc: Global, page: Page) -> Result<String, AllocError>
     ensures { let page = page.entry in IfOk result (λ text. string_bytes text
         ≡ compact_text (page_findings (text_of page.places) (element_view page.root.now))) }
@@ -22,10 +21,10 @@ pub(crate) fn findings_text(alloc: Global, page: Page) -> Result<String, AllocEr
     text.push_str("{")?;
     push_key(alloc, &mut text, false, "dead_fragments")?;
     let list = begun(alloc, page, text, "fragment")?;
-    let mut text = ended(tell_dead_fragments(alloc, page.root, list)?)?;
+    let mut text = ended(report_dead_fragments(alloc, page.root, list)?)?;
     push_key(alloc, &mut text, true, "repeated_ids")?;
     let list = begun(alloc, page, text, "id")?;
-    let mut text = ended(tell_repeated_ids(alloc, page.root, list)?)?;
+    let mut text = ended(report_repeated_ids(alloc, page.root, list)?)?;
     push_key(alloc, &mut text, true, "misnested")?;
     let nodes = misnested(alloc, page.root)?;
     push_misnested(alloc, page.places, &mut text, &nodes)?;

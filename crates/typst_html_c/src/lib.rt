@@ -1,8 +1,9 @@
-//! The exporter's calls for C and for what calls C: HTML text of what JSON spells, in a buffer of the
-//! caller's. The static library `typst_html_static` exports them.
+//! The calls of the exporter for C, and for languages that call C. They write the HTML text of what
+//! JSON spells, or a report on a page, into a buffer of the caller. The static library
+//! `typst_html_static` exports them.
 //!
-//! No call keeps anything, so calls on several threads do not meet. Whatever is passed, a call answers
-//! by a status: the slices alone have to be there, each as a pointer and a length.
+//! No call keeps state, so calls on several threads are independent. A call returns a status for
+//! any arguments; only the slices have to be valid, each as a pointer and a length.
 #![tactic(auto)]
 
 ghost use Rattle.std.specs.Prelude.{◌≡◌, IfOk};
@@ -12,9 +13,9 @@ ghost use Rattle.html_tool_run.specs.Replies.{GivesAnswerAt};
 ghost use Rattle.typst_html_c.specs.CallReplies.{RepliesAt, RepliesWithAt, call_dead_links, document_call_answer, write_answer};
 ghost use Rattle.typst_html_c.specs.DeadLinks.{dead_links_answer};
 ghost use Rattle.typst_html_c.specs.Fragments.{fragment_call_answer};
-ghost use Rattle.typst_html_c.specs.PageFindings.{check_told};
-ghost use Rattle.typst_html_c.specs.PageLinks.{links_told};
-ghost use Rattle.typst_html_c.specs.PageTold.{Tells};
+ghost use Rattle.typst_html_c.specs.PageFindings.{check_report};
+ghost use Rattle.typst_html_c.specs.PageLinks.{links_report};
+ghost use Rattle.typst_html_c.specs.PageReports.{Reports};
 ghost use Rattle.typst_html_c.specs.Unused.{unused_call_answer};
 
 mod dead_links;
@@ -25,7 +26,7 @@ mod misnested;
 mod numbers;
 mod page;
 mod reply;
-mod told;
+mod report;
 
 use dead_links::dead_links_text;
 use html_tool_run::{
@@ -35,20 +36,22 @@ use html_tool_run::{
 use numbers::{limit_of, wanted_fragment, wanted_settings, wanted_task};
 pub use reply::Reply;
 use reply::{reply_with, reply_with_document};
+use report::{Asked, reply_to_page};
 use std::alloc::Global;
-use told::{Asked, reply_to_page};
 
-/// The version of these calls. It grows by one where a call or a status changes its meaning.
+/// The version of these calls. It is incremented when the meaning of a call or a status changes.
 const VERSION: u32 = 7;
 
-/// The version of these calls, to be compared with the one of the header that a caller was made by.
+/// Returns the version of these calls. Compare it with the version of the header that the caller
+/// was built with.
 pub fn typst_html_version() -> u32
     ensures { result ≡ 7 }
 {
     VERSION
 }
 
-/// The text of what the input spells, where the numbers of the kind and of the layout are right.
+/// Returns the text of what the input spells. Fails with bad input if the kind or the layout is
+/// invalid.
 fn text_of(alloc: Global, kind: u8, layout: u8, input: &[u8]) -> Result<String, Fault>
     ensures { GivesAnswerAt result (write_answer kind layout input.now) }
 {
@@ -58,14 +61,15 @@ fn text_of(alloc: Global, kind: u8, layout: u8, input: &[u8]) -> Result<String, 
     }
 }
 
-/// Makes the HTML text of what the input spells in JSON, a tree (kind 0) or the document of a list of
-/// items (kind 1), plain (layout 0) or pretty (layout 1), and copies it into the buffer, where it
-/// fits. The text is that which the program writes.
+/// Writes the HTML text of what the JSON input spells into the buffer, if it fits: a tree (kind 0)
+/// or the document of a list of items (kind 1), plain (layout 0) or pretty (layout 1). The program
+/// writes the same text.
 ///
-/// What the buffer holds beyond the text stays, and so does all of it where there is no text in it.
-/// Status 4 says by `length` how long a buffer the text takes; a second call with one makes the text
-/// once more. A bad input bears its place: the line and the column where it is no JSON, and else by
-/// `span` the list in which the form is left. Another kind or layout is bad input without a place.
+/// The bytes of the buffer after the text stay as they are, and the whole buffer does if no text
+/// is written. With status 4, `length` is the length of the buffer that the text needs; a second
+/// call makes the text again. Bad input has a place: the line and the column if the input is not
+/// JSON, and otherwise, as the `span`, the list in which it leaves the form. Any other kind or
+/// layout is bad input without a place.
 pub fn typst_html_write(
     alloc: Global,
     kind: u8,
@@ -96,18 +100,19 @@ fn text_of_settings(
     }
 }
 
-/// Makes the HTML text of the document that the input spells in JSON, an object: what is known of the
-/// document, its items, its footnotes and nodes for its head. It is plain (layout 0) or pretty (layout 1), its links stay
-/// as they are (links 0) or get the `href` of their destination (links 1), and bodies may stand as
-/// deep as the limit says, from 1 to 10,000. The text is copied into the buffer, where it fits.
+/// Writes the HTML text of a document into the buffer, if it fits. The JSON input spells the
+/// document as an object: the information about it, its items, its footnotes and nodes for its
+/// head. The text is plain (layout 0) or pretty (layout 1). Its links stay as they are (links 0) or
+/// get the `href` of their destination (links 1). Bodies may be nested as deep as the limit, from 1
+/// to 10,000.
 ///
-/// A link to whose destination no `href` leads, as where the document has no such place, stays without
-/// one. Where there is such a link the status is 5 in place of 0, with the span of the first;
-/// [`typst_html_dead_links`] lists them all.
+/// A link stays without an `href` if none leads to its destination, for example because the
+/// document has no such place. If there is such a link, the status is 5 instead of 0, and the span
+/// is that of the first; [`typst_html_dead_links`] lists them all.
 ///
 /// The members are those of [`text_of_document`]: `title`, `description`, `authors`, `keywords`,
-/// `lang`, `region`, `items`, `footnotes` and `head`. Another member, layout, number for links or limit is
-/// bad input. Buffers and replies are those of [`typst_html_write`].
+/// `lang`, `region`, `items`, `footnotes` and `head`. Any other member, layout, number for links or
+/// limit is bad input. Buffers and replies are those of [`typst_html_write`].
 pub fn typst_html_document(
     alloc: Global,
     layout: u8,
@@ -124,7 +129,8 @@ pub fn typst_html_document(
     reply_with_document(made, output)
 }
 
-/// Returns the text of the items that the input spells, by themselves, if both numbers are right.
+/// Returns the text of the items that the input spells, without a document around them. Fails with
+/// bad input if the level or the limit is invalid.
 fn fragment_of(alloc: Global, level: u8, limit: u32, input: &[u8]) -> Result<String, Fault>
     ensures { GivesAnswerAt result (fragment_call_answer level limit input.now) }
 {
@@ -134,14 +140,15 @@ fn fragment_of(alloc: Global, level: u8, limit: u32, input: &[u8]) -> Result<Str
     }
 }
 
-/// Makes the HTML text of the items that the input spells in JSON, a list, with no document type, head
-/// and body: a piece of a page that another program makes, such as a template engine. The text is copied
-/// into the buffer, where it fits.
+/// Writes the HTML text of the items that the JSON input spells into the buffer, if it fits. The
+/// text has no document type, head or body: it is a piece of a page that another program makes,
+/// such as a template engine. The input is a list.
 ///
-/// The items have the forms of those of [`typst_html_document`]. The level says where the text is put:
-/// on lines of its own (0) or in a line (1). Links get neither anchors nor an `href`, since both depend on
-/// the ids of the whole page. The text is that of [`text_of_fragment`]; another level or limit is bad
-/// input without a place. Buffers and replies are those of [`typst_html_write`].
+/// The items have the forms of those of [`typst_html_document`]. The level is that of the place
+/// where the caller puts the text: on lines of its own (0) or in a line (1). Links get neither
+/// anchors nor an `href`, since both depend on the ids of the whole page. The text is that of
+/// [`text_of_fragment`]; any other level or limit is bad input without a place. Buffers and replies
+/// are those of [`typst_html_write`].
 pub fn typst_html_fragment(
     alloc: Global,
     level: u8,
@@ -156,7 +163,7 @@ pub fn typst_html_fragment(
     reply_with(fragment_of(alloc, level, limit, input), output)
 }
 
-/// The links that lead nowhere in the document that the input spells, as JSON.
+/// Returns the links that lead nowhere in the document that the input spells, as JSON.
 fn dead_links_of(alloc: Global, limit: u32, input: &[u8]) -> Result<String, Fault>
     ensures { GivesAnswerAt result (dead_links_answer limit input.now) }
 {
@@ -164,17 +171,17 @@ fn dead_links_of(alloc: Global, limit: u32, input: &[u8]) -> Result<String, Faul
     Ok(dead_links_text(alloc, &made.dead_links)?)
 }
 
-/// Tells in JSON which links lead nowhere in the document that the input spells, where links get the
-/// `href` of their destination: those that stay without one in the text of [`typst_html_document`] with
-/// links 1. The text is copied into the buffer, where it fits:
+/// Reports in JSON which links of the document that the input spells lead nowhere: those that stay
+/// without an `href` in the text of [`typst_html_document`] with links 1. Writes the report into
+/// the buffer, if it fits:
 ///
 /// ```json
 /// {"dead_links":[{"destination":7,"span":3}]}
 /// ```
 ///
-/// They stand in document order, each with the location that it would lead to and the span of its `a`.
-/// Input, limit and refusals are those of [`typst_html_document`], buffers and replies those of
-/// [`typst_html_write`].
+/// The links are listed in document order, each with the location that it would lead to and the
+/// span of its `a`. Input, limit and refusals are those of [`typst_html_document`], buffers and
+/// replies those of [`typst_html_write`].
 pub fn typst_html_dead_links(alloc: Global, limit: u32, input: &[u8], output: &mut [u8]) -> Reply
     ensures answered { RepliesAt (dead_links_answer limit input.now) output.old result output.new }
     ensures kept { ¬ (result.status ≡ 0) → output.new ≡ output.old }
@@ -182,7 +189,8 @@ pub fn typst_html_dead_links(alloc: Global, limit: u32, input: &[u8], output: &m
     reply_with(dead_links_of(alloc, limit, input), output)
 }
 
-/// The members that tell what the text of the document does not show, as JSON.
+/// Returns the names of the members whose information the text of the document does not show, as
+/// JSON. Fails with bad input if the limit is invalid.
 fn unused_of(alloc: Global, limit: u32, input: &[u8]) -> Result<String, Fault>
     ensures { GivesAnswerAt result (unused_call_answer limit input.now) }
 {
@@ -192,17 +200,19 @@ fn unused_of(alloc: Global, limit: u32, input: &[u8]) -> Result<String, Fault>
     }
 }
 
-/// Reports in JSON which members of the input tell what the text of its document does not show: all that
-/// tell something, where the items have a root of their own (an `html` alone, which stays as it is),
-/// and else none. The text is copied into the buffer, where it fits:
+/// Reports in JSON which members of the input hold information that the text of its document does
+/// not show. If the items have a root of their own (an `html` alone, which stays as it is), these
+/// are all members that hold any; otherwise there are none. Writes the report into the buffer, if
+/// it fits:
 ///
 /// ```json
 /// {"unused":["title","lang"]}
 /// ```
 ///
-/// They stand in the order `title`, `description`, `authors`, `keywords`, `lang`, `region`, `head`; an
-/// empty list tells nothing. Input and limit are those of [`typst_html_document`], which refuses whatever is
-/// refused here; buffers and replies are those of [`typst_html_write`].
+/// The names are listed in the order `title`, `description`, `authors`, `keywords`, `lang`,
+/// `region`, `head`; a member that is an empty list holds no information. Input and limit are those
+/// of [`typst_html_document`], which refuses whatever is refused here; buffers and replies are
+/// those of [`typst_html_write`].
 pub fn typst_html_unused(alloc: Global, limit: u32, input: &[u8], output: &mut [u8]) -> Reply
     ensures answered { RepliesAt (unused_call_answer limit input.now) output.old result output.new }
     ensures kept { ¬ (result.status ≡ 0) → output.new ≡ output.old }
@@ -210,10 +220,10 @@ pub fn typst_html_unused(alloc: Global, limit: u32, input: &[u8], output: &mut [
     reply_with(unused_of(alloc, limit, input), output)
 }
 
-/// Reads a page, and tells in JSON which links to fragments of the page lead nowhere, which ids stand in it
-/// before, and which nodes a browser would not leave where they are if the tree of the page were written
-/// ([`misnested`](html_dom_nest::misnested)), each with its place. The text is copied into the buffer, where
-/// it fits:
+/// Reads a page and reports in JSON which links to fragments of the page lead nowhere, which ids an
+/// earlier element has too, and which nodes a browser would not leave where they are if the tree of
+/// the page were written ([`misnested`](html_dom_nest::misnested)), each with its place. Writes the
+/// report into the buffer, if it fits:
 ///
 /// ```json
 /// {"dead_fragments":[{"fragment":"mint","keeps":0,"path":[1,3],"offset":120,"line":5,"column":9},
@@ -223,40 +233,42 @@ pub fn typst_html_unused(alloc: Global, limit: u32, input: &[u8], output: &mut [
 ///                "offset":190,"line":6,"column":4}]}
 /// ```
 ///
-/// (It stands in one line.) How many there are is how long each list is. The path of each is the index of
-/// each child on the way from the root, texts counted: it begins with the first indices of the path of the
-/// finding before it in its list, as many as it keeps, and goes on with those that follow. So the link to
-/// `sage` stands at 1, 5. The first of a list keeps none.
+/// (The report is a single line.) A path has the index of each child on the way from the root,
+/// texts counted. It begins with the first `keeps` indices of the path of the previous finding in
+/// the list, and goes on with those of `path`. So the link to `sage` stands at 1, 5. The first
+/// finding of a list keeps none.
 ///
-/// The offset of each is how many bytes of the page stand before the `<` of its start tag, or, of a text,
+/// The offset is the number of bytes of the page before the `<` of the start tag, or, for a text,
 /// before that of the element in which it stands. Lines and columns are counted from 1, columns in
-/// characters. A line ends with a line feed, a carriage return or both, in that order, and a byte order mark
-/// is no character of the first.
+/// characters. A line ends with a line feed, a carriage return or both, in that order. A byte order
+/// mark at the beginning is not counted as a character.
 ///
-/// A misnested node stands where a browser puts it as it reads this page, but not as it reads the text of
-/// the tree: a page without a document type keeps a `table` in a `p`, and a carriage return by reference is
-/// one. Its rule is the name of a [`Misnesting`](html_dom_nest::Misnesting), and why what that shows.
+/// A misnested node stands where a browser puts it when it reads this page, but not when it reads
+/// the text of the tree. Examples are a `table` in a `p` on a page without a document type, and a
+/// carriage return that is written as a character reference. `rule` is the name of a
+/// [`Misnesting`](html_dom_nest::Misnesting), and `why` has its words.
 ///
-/// Any page is read as a browser reads it (HTML Standard 13.2, with scripting disabled), by
-/// [`read_page_bytes`](typst_html_parse::read_page_bytes). It is refused, with the number of the refusal
-/// ([`PageRefusal`](typst_html_parse_open::PageRefusal)) and the place of the tag or character, where a
-/// browser would move nodes or make them a second time, where it holds what no element can have here, and
-/// where an element would stand deeper than the limit. A page that is no UTF-8 is bad input, with the
-/// place of the first byte that is none. A limit that is not from 1 to 1,000 is bad input without a place.
-/// Buffers and replies are those of [`typst_html_write`].
+/// [`read_page_bytes`](typst_html_parse::read_page_bytes) reads the page as a browser does (HTML
+/// Standard 13.2, with scripting disabled). It refuses a page in which a browser would move nodes
+/// or make them a second time, one that holds what no element can have here, and one in which an
+/// element would stand deeper than the limit. The reply then has the number of the refusal
+/// ([`PageRefusal`](typst_html_parse_open::PageRefusal)) and the place of the tag or character. A
+/// page that is not UTF-8 is bad input, with the place of the first byte that is invalid. A limit
+/// that is not from 1 to 1,000 is bad input without a place. Buffers and replies are those of
+/// [`typst_html_write`].
 ///
-/// Cost: that of reading; each list takes one pass over the page more, and for each finding its depth. The
-/// misnested nodes are held with their paths, each of at most 513 indices.
+/// Cost: that of reading. Each list takes one more pass over the page, and each finding the length
+/// of its path. The misnested nodes are held with their paths, each of at most 513 indices.
 pub fn typst_html_check(alloc: Global, limit: u32, page: &[u8], output: &mut [u8]) -> Reply
-    ensures answered { Tells (check_told limit page.now) output.old result output.new }
+    ensures answered { Reports (check_report limit page.now) output.old result output.new }
     ensures kept { ¬ (result.status ≡ 0) → output.new ≡ output.old }
 {
     reply_to_page(alloc, Asked::Findings, limit, page, output)
 }
 
-/// Reads a page, and tells in JSON what links between pages need to know of it: the names to which links
-/// to it may lead, and its own links, each with its place. The text is copied into the buffer, where it
-/// fits:
+/// Reads a page and reports in JSON what a check of links between pages needs: the names in it to
+/// which links may lead, and its own links, each with its place. Writes the report into the buffer,
+/// if it fits:
 ///
 /// ```json
 /// {"ids":[{"id":"dill","keeps":0,"path":[1,0],"offset":40,"line":3,"column":1}],
@@ -264,15 +276,15 @@ pub fn typst_html_check(alloc: Global, limit: u32, page: &[u8], output: &mut [u8
 ///  "links":[{"href":"herbs.html#mint","keeps":0,"path":[1,2],"offset":78,"line":5,"column":1}]}
 /// ```
 ///
-/// (It stands in one line.) The ids are those of elements, and the names those of `a` elements, to which a
-/// link may lead as to an id; both without empty ones. The links are the addresses (`href`) of `a` and `area`
-/// elements, as they are written: an empty one too, and those that lead out of the site. Of two attributes
-/// of one name the first counts.
+/// (The report is a single line.) The ids are those of elements, and the names those of `a`
+/// elements, to which a link may lead as to an id; empty ones are left out. The links are the
+/// addresses (`href`) of `a` and `area` elements, as they are written, including empty ones and
+/// those that lead out of the site. Of two attributes of one name the first counts.
 ///
-/// Each list stands in document order. Paths and places are told as by [`typst_html_check`], and pages,
-/// limits and refusals are those of that call.
+/// Each list is in document order. Paths, places, pages, limits and refusals are those of
+/// [`typst_html_check`].
 pub fn typst_html_links(alloc: Global, limit: u32, page: &[u8], output: &mut [u8]) -> Reply
-    ensures answered { Tells (links_told limit page.now) output.old result output.new }
+    ensures answered { Reports (links_report limit page.now) output.old result output.new }
     ensures kept { ¬ (result.status ≡ 0) → output.new ≡ output.old }
 {
     reply_to_page(alloc, Asked::Links, limit, page, output)

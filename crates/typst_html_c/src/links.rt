@@ -8,10 +8,9 @@ ghost use Rattle.typst_html_c.specs.PageLinks.{page_links};
 
 use crate::lists::{begun, ended, push_key};
 use crate::page::Page;
-use html_dom_findings::{Wanted, tell_texts};
+use html_dom_findings::{Wanted, report_texts};
 use std::alloc::{AllocError, Global};
 
-/// The ids, the names and the links of a page, as JSON.
 pub(crate) fn links_text(alloc: Global, page: Page<'_>) -> Result<String, AllocError>
     ensures { let page = page.entry in IfOk result (λ text. string_bytes text
         ≡ compact_text (page_links (text_of page.places) (element_view page.root.now))) }
@@ -20,13 +19,13 @@ pub(crate) fn links_text(alloc: Global, page: Page<'_>) -> Result<String, AllocE
     text.push_str("{")?;
     push_key(alloc, &mut text, false, "ids")?;
     let list = begun(alloc, page, text, "id")?;
-    let mut text = ended(tell_texts(alloc, page.root, Wanted::LinkedIds, list)?)?;
+    let mut text = ended(report_texts(alloc, page.root, Wanted::LinkedIds, list)?)?;
     push_key(alloc, &mut text, true, "names")?;
     let list = begun(alloc, page, text, "name")?;
-    let mut text = ended(tell_texts(alloc, page.root, Wanted::LinkedNames, list)?)?;
+    let mut text = ended(report_texts(alloc, page.root, Wanted::LinkedNames, list)?)?;
     push_key(alloc, &mut text, true, "links")?;
     let list = begun(alloc, page, text, "href")?;
-    let mut text = ended(tell_texts(alloc, page.root, Wanted::Hrefs, list)?)?;
+    let mut text = ended(report_texts(alloc, page.root, Wanted::Hrefs, list)?)?;
     text.push_str("}")?;
     Ok(text)
 }

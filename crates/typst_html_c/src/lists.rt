@@ -1,4 +1,4 @@
-//! Lists of what stands in a page, as JSON.
+//! Lists of the findings in a page, as JSON.
 
 ghost use Rattle.std.specs.Prelude.{◌≡◌, ◌≤◌, true, ℕ, List, [], ◌++◌, drop, length, codes, decimal, string_bytes, IfOk, OnOk};
 ghost use Rattle.serde_json.specs.Data.{number, string, unsigned};
@@ -16,15 +16,15 @@ use typst_html_read::Place;
 /// A list of findings that is being written.
 #[derive(Drop)]
 pub(crate) struct FindingList<'a> {
-    /// The page in which they are found. They come in document order, so its places are told in one pass.
+    /// The page of the findings. They come in document order, so one pass finds their places.
     page: Page<'a>,
-    /// The text up to the end of the list so far.
+    /// The text that is written so far.
     text: String,
-    /// Under which name a finding tells its text.
+    /// The name of the member with the text of a finding.
     name: String,
-    /// The path of the finding before; empty where there is none.
+    /// The path of the previous finding; empty if there is none.
     previous: Vec<usize>,
-    /// Whether there is one.
+    /// Whether there is a previous finding.
     later: bool,
 }
 
@@ -79,27 +79,29 @@ impl<'a> TextSink for FindingList<'a> {
     }
 }
 
-/// Adds a finding: what is told, under that name, and where it stands, behind one at another path.
+/// Appends a finding as an object: the text that was found, as the member of that name, and where
+/// it stands. `previous` is the path of the previous finding.
 fn push_finding(
     alloc: Global,
     text: &mut String,
     name: &str,
-    told: &str,
+    found: &str,
     previous: &[usize],
     path: &[usize],
     place: Place,
 ) -> Result<(), AllocError>
     ensures { OnOk result (string_bytes text.new ≡ string_bytes text.old
-        ++ compact_text (finding_data name.now told.now (where_behind previous.now path.now place))) }
+        ++ compact_text (finding_data name.now found.now (where_behind previous.now path.now place))) }
 {
     text.push_str("{")?;
     push_key(alloc, text, false, name)?;
-    push_string(alloc, text, told)?;
+    push_string(alloc, text, found)?;
     push_where(alloc, text, previous, path, place)?;
     Ok(())
 }
 
-/// Adds where something stands, behind one at another path, to an object that ends with it.
+/// Appends the members that say where something stands, and ends the object. `previous` is the path
+/// of the previous finding.
 pub(crate) fn push_where(
     alloc: Global,
     text: &mut String,
@@ -114,7 +116,8 @@ pub(crate) fn push_where(
     push_members(alloc, text, keeps, behind(path, keeps), place)
 }
 
-/// Adds how many indices a path keeps of another, which follow these, and a place.
+/// Appends how many indices a path keeps of the previous one, the indices after these, and a
+/// place. Ends the object.
 fn push_members(
     alloc: Global,
     text: &mut String,
@@ -135,7 +138,7 @@ fn push_members(
     Ok(())
 }
 
-/// How many indices both paths begin with.
+/// Returns the length of the common prefix of both paths.
 fn kept_count(previous: &[usize], path: &[usize]) -> usize
     ensures count { result ≡ kept_count previous.now path.now }
     ensures within { result ≤ length path.now }
@@ -154,7 +157,7 @@ fn behind(path: &[usize], kept: usize) -> &[usize]
     &path[kept..]
 }
 
-/// Adds a number under its name, behind other members.
+/// Appends a member that is a number, after other members.
 fn push_member(alloc: Global, text: &mut String, name: &str, n: usize) -> Result<(), AllocError>
     ensures { OnOk result (string_bytes text.new ≡ (string_bytes text.old
         ++ (comma_if true ++ (compact_text (string name.now) ++ codes ":"))) ++ decimal n) }
@@ -164,7 +167,7 @@ fn push_member(alloc: Global, text: &mut String, name: &str, n: usize) -> Result
     Ok(())
 }
 
-/// Adds the name of a member, behind others or as the first.
+/// Appends the name of a member, with a comma before it if it is not the first.
 pub(crate) fn push_key(
     alloc: Global,
     text: &mut String,
@@ -211,11 +214,11 @@ pub(crate) fn push_comma_if(text: &mut String, later: bool) -> Result<(), AllocE
     Ok(())
 }
 
-pub(crate) fn push_string(alloc: Global, text: &mut String, told: &str) -> Result<(), AllocError>
+pub(crate) fn push_string(alloc: Global, text: &mut String, found: &str) -> Result<(), AllocError>
     ensures { OnOk result (string_bytes text.new
-        ≡ string_bytes text.old ++ compact_text (string told.now)) }
+        ≡ string_bytes text.old ++ compact_text (string found.now)) }
 {
-    let value = Value::String(String::from_str(alloc, told)?);
+    let value = Value::String(String::from_str(alloc, found)?);
     text.push_str(value.to_string(alloc)?.as_str())?;
     Ok(())
 }

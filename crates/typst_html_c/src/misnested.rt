@@ -1,4 +1,4 @@
-//! The nodes of a page that a browser would not leave where they are, as JSON.
+//! The misnested nodes of a page, which a browser would not leave where they are, as JSON.
 
 ghost use Rattle.std.specs.Prelude.{◌≡◌, ◌++◌, chars, string_bytes, OnOk};
 ghost use Rattle.serde_json.specs.Written.{compact_text};
@@ -11,7 +11,7 @@ use html_dom_nest::{Misnested, Misnesting};
 use std::alloc::{AllocError, Global};
 use typst_html_parse::Places;
 
-/// Adds the list of these nodes of a page.
+/// Appends the list of these nodes of a page.
 pub(crate) fn push_misnested(
     alloc: Global,
     places: Places<'_>,
@@ -35,7 +35,7 @@ pub(crate) fn push_misnested(
     Ok(())
 }
 
-/// Adds a node, which stands behind one at that path.
+/// Appends a node as an object. `previous` is the path of the node before it in the list.
 fn push_node(
     alloc: Global,
     places: &mut Places<'_>,
@@ -57,7 +57,6 @@ fn push_node(
     Ok(())
 }
 
-/// The name of a rule.
 #[tactic(auto, unfolding(crate::specs::MisnestedNodes::rule_name))]
 fn rule_name(rule: Misnesting) -> &'static str
     ensures { result.now ≡ rule_name rule }

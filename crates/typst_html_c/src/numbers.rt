@@ -1,4 +1,4 @@
-//! What numbers stand for.
+//! The meanings of the numbers that a caller passes.
 
 ghost use Rattle.std.specs.Prelude.{◌≡◌};
 ghost use Rattle.typst_html_c.specs.CallReplies.{limit_of, page_limit_of, pretty_of, task_of, yes_or_no, wanted_settings, wanted_task};
@@ -7,7 +7,7 @@ ghost use Rattle.typst_html_c.specs.Fragments.{level_of, wanted_fragment};
 use html_flow_convert::ConversionLevel;
 use html_tool_run::{Settings, Task};
 
-/// The task, and whether pretty text is wanted, where both numbers are right.
+/// Returns the task and whether pretty text is wanted, or `None` if a number is invalid.
 pub(crate) fn wanted_task(kind: u8, layout: u8) -> Option<(Task, bool)>
     ensures { result ≡ wanted_task kind layout }
 {
@@ -24,7 +24,7 @@ fn task_of(kind: u8) -> Option<Task>
     }
 }
 
-/// How a document is written, where all three numbers are right.
+/// Returns how a document is written, or `None` if a number is invalid.
 pub(crate) fn wanted_settings(layout: u8, links: u8, limit: u32) -> Option<Settings>
     ensures { result ≡ wanted_settings layout links limit }
 {
@@ -35,7 +35,8 @@ pub(crate) fn wanted_settings(layout: u8, links: u8, limit: u32) -> Option<Setti
     })
 }
 
-/// The level of items by themselves and how deep their bodies may stand, where both numbers are right.
+/// Returns the level of a fragment and how deep bodies may be nested in it, or `None` if a number
+/// is invalid.
 pub(crate) fn wanted_fragment(level: u8, limit: u32) -> Option<(ConversionLevel, usize)>
     ensures { result ≡ wanted_fragment level limit }
 {
@@ -68,8 +69,9 @@ fn yes_or_no(number: u8) -> Option<bool>
     }
 }
 
-/// How deep the elements of a page may stand: not as deep as bodies, since a check calls itself at each
-/// level, and 256 KB of stack have to be enough whatever page comes.
+/// Returns how deep the elements of a page may be nested, or `None` if the number is invalid. The
+/// limit is lower than that of bodies, since a check recurses at each level and 256 KB of stack
+/// have to be enough for any page.
 pub(crate) fn page_limit_of(limit: u32) -> Option<usize>
     ensures { result ≡ page_limit_of limit }
 {

@@ -1,4 +1,4 @@
-//! A page that is read, and where its elements begin.
+//! A page that was read, and where its elements begin.
 
 ghost use Rattle.std.specs.Prelude.{◌≡◌};
 ghost use Rattle.html_dom_tree.specs.Views.{element_view};
@@ -10,7 +10,7 @@ use html_dom_tree::HtmlElement;
 use typst_html_parse::Places;
 use typst_html_read::Place;
 
-/// A page that is read.
+/// A page that was read.
 #[derive(Clone, Copy)]
 pub(crate) struct Page<'a> {
     pub(crate) root: &'a HtmlElement,
@@ -18,19 +18,19 @@ pub(crate) struct Page<'a> {
 }
 
 impl Page<'_> {
-    /// The place of the element at a path: that of the `<` of its start tag.
+    /// Returns the place of the element at a path, which is that of the `<` of its start tag.
     ///
-    /// Cost: that of the path, and how much of the page lies between it and the place that was told
-    /// before.
+    /// Takes time linear in the length of the path and of the page between this place and the
+    /// previous one.
     pub(crate) fn place_of(&mut self, path: &[usize]) -> Place
-        ensures told { result ≡ place_in self.old path.now }
+        ensures place { result ≡ place_in self.old path.now }
         ensures kept { place_in self.new ≡ place_in self.old }
     {
         self.places.at(offset_at(self.root, path))
     }
 }
 
-/// How many bytes of its page stand before the element at a path.
+/// Returns how many bytes of its page stand before the element at a path, or 0 if there is none.
 fn offset_at(root: &HtmlElement, path: &[usize]) -> usize
     ensures { result ≡ offset_at (element_view root.now) path.now }
 {

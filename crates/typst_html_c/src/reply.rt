@@ -8,31 +8,34 @@ ghost use Rattle.html_tool_run.specs.Replies.{GivesAnswer};
 ghost use Rattle.html_dom_link.specs.Links.{DeadLinkView};
 ghost use Rattle.typst_html_c.specs.CallReplies.{Replies, bad_reply, fault_reply, text_reply, buffer_with, without_text};
 ghost use Rattle.typst_html_c.specs.CallReplies.{RepliesWith, with_dead_links};
-ghost use Rattle.typst_html_c.specs.PageTold.{placed};
+ghost use Rattle.typst_html_c.specs.PageReports.{placed};
 
 use html_dom_link::DeadLink;
 use html_dom_tree::Span;
 use html_tool_run::{DocumentText, Fault, InputPlace};
 use typst_html_read::Place;
 
-/// How a call ended.
+/// The outcome of a call.
 #[repr(C)]
 #[derive(Clone, Copy, Debug, PartialEq, Eq)]
 pub struct Reply {
-    /// How many bytes the text has; 0 where there is none.
+    /// The length of the text in bytes, also if it does not fit; 0 if there is none.
     pub length: usize,
-    /// The span of what is refused, or of the first link that leads nowhere; 0 where nothing is and all
-    /// lead, or where that has none. Of a bad input: where the form is left, as [`InputPlace::Form`] says. Of
-    /// a page that is not read: how many bytes of it stand before the place that is the reason.
+    /// The span of what is refused, or of the first link that leads nowhere. For a bad input, where
+    /// it leaves the form, as in [`InputPlace::Form`]. For a page that is not read, how many bytes
+    /// of it stand before the place of the fault. Otherwise, or if there is no span, 0.
     pub span: u64,
-    /// The line of a bad input that is no JSON, or of that place in a page, counted from 1; else 0.
+    /// The line at which an input is not JSON, or of the place of the fault in a page, counted from
+    /// 1; otherwise 0.
     pub line: usize,
-    /// The column there: of an input as [`InputPlace::Text`] says, of a page in characters, counted from 1.
+    /// The column there: of an input as in [`InputPlace::Text`], of a page in characters, counted
+    /// from 1; otherwise 0.
     pub column: usize,
-    /// 0: the text is in the buffer; 1: refused; 2: bad input; 3: an allocation failed; 4: the buffer
-    /// is too short for the text; 5: the text is in the buffer, and links in it lead nowhere.
+    /// 0: the text is in the buffer; 1: refused; 2: bad input; 3: an allocation failed; 4: the
+    /// buffer is too short for the text; 5: the text is in the buffer, and links in it lead
+    /// nowhere.
     pub status: u8,
-    /// The number of the refusal; 0 where nothing is refused.
+    /// The number of the refusal; 0 if nothing is refused.
     pub number: u8,
 }
 
@@ -48,7 +51,6 @@ const TOO_SHORT: u8 = 4;
 
 const DEAD_LINKS: u8 = 5;
 
-/// The reply of a call that has no text.
 pub(crate) fn without_text(status: u8, number: u8, span: u64) -> Reply
     ensures { result ≡ without_text status number span }
 {
@@ -62,7 +64,7 @@ pub(crate) fn without_text(status: u8, number: u8, span: u64) -> Reply
     }
 }
 
-/// The reply of a call that has no text, because of what stands in a page at that place.
+/// Creates the reply of a call that has no text because of a fault at that place of a page.
 pub(crate) fn placed(status: u8, number: u8, place: Place) -> Reply
     ensures { result ≡ placed status number place }
 {
@@ -76,7 +78,7 @@ pub(crate) fn placed(status: u8, number: u8, place: Place) -> Reply
     }
 }
 
-/// Copies a text into the buffer, where it fits.
+/// Copies the text into the buffer if it fits, and returns the reply.
 pub(crate) fn put(text: &[u8], output: &mut [u8]) -> Reply
     ensures reply { result ≡ text_reply text.now output.old }
     ensures output { output.new ≡ buffer_with text.now output.old }
@@ -120,7 +122,7 @@ fn fault_reply(fault: Fault) -> Reply
     }
 }
 
-/// The reply of a call that made this text, which is copied into the buffer, where it fits, or none.
+/// Returns the reply for a fault, or for a text, which it copies into the buffer if it fits.
 pub(crate) fn reply_with(text: Result<String, Fault>, output: &mut [u8]) -> Reply
     ensures answered { (answer : Answer) → GivesAnswer text answer →
         Replies answer output.old result output.new }
@@ -132,8 +134,8 @@ pub(crate) fn reply_with(text: Result<String, Fault>, output: &mut [u8]) -> Repl
     }
 }
 
-/// The reply of a call that made a document's text, which is copied into the buffer, where it fits, or
-/// none.
+/// Returns the reply for a fault, or for the text of a document, which it copies into the buffer if
+/// it fits. The reply reports whether links of the document lead nowhere.
 pub(crate) fn reply_with_document(made: Result<DocumentText, Fault>, output: &mut [u8]) -> Reply
     ensures answered { (answer : Answer) (links : List DeadLinkView) →
         GivesAnswer (text_given made) answer →
@@ -150,7 +152,8 @@ pub(crate) fn reply_with_document(made: Result<DocumentText, Fault>, output: &mu
     }
 }
 
-/// A reply that also tells that these links lead nowhere, if there is a text in the buffer.
+/// Returns the reply with the status for dead links and the span of the first of these links, if
+/// there is one and the text is in the buffer.
 fn with_dead_links(links: &[DeadLink], reply: Reply) -> Reply
     ensures { result ≡ with_dead_links (dead_links_view links.now) reply }
 {

@@ -10,7 +10,7 @@ use Rattle.typst_html_encode.specs.declared.fault.ExportFault.{ExportFault}
 
 -- a loop over all children: with those that are left, the text and the faults are those of all
 pub record RawLeft (escaping : Escaping) (left all : NodesView) (out start : List ℕ) : Type 0 where
-  pub told : out ++ escaped_text escaping (nodes_raw_text left)
+  pub agrees : out ++ escaped_text escaping (nodes_raw_text left)
       ≡ start ++ escaped_text escaping (nodes_raw_text all)
   pub clean : nodes_raw_faults escaping left ≡ nodes_raw_faults escaping all
 
@@ -24,8 +24,8 @@ module _ {escaping : Escaping} {left all : NodesView} {out start : List ℕ}
       let text = node_raw_text child in
       let joined = sym (escaped_text-append escaping text (nodes_raw_text others)) in
       record {
-        told = rw (wrote, append_assoc) (ap (λ t. out ++ t) joined
-            ∙ (ap (λ ns. out ++ escaped_text escaping (nodes_raw_text ns)) (sym is) ∙ held.told));
+        agrees = rw (wrote, append_assoc) (ap (λ t. out ++ t) joined
+            ∙ (ap (λ ns. out ++ escaped_text escaping (nodes_raw_text ns)) (sym is) ∙ held.agrees));
         clean = ap (λ faults. faults ++ nodes_raw_faults escaping others) (sym clean)
             ∙ (ap (nodes_raw_faults escaping) (sym is) ∙ held.clean);
       }
@@ -43,4 +43,4 @@ module _ {escaping : Escaping} {left all : NodesView} {out start : List ℕ}
       × (nodes_raw_faults escaping all ≡ [])
   all_written is =
       let done = subst (λ ns. RawLeft escaping ns all out start) is held in
-      (sym (append-nil out) ∙ done.told, sym done.clean)
+      (sym (append-nil out) ∙ done.agrees, sym done.clean)

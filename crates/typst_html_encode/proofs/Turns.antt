@@ -17,7 +17,7 @@ use Rattle.typst_html_encode.specs.declared.layout.Margin.{Margin}
 -- a walk over nodes has written a text: with the text of what is left it is the text of the nodes
 pub record IsAt (frames : Frames) (outer : Margin) (whole : NodesView) (start : List ℕ)
     (due : Bool) (left : NodesView) (opened : List OpenElementView) (text : List ℕ) : Type 0 where
-  pub told : text ++ rest_text frames outer due left opened
+  pub agrees : text ++ rest_text frames outer due left opened
       ≡ start ++ outside_text frames outer whole
   pub clean : rest_faults frames outer left opened ≡ nodes_faults frames false outer.pretty whole
   pub named : RestIsNamed left opened → NodesAreNamed whole
@@ -25,7 +25,7 @@ pub record IsAt (frames : Frames) (outer : Margin) (whole : NodesView) (start : 
 -- what is written in a turn that comes to a node, and its faults
 pub record WritesNode (frames : Frames) (outer : Margin) (opened : List OpenElementView)
     (due : Bool) (n : NodeView) (text new_text : List ℕ) : Type 0 where
-  pub told : new_text ≡ text
+  pub agrees : new_text ≡ text
       ++ (indent_where (next_has_indent opened due n) (next_margin outer opened).level
       ++ first_text frames (next_pre_span opened) (next_margin outer opened) n)
   pub clean : first_faults frames (next_pre_span opened) (next_margin outer opened).pretty n ≡ []
@@ -39,7 +39,7 @@ pub wrote : {frames : Frames} {outer : Margin} {opened : List OpenElementView} {
     first_faults frames pre_span m.pretty n ≡ [] → FirstIsNamed n →
     WritesNode frames outer opened due n text new_text
 wrote {text = text} is_indented is_pre_span is_margin began went clean named = record {
-  told = rw (← is_indented, ← is_pre_span, ← is_margin, went, began) (append_assoc text _ _);
+  agrees = rw (← is_indented, ← is_pre_span, ← is_margin, went, began) (append_assoc text _ _);
   clean = rw (← is_pre_span, ← is_margin) clean;
   named = named;
 }
@@ -48,8 +48,8 @@ begun : (text indent first inner end left new_text all : List ℕ) →
     new_text ≡ text ++ (indent ++ first) →
     text ++ (indent ++ ((first ++ (inner ++ end)) ++ left)) ≡ all →
     new_text ++ (inner ++ (end ++ left)) ≡ all
-begun text indent first inner end left new_text all wrote told =
-    rw (wrote, append_assoc, append_assoc) (rw (append_assoc first, append_assoc inner) at told)
+begun text indent first inner end left new_text all wrote agrees =
+    rw (wrote, append_assoc, append_assoc) (rw (append_assoc first, append_assoc inner) at agrees)
 
 -- what is left falls in size
 pub size_after : {all ns : NodesView} {n : NodeView} (os : List OpenElementView) →
@@ -77,7 +77,7 @@ module _ {frames : Frames} {outer : Margin} {whole : NodesView} {start : List �
   pub starts : {left : NodesView} {opened : List OpenElementView} → left ≡ whole → opened ≡ [] →
       IsAt frames outer whole start due left opened start
   starts is none_open =
-      rw (is, none_open) (record { told = refl; clean = refl; named = λ r. r })
+      rw (is, none_open) (record { agrees = refl; clean = refl; named = λ r. r })
 
   -- nothing is left
   pub finished : {left : NodesView} {opened : List OpenElementView} {text : List ℕ} →
@@ -89,7 +89,7 @@ module _ {frames : Frames} {outer : Margin} {whole : NodesView} {start : List �
       let done : IsAt frames outer whole start due none [] text
       = subst (λ os. IsAt frames outer whole start due none os text) none_open
       (subst (λ ns. IsAt frames outer whole start due ns opened text) is stands) in
-      (sym (append-nil text) ∙ done.told, sym done.clean, done.named tt)
+      (sym (append-nil text) ∙ done.agrees, sym done.clean, done.named tt)
 
   -- the walk leaves the innermost open element
   pub leaves : {left : NodesView} {opened os : List OpenElementView} {o : OpenElementView}
@@ -103,7 +103,7 @@ module _ {frames : Frames} {outer : Margin} {whole : NodesView} {start : List �
       = subst (λ xs. IsAt frames outer whole start due none xs text) first
       (subst (λ ns. IsAt frames outer whole start due ns opened text) is stands) in
       record {
-        told = rw (wrote, append_assoc, append_assoc) here.told;
+        agrees = rw (wrote, append_assoc, append_assoc) here.agrees;
         clean = here.clean;
         named = λ r. here.named (tt, r);
       }
@@ -126,10 +126,10 @@ module _ {frames : Frames} {outer : Margin} {whole : NodesView} {start : List �
         let pre_span = next_pre_span opened in
         let one_text = skipped_text frames pre_span margin n skipped in
         let one_faults = skipped_faults frames pre_span margin.pretty n skipped in
-        let texts = rw (rest_text_first frames outer n others opened due) at here.told in
+        let texts = rw (rest_text_first frames outer n others opened due) at here.agrees in
         let faults = rw (rest_faults_first frames outer n others opened) at here.clean in
         rw (is_due, is_margin) (record {
-          told = rw (w.told, append_assoc, append_assoc) (rw one_text at texts);
+          agrees = rw (w.agrees, append_assoc, append_assoc) (rw one_text at texts);
           clean = rw (one_faults, w.clean) at faults;
           named = λ r. here.named (rest_named_first frames outer n others opened
               (skipped_named frames pre_span margin.pretty n skipped w.named w.clean) r);
@@ -162,15 +162,15 @@ module _ {frames : Frames} {outer : Margin} {whole : NodesView} {start : List �
       let pre_span = next_pre_span opened in
       let one_text = entered_text frames pre_span m h inside entered in
       let one_faults = entered_faults frames pre_span m.pretty h inside entered in
-      let texts = rw (rest_text_first frames outer element others opened due) at here.told in
+      let texts = rw (rest_text_first frames outer element others opened due) at here.agrees in
       let faults = rw (rest_faults_first frames outer element others opened) at here.clean in
       record {
-        told = begun text (indent_where (next_has_indent opened due element) m.level)
+        agrees = begun text (indent_where (next_has_indent opened due element) m.level)
             (first_text frames pre_span m element)
             (nodes_text frames h.pre_span true (margin_inside m h inside) inside)
             (end_tag_text h.name)
             (rest_text frames outer (m.pretty && due_after due element) others opened)
-            new_text (start ++ outside_text frames outer whole) w.told
+            new_text (start ++ outside_text frames outer whole) w.agrees
             (rw one_text at texts);
         clean = rw (one_faults, w.clean) at faults;
         named = λ r. here.named (rest_named_first frames outer element others opened

@@ -19,7 +19,7 @@ begins_closing [] (c ∷ cs) = is_tag_end c
 begins_closing (x ∷ xs) [] = false
 begins_closing (x ∷ xs) (c ∷ cs) = (to_ascii_lowercase c == x) && begins_closing xs cs
 
--- it does so somewhere
+-- the text does so at some position
 abbrev pub has_closing : (closing text : List ℕ) → Bool
 has_closing closing [] = false
 has_closing closing (c ∷ cs) = begins_closing closing (c ∷ cs) || has_closing closing cs
@@ -28,12 +28,12 @@ has_closing closing (c ∷ cs) = begins_closing closing (c ∷ cs) || has_closin
 abbrev pub holds_closing : (name text : List ℕ) → Bool
 holds_closing name = has_closing (closing name)
 
--- what has been read ends in a closing tag without its last character
+-- the text ends in a closing tag of that name without its last character
 abbrev pub ends_closing : List ℕ → List ℕ → Bool
 ends_closing name text = bytes_eq (map to_ascii_lowercase
     (drop (length text - length (closing name)) text)) (closing name)
 
--- the closing tag that it ends in is exact
+-- the closing tag that the text ends in is exact
 abbrev pub ends_exact : List ℕ → List ℕ → Bool
 ends_exact name text = bytes_eq (drop (length text - length (closing name)) text)
     (codes "</" ++ name)

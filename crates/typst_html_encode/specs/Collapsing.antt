@@ -1,5 +1,5 @@
--- What is seen of plain trees once white space has collapsed: CSS Text, white space processing, as
--- this project states it. Each blank is judged by its neighbours alone.
+-- What is visible of plain trees once white space has collapsed: CSS Text, white space processing,
+-- as this project states it. Each blank is judged by its neighbours alone.
 use Rattle.std.specs.Prelude.{ℕ, Bool, true, false, ◌||◌, ◌&&◌, List, [], ◌∷◌, ◌++◌, if◌then◌else◌, codes, bytes_eq}
 use Rattle.html_names.specs.Characters.{is_blank, is_ignorable}
 use Rattle.html_names.specs.Displays.{default_display}
@@ -12,7 +12,7 @@ use Rattle.typst_html_encode.specs.Layout.{is_text}
 pub data Atom : Type 0 where
   visible : (c : ℕ) → Atom
   ignorable : (c : ℕ) → Atom
-  -- a blank that may go
+  -- a blank that may collapse
   collapsible : (c : ℕ) → Atom
   -- a blank that is preserved
   kept : (c : ℕ) → Atom
@@ -50,7 +50,7 @@ has_border name attrs = has_border_display name ||
 abbrev pub bordered_atoms : Bool → List Atom → List Atom
 bordered_atoms b inner = if b then border ∷ (inner ++ border ∷ []) else inner
 
--- of a replaced element the content doesn't count
+-- the content of a replaced element does not count
 abbrev pub element_atoms : List ℕ → List TextPair → (inner : List Atom) → List Atom
 element_atoms name attrs inner = if is_line_break name then break ∷ []
     else bordered_atoms (has_border name attrs)
@@ -63,15 +63,15 @@ plains_atoms preserved (plain (branch name attrs kids) ps) =
     element_atoms name attrs (plains_atoms (preserved || preserves name attrs) kids)
     ++ plains_atoms preserved ps
 
--- what is seen
+-- a visible piece
 pub data Piece : Type 0 where
   char : (c : ℕ) → Piece
   thing : (name : List ℕ) → Piece
   line : Piece
   edge : Piece
 
--- whether the nearest atom after, ignorable and collapsible ones aside, is visible, an object or
--- kept; the end is none
+-- there is an atom that is neither ignorable nor collapsible, and the first such atom is visible,
+-- an object or kept
 abbrev pub is_supported_by : List Atom → Bool
 is_supported_by [] = false
 is_supported_by (visible c ∷ as') = true
@@ -82,8 +82,8 @@ is_supported_by (object name ∷ as') = true
 is_supported_by (break ∷ as') = false
 is_supported_by (border ∷ as') = false
 
--- whether the nearest atom before, ignorable ones aside, is one of these: what was known, and one
--- atom more
+-- the last atom that is not ignorable is visible, an object or kept, if `before` says so of the
+-- atoms before this one
 abbrev pub then_supports : (before : Bool) → Atom → Bool
 then_supports before (visible c) = true
 then_supports before (ignorable c) = before
@@ -93,7 +93,7 @@ then_supports before (object name) = true
 then_supports before break = false
 then_supports before border = false
 
--- a collapsible blank is seen as a space between two that support it
+-- a collapsible blank is visible as a space if the atoms before and after it support it
 abbrev pub atom_pieces : (before after : Bool) → Atom → List Piece
 atom_pieces before after (visible c) = char c ∷ []
 atom_pieces before after (ignorable c) = char c ∷ []

@@ -8,7 +8,7 @@ abbrev pub content_kind : (name : List ℕ) → ContentKind
 content_kind name = if is_raw name then Raw else
     (if is_escapable_raw name then EscapableRaw else Nodes)
 
--- one of three by the kind
+-- one of three values, by the kind
 abbrev pub by_kind : {A : Type 0} → ContentKind → (raw escapable nodes : A) → A
 by_kind Raw raw escapable nodes = raw
 by_kind EscapableRaw raw escapable nodes = escapable

@@ -17,7 +17,7 @@ abbrev pub of_flow : FlowFault → ExportFault
 of_flow flow.OutOfMemory = OutOfMemory
 of_flow (flow.TooDeep span) = TooDeep span
 
--- a refused frame has no span here
+-- a refused frame gets the span 0
 abbrev pub of_frame : FrameFault → ExportFault
 of_frame frame.OutOfMemory = OutOfMemory
 of_frame frame.Refused = FrameRefused (record { 0 = 0 })

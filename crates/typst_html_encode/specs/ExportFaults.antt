@@ -1,6 +1,6 @@
--- The faults: the number and the span of each, and all those of a tree, in the order in which it is
--- refused. Pretty writing matters to frames alone: their writer is told whether it is on where the
--- frame stands.
+-- The number and the span of each fault, and all faults of a tree, in the order in which writing
+-- finds them. Pretty writing matters to frames alone: their writer receives whether it is on at the
+-- frame.
 use Rattle.std.specs.Prelude.{◌≡◌, ℕ, Bool, true, false, not, ◌||◌, ◌&&◌, ◌==◌, List, [], ◌∷◌, ◌++◌, if◌then◌else◌, Option, Some, None}
 use Rattle.html_names.specs.Characters.{is_text_char}
 use Rattle.html_names.specs.NameFaults as names
@@ -38,8 +38,8 @@ abbrev pub first_span : List Span → ℕ
 first_span [] = 0
 first_span (span ∷ spans) = span.0
 
--- where it lies, at the first of several footnotes or arguments; 0 where memory ran out, and for a
--- name or a cast
+-- the span of the fault: that of the first of several footnotes or arguments; 0 for out of memory,
+-- a name or a cast
 abbrev pub span_of : ExportFault → ℕ
 span_of fault.OutOfMemory = 0
 span_of (fault.TooDeep span) = span.0
@@ -59,8 +59,8 @@ abbrev pub is_reference : Escaping → Bool
 is_reference escaping.Reference = true
 is_reference _ = false
 
--- no text character, and of references alone no carriage return, which a reader may turn into a
--- line feed
+-- the character cannot be written: it is no text character, or it is a carriage return in a text of
+-- references alone, which a reader may turn into a line feed
 abbrev pub is_bad : Escaping → ℕ → Bool
 is_bad e c = not (is_text_char c) || (is_reference e && (c == 13))
 
@@ -71,17 +71,17 @@ abbrev pub text_faults : Escaping → (span : ℕ) → List ℕ → List ExportF
 text_faults e span [] = []
 text_faults e span (c ∷ cs) = char_faults e span c ++ text_faults e span cs
 
--- of the values in order
+-- the faults of the values, in order
 abbrev pub attrs_faults : (span : ℕ) → List TextPair → List ExportFault
 attrs_faults span [] = []
 attrs_faults span (p ∷ ps) = text_faults escaping.Value span p.1 ++ attrs_faults span ps
 
--- a void or a self-closing element has no child, not even a tag
+-- a void or self-closing element must not have a child, not even a tag
 abbrev pub void_faults : (span : ℕ) → NodesView → List ExportFault
 void_faults span none = []
 void_faults span (node n ns) = fault.VoidChildren (record { 0 = span }) ∷ []
 
--- children of a raw or an escapable raw element: texts and tags alone
+-- a child of a raw or escapable raw element must be a text or a tag
 abbrev pub node_raw_faults : Escaping → NodeView → List ExportFault
 node_raw_faults e (tag_node t) = []
 node_raw_faults e (text_node s span) = text_faults e span s
@@ -96,11 +96,12 @@ abbrev pub closing_faults : Head → NodesView → List ExportFault
 closing_faults h ns = if holds_closing h.name (nodes_raw_text ns)
     then fault.RawClosing (record { 0 = h.span }) ∷ [] else []
 
--- no closing tag of the element stands in its text
+-- the faults of the content of a raw element; the last is that its text holds a closing tag of the
+-- element
 abbrev pub raw_content_faults : Head → NodesView → List ExportFault
 raw_content_faults h ns = nodes_raw_faults escaping.Raw ns ++ closing_faults h ns
 
--- a frame that its writer refuses
+-- the fault of a frame that its writer refuses
 abbrev pub frame_faults : (span : ℕ) → Option (List ℕ) → List ExportFault
 frame_faults span (Some text) = []
 frame_faults span None = fault.FrameRefused (record { 0 = span }) ∷ []
@@ -125,7 +126,7 @@ unfoldable mutual
 abbrev pub element_faults : Frames → (pretty : Bool) → ElementView → List ExportFault
 element_faults frames pretty e = node_faults frames false pretty (element_node e.0 e.1)
 
--- those of a document with this root
+-- the faults of a document with this root
 abbrev pub document_faults : Frames → HtmlOptions → ElementView → List ExportFault
 document_faults frames options e = element_faults frames options.pretty e
 
@@ -133,7 +134,7 @@ document_faults frames options e = element_faults frames options.pretty e
 abbrev pub BeginsWith : ExportFault → List ExportFault → Type 0
 BeginsWith f fs = (rest : List ExportFault) × (fs ≡ f ∷ rest)
 
--- the fault that is answered is the first of the list, unless memory ran out
+-- the reported fault is the first of the list, unless memory ran out
 abbrev pub IsFirst : ExportFault → List ExportFault → Type 0
 IsFirst fault.OutOfMemory fs = Unit {0}
 IsFirst f fs = BeginsWith f fs

@@ -49,7 +49,7 @@ pub export_fault_discrete : Discrete ExportFaultView
 export_fault_discrete = ExportFaultView-discrete ℕ_discrete text_discrete name_fault_discrete
     cast_fault_discrete construct_fault_discrete
 
--- the fault that is answered is the first of the list, unless memory ran out
+-- the reported fault is the first of the list, unless memory ran out
 abbrev pub IsFirstView : ExportFault → List ExportFaultView → Type 0
 IsFirstView fault.OutOfMemory fs = Unit {0}
 IsFirstView f fs = (rest : List ExportFaultView) × (fs ≡ export_fault_view f ∷ rest)

@@ -1,5 +1,5 @@
--- The text of nodes by themselves, with no document type before them: a piece of a page that another
--- program makes (HTML Standard 13.1.2, what stands between the tags of an element).
+-- The text of nodes without a document type: a piece of a page that another program makes (HTML
+-- Standard 13.1.2, the content between the tags of an element).
 use Rattle.std.specs.Prelude.{◌≡◌, ℕ, List, [], ◌++◌, codes, Some, None, false, true}
 use Rattle.html_dom_tree.specs.PlainTree.{element_normal}
 use Rattle.html_dom_tree.specs.Tree.{Head, NodesView}
@@ -9,7 +9,7 @@ use Rattle.typst_html_encode.specs.Reader.{read}
 use Rattle.typst_html_encode.specs.Text.{nodes_text, plain_options, root_margin}
 use Rattle.typst_html_encode.specs.declared.fault.ExportFault.{ExportFault}
 
--- what an element that isn't pretty has between its tags
+-- the text between the tags of an element that is written plain
 abbrev pub fragment_text : Frames → NodesView → List ℕ
 fragment_text frames ns = nodes_text frames false true (root_margin plain_options) ns
 
@@ -24,6 +24,6 @@ div_head =
 abbrev pub text_in_div : List ℕ → List ℕ
 text_in_div text = codes "<!DOCTYPE html><div>" ++ (text ++ codes "</div>")
 
--- there the text reads as these nodes
+-- inside that `div`, the text reads as these nodes
 abbrev pub ReadsInDiv : List ℕ → NodesView → Type 0
 ReadsInDiv text ns = read (text_in_div text) ≡ Some (element_normal (div_head, ns))

@@ -1,4 +1,4 @@
--- What a writer of frames answers.
+-- The results of a writer of frames.
 use Rattle.std.specs.Prelude.{◌≡◌, ℕ, List, Bool, Option, Some, None, Result, Ok, Err, String}
 use Rattle.std.specs.declared.alloc.Global.{Global}
 use Rattle.html_names.specs.Texts.{text_view}
@@ -6,7 +6,7 @@ use Rattle.html_dom_tree.specs.Frames.{FrameView, frame, HtmlFrameView}
 use Rattle.typst_html_encode.specs.declared.frame.FrameFault.{FrameFault}
 use Rattle.typst_html_encode.specs.declared.frame.FrameFault.TheVariants.{OutOfMemory, Refused}
 
--- the text of a frame where pretty writing is on or off, and nothing where it is refused
+-- the text of a frame with pretty writing on or off, or nothing if the frame is refused
 abbrev pub Frames : Type 0
 Frames = HtmlFrameView → (pretty : Bool) → Option (List ℕ)
 
@@ -22,7 +22,7 @@ picture_of (frame picture items) = picture
 abbrev pub no_frames : Frames
 no_frames b pretty = None
 
--- an answer is that text, or that refusal; out of memory may come before either
+-- the result is that text, or a refusal if there is none; memory may run out before either
 abbrev pub Draws : Option (List ℕ) → Result (String Global) FrameFault → Type 0
 Draws (Some text) (Ok s) = text_view s ≡ text
 Draws (Some text) (Err OutOfMemory) = Unit {0}

@@ -1,4 +1,4 @@
--- What is known of the answer of a call that writes a tree.
+-- The contract of a call that writes a tree.
 use Rattle.std.specs.Prelude.{◌≡◌, true, false, Some, Result, IfOk, String}
 use Rattle.std.specs.declared.alloc.Global.{Global}
 use Rattle.html_dom_tree.specs.FrameFree.{ElementIsFrameFree}
@@ -14,7 +14,8 @@ use Rattle.typst_html_encode.specs.Text.{document_text}
 use Rattle.typst_html_encode.specs.declared.fault.ExportFault.{ExportFault}
 use Rattle.typst_html_encode.specs.declared.options.HtmlOptions.{HtmlOptions}
 
--- the text of a tree, or its first fault; a text of a tree without frames reads back
+-- the result is the text of a tree, or its first fault; the text of a tree without frames reads
+-- back
 pub record IsHtmlOf
     (frames : Frames) (options : HtmlOptions) (root : ElementView)
     (result : Result (String Global) ExportFault) : Type 0 where

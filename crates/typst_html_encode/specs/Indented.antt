@@ -1,5 +1,5 @@
--- The tree that pretty text reads back as: the tree with a text wherever an indent stands, and with
--- one text for a raw text that is written on lines of its own.
+-- The tree that pretty text reads back as: the tree with a text at each indent, and with one text
+-- for a raw text that is written on lines of its own.
 use Rattle.std.specs.Prelude.{◌≡◌, ℕ, Bool, true, false, ◌&&◌, ◌++◌, if◌then◌else◌, codes}
 use Rattle.html_names.specs.Kinds.{is_raw}
 use Rattle.html_dom_tree.specs.Tree.{Head, NodeView, tag_node, text_node, element_node, frame_node, NodesView, none, node, ElementView}
@@ -42,12 +42,13 @@ content_layout margin h ns = if ends_at_once h then ns else by_kind (content_kin
 abbrev pub element_layout : ElementView → ElementView
 element_layout e = (e.0, content_layout (root_margin pretty_options) e.0 e.1)
 
--- a raw text on lines of its own doesn't end in a closing tag that lacks its last character
+-- a raw text on lines of its own holds no closing tag even if a line feed follows it: it does not
+-- end in a closing tag that lacks its last character
 abbrev pub RawEndsWell : (pretty : Bool) → Head → NodesView → Type 0
 RawEndsWell pretty h ns = (pretty && is_by_lines h) ≡ true →
     holds_closing h.name (nodes_raw_text ns ++ codes "\n") ≡ false
 
--- none does, at any depth
+-- each raw text at any depth ends so
 unfoldable mutual
   pub NodeEndsWell : (pretty : Bool) → NodeView → Type 0
   NodeEndsWell pretty (tag_node t) = Unit {0}

@@ -1,4 +1,4 @@
--- Indents are not seen: each touches a border.
+-- Indents are not visible: each touches a border.
 use Rattle.std.specs.Prelude.{◌≡◌, ℕ, true, false, if◌then◌else◌, bytes_eq, codes, Option, Some, None}
 use Rattle.html_names.specs.Kinds.{is_raw}
 use Rattle.html_dom_tree.specs.PlainTree.{words, branch, Plains, no_plains, plain, nodes_normal}
@@ -7,7 +7,8 @@ use Rattle.typst_html_encode.specs.Collapsing.{preserves, has_border_display, pl
 use Rattle.typst_html_encode.specs.Indented.{content_layout, element_layout}
 use Rattle.typst_html_encode.specs.Layout.{allows_pretty_inside, wants_pretty_around}
 
--- what has indents around or inside is a border, and inside no blank is preserved
+-- the element is not raw, it has a border if it has indents around or inside it, and it preserves
+-- no blank if it has indents inside
 abbrev pub HeadIsEdged : Head → Type 0
 HeadIsEdged h =
     (is_raw h.name ≡ false)
@@ -15,7 +16,7 @@ HeadIsEdged h =
     × (allows_pretty_inside h.name ≡ true → (has_border_display h.name ≡ true)
     × (preserves h.name h.attrs ≡ false))
 
--- each element is, at any depth, and there is no frame
+-- each element at any depth is so, and there is no frame
 abbrev pub NodesAreEdged : NodesView → Type 0
 NodesAreEdged none = Unit {0}
 NodesAreEdged (node (tag_node t) ns) = NodesAreEdged ns
@@ -39,7 +40,7 @@ body_in (plain (words t) ps) = body_in ps
 body_in (plain (branch name attrs kids) ps) = if bytes_eq name (codes "body") then Some kids
     else body_in ps
 
--- the content of an element that is no raw one, on any level
+-- in the content of an element that is not raw, on any level, indents collapse
 abbrev pub ContentCollapses : Type 0
 ContentCollapses = (level : ℕ) (h : Head) (ns : NodesView) → is_raw h.name ≡ false →
     NodesAreEdged ns →
@@ -47,8 +48,8 @@ ContentCollapses = (level : ℕ) (h : Head) (ns : NodesView) → is_raw h.name �
     (content_layout (record { pretty = true; level = level }) h ns)))
     ≡ collapsed_pieces (plains_atoms false (nodes_normal ns))
 
--- the body of a root that is no raw element: what is read of the pretty text has one that collapses
--- to the same
+-- in the body of a root that is not raw, indents collapse: the laid-out tree has a body that
+-- collapses to the same pieces
 abbrev pub BodyCollapses : Type 0
 BodyCollapses = (e : ElementView) (below : NodesView) → is_raw e.0.name ≡ false →
     body_children e.1 ≡ Some below → NodesAreEdged below →

@@ -20,7 +20,7 @@ open_element_view o = record {
 abbrev pub open_elements_view : OpenElements → List OpenElementView
 open_elements_view open_elements = reverse (map open_element_view open_elements.items.items)
 
--- the node, if it is an element that the walk enters
+-- the result is the node, if it is an element that the walk enters
 abbrev pub Enters : NodeView → Option Element → Type 0
 Enters n None = node_is_entered n ≡ false
 Enters n (Some e) = (n ≡ element_node (head_view e) (siblings_view e.children))

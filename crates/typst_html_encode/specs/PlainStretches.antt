@@ -15,19 +15,19 @@ is_common c = (nat_le 61 c && nat_le c 126) || (nat_le 39 c && nat_le c 59)
 abbrev pub is_plain : Escaping → ℕ → Bool
 is_plain e c = stands_as_is e c && not (is_bad e c)
 
--- the first byte is such a character
+-- the first byte is a common character
 abbrev pub begins_common : List ℕ → Bool
 begins_common [] = false
 begins_common (c ∷ cs) = is_common c
 
--- the text is common characters, as many as stand at its beginning, and then the rest
+-- the rest is the text without all the common characters at its beginning
 pub record PassesCommon (text rest : List ℕ) : Type 0 where
   pub front : List ℕ
   pub split : text ≡ front ++ rest
   pub common : all is_common front ≡ true
   pub stops : begins_common rest ≡ false
 
--- the text is characters that are written as they are, and then the rest
+-- the rest is the text without some characters at its beginning, each of which is written as it is
 pub record PassesPlain (e : Escaping) (text rest : List ℕ) : Type 0 where
   pub front : List ℕ
   pub split : text ≡ front ++ rest
@@ -35,9 +35,9 @@ pub record PassesPlain (e : Escaping) (text rest : List ℕ) : Type 0 where
   pub rest_utf8 : IsUtf8 rest
   pub plain : all (is_plain e) (chars front) ≡ true
 
--- of the text, what stands before the rest is written
+-- the text before the rest is written
 pub record WritesUpTo (e : Escaping) (old new text rest : List ℕ) : Type 0 where
-  pub told : new ++ escaped_text e (chars rest) ≡ old ++ escaped_text e (chars text)
+  pub agrees : new ++ escaped_text e (chars rest) ≡ old ++ escaped_text e (chars text)
   pub clean : (span : ℕ) → text_faults e span (chars rest) ≡ text_faults e span (chars text)
   pub rest_utf8 : IsUtf8 rest
   pub left : length rest ≤ length text

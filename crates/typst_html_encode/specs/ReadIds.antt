@@ -1,4 +1,4 @@
--- Texts that the elements of a tree have, as the tree is read from text; among them its ids.
+-- The texts that the elements of a tree have once the tree is read from text, such as its ids.
 use Rattle.std.specs.Prelude.{◌≡◌, ℕ, List, [], ◌++◌, codes, Option, Some, None, option_to_list}
 use Rattle.html_dom_tree.specs.Attributes.{first}
 use Rattle.html_dom_tree.specs.PlainTree.{Plain, words, branch, Plains, no_plains, plain, nodes_normal}
@@ -8,11 +8,11 @@ use Rattle.typst_html_encode.specs.FrameWriters.{Frames}
 use Rattle.typst_html_encode.specs.Indented.{element_layout}
 use Rattle.typst_html_encode.specs.declared.options.HtmlOptions.{HtmlOptions}
 
--- what an element has by its name and its attributes
+-- the texts of an element, by its name and its attributes
 abbrev pub ElementTexts : Type 0
 ElementTexts = (name : List ℕ) → List TextPair → List (List ℕ)
 
--- of all elements
+-- the texts of all elements
 unfoldable pub plains_texts : ElementTexts → Plains → List (List ℕ)
 plains_texts own no_plains = []
 plains_texts own (plain (words text) ps) = plains_texts own ps
@@ -23,7 +23,7 @@ plains_texts own (plain (branch name attrs children) ps) =
 abbrev pub ids_of : ElementTexts
 ids_of name attrs = option_to_list (first attrs (codes "id"))
 
--- of the elements below the root of what is read, if something is
+-- the ids of the elements below the root that is read, if one is
 abbrev pub read_ids : Option Plain → List (List ℕ)
 read_ids None = []
 read_ids (Some (words text)) = []

@@ -30,7 +30,7 @@ pub data ReaderState : Type 0 where
   Outside : (root : Option Plain) → ReaderState
   -- within an element: the text since its last child
   Content : (text : List ℕ) (stack : List Open) → ReaderState
-  -- right after a start tag at which a line feed is dropped
+  -- right after a start tag behind which a line feed is dropped
   Fresh : (stack : List Open) → ReaderState
   -- after `&`: the text before it, and what stands since
   Reference : (text since : List ℕ) (stack : List Open) → ReaderState
@@ -54,28 +54,28 @@ pub data ReaderState : Type 0 where
   EndName : (name : List ℕ) (stack : List Open) → ReaderState
   Stop : ReaderState
 
--- children with a text at the end, where there is one
+-- children with a text at the end, unless the text is empty
 abbrev pub with_text : List ℕ → Plains → Plains
 with_text [] ps = ps
 with_text (c ∷ cs) ps = ps then plain (words (c ∷ cs)) no_plains
 
--- the text is a child of the innermost element
+-- the innermost element has the text as its last child, unless the text is empty
 abbrev pub add_text : List ℕ → List Open → List Open
 add_text text [] = []
 add_text text (o ∷ os) = record o { children = with_text text o.children } ∷ os
 
--- an element is complete
+-- the state once an element is complete
 abbrev pub complete : List ℕ → List TextPair → Plains → List Open → ReaderState
 complete name attrs kids [] = Outside (Some (branch name attrs kids))
 complete name attrs kids (o ∷ os) = Content []
     (record o { children = o.children then plain (branch name attrs kids) no_plains } ∷ os)
 
--- the innermost element holds no elements
+-- the innermost element may hold only text
 abbrev pub holds_text_alone : List Open → Bool
 holds_text_alone [] = false
 holds_text_alone (o ∷ os) = is_escapable_raw o.name
 
--- a start tag without `/` is read
+-- the state once a start tag without `/` is read
 abbrev pub after_start_tag : List ℕ → List TextPair → List Open → ReaderState
 after_start_tag name attrs stack = if is_void name then complete name attrs no_plains stack
     else (if is_raw name then Raw name attrs [] stack
@@ -83,7 +83,7 @@ after_start_tag name attrs stack = if is_void name then complete name attrs no_p
     ∷ stack)
     else Content [] (record { name = name; attrs = attrs; children = no_plains } ∷ stack)))
 
--- what follows the name or an attribute in a start tag
+-- the state after the character that follows the name or an attribute in a start tag
 abbrev pub after : List ℕ → List TextPair → List Open → ℕ → ReaderState
 after name attrs stack c = if c == 32 then Space name attrs stack
     else (if is_foreign_self_closing name then (if c == 47 then Slash name attrs stack else Stop)
@@ -97,7 +97,7 @@ abbrev pub or_stop : Option ℕ → (ℕ → ReaderState) → ReaderState
 or_stop None f = Stop
 or_stop (Some c) f = f c
 
--- a character of a text
+-- the state after a character of a text
 abbrev pub in_content : List ℕ → List Open → ℕ → ReaderState
 in_content text stack c = if c == 60 then Less (add_text text stack)
     else (if c == 38 then Reference text [] stack else Content (text ++ c ∷ []) stack)
@@ -147,7 +147,7 @@ abbrev pub run : ReaderState → List ℕ → ReaderState
 run s [] = s
 run s (c ∷ cs) = run (step s c) cs
 
--- the root, once all is read
+-- the root, once the whole text is read
 abbrev pub final_root : ReaderState → Option Plain
 final_root (Outside root) = root
 final_root _ = None

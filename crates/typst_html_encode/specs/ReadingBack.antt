@@ -11,7 +11,7 @@ use Rattle.typst_html_encode.specs.Indented.{element_layout, ElementEndsWell}
 use Rattle.typst_html_encode.specs.Reader.{read}
 use Rattle.typst_html_encode.specs.Text.{plain_options, pretty_options, document_text}
 
--- names as the program's types keep them
+-- the name is valid, as the program's types ensure
 abbrev pub PairIsNamed : TextPair → Type 0
 PairIsNamed p = IsOf is_attr_char p.0
 
@@ -43,7 +43,8 @@ PlainReadsBack frames =
     document_faults frames plain_options e ≡ [] →
     read (document_text frames plain_options e) ≡ Some (element_normal e)
 
--- its pretty text reads as that of the indented tree
+-- the pretty text of such a tree, whose raw texts end well, reads as the normal form of the
+-- indented tree
 abbrev pub PrettyReadsBack : Frames → Type 0
 PrettyReadsBack frames =
     (e : ElementView) → ElementIsNamed e → ElementIsFrameFree e → ElementEndsWell true e →

@@ -26,7 +26,7 @@ reference_by_number [] = None
 reference_by_number (x ∷ []) = None
 reference_by_number (x ∷ y ∷ ds) = if x == 35 && y == 120 then numbered_char ds else None
 
--- what stands between `&` and `;`, as a character
+-- the character that a reference stands for, by the text between `&` and `;`
 abbrev pub reference : List ℕ → Option ℕ
 reference ds = if bytes_eq ds (codes "amp") then Some 38
     else (if bytes_eq ds (codes "lt") then Some 60

@@ -13,7 +13,7 @@ use Rattle.typst_html_encode.specs.declared.escape.Escaping.TheVariants as escap
 use Rattle.typst_html_encode.specs.declared.layout.Margin.{Margin}
 use Rattle.typst_html_encode.specs.declared.options.HtmlOptions.{HtmlOptions}
 
--- the character stands as it is; the others are written as references
+-- the character is written as it is; others are written as references
 abbrev pub stands_as_is : Escaping → ℕ → Bool
 stands_as_is escaping.Text c = is_element_text_char c
 stands_as_is escaping.Reference c = false
@@ -27,12 +27,12 @@ abbrev pub escaped_text : Escaping → List ℕ → List ℕ
 escaped_text e [] = []
 escaped_text e (c ∷ cs) = char_text e c ++ escaped_text e cs
 
--- texts directly under an element with the flag `pre_span` are of references alone
+-- texts directly under an element with the flag `pre_span` are written as references alone
 abbrev pub escaping_of : (pre_span : Bool) → Escaping
 escaping_of true = escaping.Reference
 escaping_of false = escaping.Text
 
--- nothing where the value is empty
+-- the text of a value: nothing if the value is empty
 abbrev pub value_text : List ℕ → List ℕ
 value_text [] = []
 value_text (c ∷ cs) = codes "=\"" ++ (escaped_text escaping.Value (c ∷ cs) ++ codes "\"")
@@ -50,7 +50,7 @@ start_tag_text h = codes "<" ++ (h.name ++ (attrs_text h.attrs ++ tag_close h.na
 abbrev pub end_tag_text : (name : List ℕ) → List ℕ
 end_tag_text name = codes "</" ++ (name ++ codes ">")
 
--- an element that is its start tag alone
+-- the element is its start tag alone
 abbrev pub ends_at_once : Head → Bool
 ends_at_once h = is_foreign_self_closing h.name || is_void h.name
 
@@ -63,7 +63,7 @@ begins_with_feed (node (text_node (c ∷ cs) span) ns) = (c == 10) || (c == 13)
 begins_with_feed (node (element_node h kids) ns) = false
 begins_with_feed (node (frame_node b) ns) = false
 
--- a line feed before a text that begins with one, where a reader would drop the text's own
+-- a line feed, if a reader would drop the one that the text begins with
 abbrev pub feed_text : Head → NodesView → List ℕ
 feed_text h ns = if drops_feed h.name && begins_with_feed ns then codes "\n" else []
 
@@ -79,7 +79,7 @@ nodes_raw_text none = []
 nodes_raw_text (node n ns) = node_raw_text n ++ nodes_raw_text ns
 
 unfoldable mutual
-  -- a node at its margin
+  -- the text of a node at its margin
   pub node_text : Frames → (pre_span : Bool) → Margin → NodeView → List ℕ
   node_text frames pre_span margin (tag_node t) = []
   node_text frames pre_span margin (text_node s span) = escaped_text (escaping_of pre_span) s
@@ -92,7 +92,7 @@ unfoldable mutual
       ++ end_tag_text h.name)))
   node_text frames pre_span margin (frame_node b) = frame_text margin (frames b margin.pretty)
 
-  -- the children of an element at that margin, and what stands before its end tag
+  -- the text of the children of an element at that margin, and of the indent before its end tag
   pub nodes_text : Frames → (pre_span due : Bool) → Margin → NodesView → List ℕ
   nodes_text frames pre_span due margin none = indent_where margin.pretty margin.level
   nodes_text frames pre_span due margin (node n ns) =

@@ -1,4 +1,4 @@
--- Writing a tree node by node: what is written for one node, and how.
+-- Writing a tree node by node: the text of each step, and its faults.
 use Rattle.std.specs.Prelude.{ℕ, Bool, true, false, not, ◌&&◌, List, [], ◌∷◌, ◌++◌, if◌then◌else◌}
 use Rattle.html_dom_tree.specs.Tree.{Head, NodeView, tag_node, text_node, element_node, frame_node, NodesView, none, node, ElementView}
 use Rattle.typst_html_encode.specs.Content.{content_kind, by_kind}
@@ -11,12 +11,12 @@ use Rattle.typst_html_encode.specs.declared.escape.Escaping.TheVariants as escap
 use Rattle.typst_html_encode.specs.declared.fault.ExportFault.{ExportFault}
 use Rattle.typst_html_encode.specs.declared.layout.Margin.{Margin}
 
--- the walk enters elements of that head: their children are written one by one
+-- the walk enters an element with that head: its children are written one by one
 abbrev pub is_element_entered : Head → Bool
 is_element_entered h = not (ends_at_once h) && by_kind (content_kind h.name) false false true
 
--- what is written when the walk comes to an element: of one that it enters, what stands before the
--- children, and else the whole element
+-- the text that the walk writes when it reaches an element: the text before the children if it
+-- enters the element, and otherwise the whole element
 abbrev pub element_first_text : Margin → ElementView → List ℕ
 element_first_text margin e =
     start_tag_text e.0 ++ (if ends_at_once e.0 then [] else (feed_text e.0 e.1
@@ -25,7 +25,7 @@ element_first_text margin e =
     (escaped_text escaping.Text (nodes_raw_text e.1) ++ end_tag_text e.0.name)
     []))
 
--- the faults of what is written then
+-- the faults of that text
 abbrev pub element_first_faults : ElementView → List ExportFault
 element_first_faults e =
     attrs_faults e.0.span e.0.attrs ++ (if ends_at_once e.0 then void_faults e.0.span e.1
@@ -34,7 +34,8 @@ element_first_faults e =
     (nodes_raw_faults escaping.Text e.1)
     [])
 
--- the same of a node: any other than an element is written whole
+-- the text that the walk writes when it reaches a node: a node that is not an element is written
+-- whole
 abbrev pub first_text : Frames → (pre_span : Bool) → Margin → NodeView → List ℕ
 first_text frames pre_span margin (tag_node t) = []
 first_text frames pre_span margin (text_node s span) = escaped_text (escaping_of pre_span) s
@@ -47,7 +48,7 @@ first_faults frames pre_span pretty (text_node s span) = text_faults (escaping_o
 first_faults frames pre_span pretty (element_node h ns) = element_first_faults (h, ns)
 first_faults frames pre_span pretty (frame_node f) = frame_faults f.span (frames f pretty)
 
--- the names that are written then
+-- the names in that text are valid
 abbrev pub FirstIsNamed : NodeView → Type 0
 FirstIsNamed (tag_node t) = Unit {0}
 FirstIsNamed (text_node s span) = Unit {0}
@@ -79,7 +80,7 @@ open_element h margin due_after after = record {
   after = after;
 }
 
--- nodes that are inside no element, one after another
+-- the text of nodes that are inside no element, one after another
 abbrev pub outside_text : Frames → Margin → NodesView → List ℕ
 outside_text frames margin none = []
 outside_text frames margin (node n ns) =

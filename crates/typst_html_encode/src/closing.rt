@@ -12,7 +12,8 @@ pub fn is_tag_end(c: char) -> bool
     matches!(c, '\t' | '\n' | '\u{c}' | '\r' | ' ' | '>' | '/')
 }
 
-/// Whether the text begins with the name, in any ASCII case, and then a character that ends it.
+/// Returns whether the text begins with the name, in any ASCII case, followed by a character that
+/// ends the name of a tag.
 fn begins_with_name(name: &str, text: &str) -> bool
     ensures { result ≡ ending.begins_closing (map to_ascii_lowercase (chars name.now)) (chars text.now) }
 {
@@ -31,7 +32,7 @@ fn begins_with_name(name: &str, text: &str) -> bool
     }
 }
 
-/// Whether a `<` and the text after it begin with the closing tag of an element of that name.
+/// Returns whether `<` followed by the text begins with the closing tag of an element of that name.
 fn closes(name: &str, text: &str) -> bool
     ensures { result ≡ ending.begins_closing (ending.closing (chars name.now)) (60 ∷ chars text.now) }
 {

@@ -1,9 +1,9 @@
-//! Stretches of the characters that most texts are made of.
+//! Stretches of the characters that most texts consist of.
 
 ghost use Rattle.std.specs.Prelude.{◌≡◌, ◌+◌, ◌≤◌, ◌&&◌, get_or, length};
 ghost use Rattle.typst_html_encode.specs.PlainStretches.{is_common, PassesCommon};
 
-/// 1 at each byte that is a common character.
+/// A table with 1 at each byte that is a common character, and 0 at the others.
 static COMMON: [u8; 256] = [
     0, 0, 0, 0, 0, 0, 0, 0, 0, 0, 0, 0, 0, 0, 0, 0, 0, 0, 0, 0, 0, 0, 0, 0, 0, 0, 0, 0, 0, 0, 0, 0,
     1, 1, 0, 1, 1, 1, 0, 1, 1, 1, 1, 1, 1, 1, 1, 1, 1, 1, 1, 1, 1, 1, 1, 1, 1, 1, 1, 1, 0, 1, 1, 1,
@@ -15,7 +15,8 @@ static COMMON: [u8; 256] = [
     0, 0, 0, 0, 0, 0, 0, 0, 0, 0, 0, 0, 0, 0, 0, 0, 0, 0, 0, 0, 0, 0, 0, 0, 0, 0, 0, 0, 0, 0, 0, 0,
 ];
 
-/// Whether the byte is a common character: visible ASCII or the space, but no `"`, `&` or `<`.
+/// Returns whether the byte is a common character: visible ASCII or the space, but no `"`, `&` or
+/// `<`.
 fn is_common(byte: u8) -> bool
     ensures { result ≡ is_common byte }
 {
@@ -35,11 +36,12 @@ fn are_common(bytes: &[u8], at: usize) -> bool
         && is_common(bytes[at + 3])
 }
 
-/// The text from its first byte on that is no common character: visible ASCII or the space, but no
-/// `"`, `&` or `<`. Whether read or written, such a character stands as it is in a value, and in a
-/// text that is not written as character references alone.
+/// Returns the rest of the text from its first byte on that is not a common character. The common
+/// characters are visible ASCII and the space, without `"`, `&` and `<`. In a value, and in a text
+/// that is not written as character references alone, they stand for themselves, both read and
+/// written.
 ///
-/// Cost: grows with what is passed. Four bytes are tested at a time.
+/// Takes time for each byte that it passes. Tests four bytes at a time.
 pub fn past_common(text: &str) -> &str
     ensures { PassesCommon text.now result.now }
 {

@@ -1,4 +1,4 @@
-/// What may stand between the tags of an element.
+/// The kind of content that an element may have between its tags.
 #[derive(Clone, Copy, PartialEq, Eq)]
 pub(crate) enum ContentKind {
     Raw,

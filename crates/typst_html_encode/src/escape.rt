@@ -1,4 +1,4 @@
-//! How texts are written.
+//! The escaping of texts and values.
 
 ghost use Rattle.std.specs.Prelude.{◌≡◌, ◌<◌, ◌++◌, false, OnOk, IfOk, chars};
 ghost use Rattle.html_names.specs.Characters.{is_text_char};
@@ -17,21 +17,21 @@ use html_names::charsets::{
 use html_names::text_writer::TextWriter;
 use std::alloc::AllocError;
 
-/// How the characters of a text are written.
+/// The ways to write the characters of a text.
 #[derive(Clone, Copy, PartialEq, Eq)]
 pub(crate) enum Escaping {
-    /// An ordinary text: what can't stand in one is a reference.
+    /// An ordinary text: a character that cannot stand in one is written as a reference.
     Text,
-    /// Each character is a reference, and there is no carriage return.
+    /// A text whose characters are all written as references. A carriage return in it is refused.
     Reference,
-    /// The value of an attribute: what can't stand in one is a reference.
+    /// The value of an attribute: a character that cannot stand in one is written as a reference.
     Value,
-    /// Raw text is written as it is.
+    /// Raw text, which is written as it is.
     Raw,
 }
 
-/// For each character of ASCII the sum of 1 if it is written as it is in a text, 2 in a value, and
-/// 4 in raw text.
+/// A table of the ASCII characters: the sum of 1 if the character is written as it is in a text, 2
+/// in a value, and 4 in raw text.
 static PLAIN: [u8; 128] = [
     0, 0, 0, 0, 0, 0, 0, 0, 0, 7, 7, 0, 7, 7, 0, 0, 0, 0, 0, 0, 0, 0, 0, 0, 0, 0, 0, 0, 0, 0, 0, 0,
     7, 7, 5, 7, 7, 7, 4, 7, 7, 7, 7, 7, 7, 7, 7, 7, 7, 7, 7, 7, 7, 7, 7, 7, 7, 7, 7, 7, 6, 7, 7, 7,
@@ -39,7 +39,7 @@ static PLAIN: [u8; 128] = [
     7, 7, 7, 7, 7, 7, 7, 7, 7, 7, 7, 7, 7, 7, 7, 7, 7, 7, 7, 7, 7, 7, 7, 7, 7, 7, 7, 7, 7, 7, 7, 0,
 ];
 
-/// Whether the character of ASCII can be written.
+/// Returns whether the ASCII character can be written.
 fn is_text_byte(byte: u8) -> bool
     requires { byte < 128 }
     ensures { result ≡ is_text_char byte }
@@ -94,7 +94,7 @@ fn stands_as_is(escaping: Escaping, c: char) -> bool
     }
 }
 
-/// Whether the character of ASCII can be written, and is written as it is.
+/// Returns whether the ASCII character can be written, and is written as it is.
 fn is_plain_byte(escaping: Escaping, byte: u8) -> bool
     requires { byte < 128 }
     ensures { result ≡ is_plain escaping byte }
@@ -108,7 +108,7 @@ fn is_plain_byte(escaping: Escaping, byte: u8) -> bool
     }
 }
 
-/// Whether the character can be written, and is written as it is.
+/// Returns whether the character can be written, and is written as it is.
 fn is_plain(escaping: Escaping, c: char) -> bool
     ensures { result ≡ is_plain escaping c }
 {
@@ -139,8 +139,8 @@ fn write_char(
     Ok(())
 }
 
-/// The text from its first character on that can't be written or is not written as it is, where
-/// not each character is a reference. Common characters are passed many at a time.
+/// Returns the rest of the text from its first character on that cannot be written, or is not
+/// written as it is. Passes many common characters at a time.
 fn past_plain(escaping: Escaping, text: &str) -> &str
     requires { is_reference escaping ≡ false }
     ensures { PassesPlain escaping text.now result.now }

@@ -22,20 +22,20 @@ use html_dom_tree::HtmlElement;
 use html_names::text_writer::TextWriter;
 use std::alloc::Global;
 
-/// The HTML text of a tree: the document type and the element, plain or pretty.
+/// Returns the HTML text of a tree: the document type and the root, plain or pretty.
 ///
-/// It succeeds exactly where nothing is wrong with the tree, and answers the first fault otherwise,
-/// in the order of the document; out of memory may come before either. Frames are written by their
-/// writer, which is told whether pretty writing is on where the frame stands.
+/// Fails with the first fault in document order if there is one, and succeeds otherwise. Memory may
+/// run out before either. Passes each frame to its writer, together with whether pretty writing is
+/// on at the frame.
 ///
-/// The css of elements is not written. Where it is wanted, `resolve_inline_styles` comes first, and
-/// puts it into the attribute `style`, as below.
+/// Does not write the css of elements. Call `resolve_inline_styles` first, as below, to put the css
+/// into the attribute `style`.
 ///
-/// The plain text of a tree without frames reads back, by HTML Standard 13.1 without a browser's
-/// repairs, as the tree's normal form: its names, attributes and texts, with tags dropped,
-/// neighbouring texts joined and none empty. So does the pretty text, with texts where indents
-/// stand and with raw texts on lines of their own as they are laid out, unless one of these ends in
-/// a closing tag that lacks its last character.
+/// The plain text of a tree without frames reads back as the tree's normal form (HTML Standard
+/// 13.1, without a browser's repairs). The normal form has the names, attributes and texts of the
+/// tree; tags are dropped, neighbouring texts are joined, and no text is empty. The pretty text
+/// reads back too, with a text at each indent, and with raw texts on lines of their own as they are
+/// laid out, unless one of these ends in a closing tag that lacks its last character.
 ///
 /// # Example
 ///
@@ -67,7 +67,7 @@ pub fn html_in_bundle<F: FrameWriter>(
         (document_text (F.drawing frames.now) options.now (element_view root.now))
         (document_faults (F.drawing frames.now) options.now (element_view root.now)) }
 
-    // What the text of a tree without frames reads as.
+    // The text of a tree without frames reads back.
     ensures reads_back { options.now.pretty ≡ false → ElementIsFrameFree (element_view root.now) →
         IfOk result (λ text.
         read (text_view text) ≡ Some (element_normal (element_view root.now))) }
@@ -80,11 +80,11 @@ pub fn html_in_bundle<F: FrameWriter>(
     tree_html(alloc, &tree, options, frames)
 }
 
-/// The HTML text of a tree, as [`html_in_bundle`] writes it, for whoever owns the tree and does not
-/// need it any more: its texts are moved, where that call copies them.
+/// Consumes a tree and returns its HTML text, as [`html_in_bundle`] writes it. Moves the texts of
+/// the tree, which `html_in_bundle` copies.
 ///
-/// The tree is gone, also where it is refused. Whoever wants to mend a refused tree lends it to
-/// [`html_in_bundle`].
+/// Consumes the tree even if it is refused. Use [`html_in_bundle`], which borrows the tree, to mend
+/// a refused tree.
 pub fn html_of<F: FrameWriter>(
     alloc: Global,
     root: HtmlElement,
@@ -96,7 +96,7 @@ pub fn html_of<F: FrameWriter>(
         (document_text (F.drawing frames.now) options.now (element_view root))
         (document_faults (F.drawing frames.now) options.now (element_view root)) }
 
-    // What the text of a tree without frames reads as.
+    // The text of a tree without frames reads back.
     ensures reads_back { options.now.pretty ≡ false → ElementIsFrameFree (element_view root) →
         IfOk result (λ text.
         read (text_view text) ≡ Some (element_normal (element_view root))) }

@@ -11,22 +11,25 @@ use html_values_css::CastFault;
 use std::alloc::{AllocError, AllocFailed};
 use thiserror::Error;
 
-/// Why items or a tree have no HTML text. Writing a tree answers the kinds from `Unencodable` to
-/// `FrameRefused`, making a document of items those from `TooDeep` to `Footnotes`. The last four kinds
-/// are faults of other calls; no call here answers them, but a function that makes items and writes
-/// them can hand all its faults on by `?`, those of reading too.
+/// The reason why items or a tree have no HTML text.
+///
+/// Writing a tree fails with the variants from `Unencodable` to `FrameRefused`, and making a
+/// document from items with those from `TooDeep` to `Footnotes`. Neither fails with the last four
+/// variants, which are faults of other calls, reading included. With them, a function that makes
+/// items and writes them can return all its faults with `?`.
 #[derive(Debug, Drop, Error)]
 pub enum ExportFault {
     /// An allocation failed.
     #[error("out of memory")]
     OutOfMemory,
-    /// A body of items stands deeper than the limit, or an element of a text that is read.
+    /// A body of items, or an element of a text that is read, is deeper than the limit.
     #[error("items are nested too deeply")]
     TooDeep {
-        /// The span of the item that has the body, or the place of the element in the text.
+        /// The span of the item that has the body, or the number of bytes of the text before the
+        /// element.
         span: Span,
     },
-    /// An `html` or `body` stands among other nodes of a document.
+    /// An `html` or `body` is among other nodes of a document.
     #[error("this element must be the only element in the document")]
     NotAlone {
         /// The element's name.
@@ -40,13 +43,13 @@ pub enum ExportFault {
         /// The spans of the footnotes, in order.
         spans: Vec<Span>,
     },
-    /// A character of a text or a value is none that HTML can hold, or a carriage return in a text
-    /// whose characters are all written as references.
+    /// A text or a value has a character that HTML cannot hold, or a text whose characters are all
+    /// written as references has a carriage return.
     #[error("a character cannot be encoded in HTML")]
     Unencodable {
         /// The character.
         c: char,
-        /// The text's span, or that of the element with the value.
+        /// The span of the text, or of the element that has the value.
         span: Span,
     },
     /// A void element, or a foreign one that is written self-closing, has a child.
@@ -73,19 +76,19 @@ pub enum ExportFault {
         /// The frame's span.
         span: Span,
     },
-    /// A text is no name of a tag or of an attribute.
+    /// A text is not the name of a tag or of an attribute.
     #[error("{0}")]
     Name(NameFault),
     /// A value has no text as an attribute.
     #[error("{0}")]
     Cast(CastFault),
-    /// No element could be constructed of its arguments.
+    /// An element could not be constructed from its arguments.
     #[error("{0}")]
     Construct(ConstructFault),
-    /// A text that is read has another syntax than the pages that are written.
+    /// A text that is read does not have the syntax of written pages.
     #[error("other syntax than that of written pages")]
     Syntax {
-        /// How many bytes of the text stand before the place.
+        /// The number of bytes of the text before the fault.
         span: Span,
     },
 }
@@ -93,8 +96,9 @@ pub enum ExportFault {
 impl ExportFault {
     ghost use Rattle.typst_html_encode.specs.ExportFaults.{number_of, span_of};
 
-    /// The fault's number: 0 for out of memory, from 8 on in the order of the variants up to
-    /// `FrameRefused`, that of the fault below for the next three, and 25 for another syntax.
+    /// Returns the fault's number: 0 for out of memory, from 8 on in the order of the variants up
+    /// to `FrameRefused`, the number of the inner fault for the next three, and 25 for another
+    /// syntax.
     pub fn number(&self) -> u8
         ensures { result ≡ number_of self.now }
     {
@@ -115,8 +119,8 @@ impl ExportFault {
         }
     }
 
-    /// Where the fault lies: at the first of several footnotes or arguments, and 0 for out of memory,
-    /// for a name or a cast, and where there is none.
+    /// Returns the span of the fault: that of the first of several footnotes or arguments, and 0
+    /// for out of memory, for a name or a cast, and if there is none.
     pub fn span(&self) -> Span
         ensures { result.0 ≡ span_of self.now }
     {
@@ -136,7 +140,7 @@ impl ExportFault {
     }
 }
 
-/// The first of these spans, or 0.
+/// Returns the first span, or 0 if there is none.
 fn first_span(spans: &[Span]) -> Span
     ensures { result.0 ≡ first_span spans.now }
 {
@@ -253,7 +257,7 @@ impl From<FlowFault> for ExportFault {
     }
 }
 
-/// A refused frame has the span 0 here: which one it was, the caller of its writer knows.
+/// A refused frame gets the span 0. The caller of the writer knows which frame it was.
 impl From<FrameFault> for ExportFault {
     ghost use Rattle.typst_html_encode.specs.Conversions.{of_frame};
 

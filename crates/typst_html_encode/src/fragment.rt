@@ -13,16 +13,15 @@ use html_dom_tree::HtmlNode;
 use html_names::text_writer::TextWriter;
 use std::alloc::Global;
 
-/// Returns the HTML text of nodes by themselves, without a document type: a piece of a page that
-/// another program makes, such as a template engine.
+/// Returns the HTML text of nodes without a document type: a piece of a page that another program
+/// makes, such as a template engine.
 ///
-/// The text is plain, since indents depend on what stands around it. It exists exactly where nothing
-/// is wrong with the nodes; otherwise the first fault is returned, in document order. Running out of
-/// memory may come before either.
+/// Writes plain text, since indents depend on what is around the nodes. Fails with the first fault
+/// in document order if there is one, and succeeds otherwise. Memory may run out before either.
 ///
-/// Without frames, the text reads as these nodes where it is put into a `div`, with tags dropped and
-/// neighbouring texts joined (HTML Standard 13.1, without a browser's repairs). The css of elements
-/// is written only after `resolve_inline_styles`.
+/// The text of nodes without frames reads as these nodes if it is put into a `div`, with tags
+/// dropped and neighbouring texts joined (HTML Standard 13.1, without a browser's repairs). Css is
+/// written only after `resolve_inline_styles` has put it into the attribute `style`.
 ///
 /// ```
 /// use html_dom::{HtmlElement, HtmlNode, Span};
@@ -46,13 +45,13 @@ pub fn html_fragment<F: FrameWriter>(
         (fragment_text (F.drawing frames.now) (nodes_view nodes.now))
         (fragment_faults (F.drawing frames.now) (nodes_view nodes.now)) }
 
-    // What the text of nodes without frames reads as.
+    // The text of nodes without frames reads back.
     ensures reads_back { NodesAreFrameFree (nodes_view nodes.now) →
         IfOk result (λ text. ReadsInDiv (text_view text) (nodes_view nodes.now)) }
 {
     let tree = FlatTree::from_nodes(alloc, nodes)?;
     let mut out = TextWriter::new(alloc);
-    // (as deep as in an element, which no text that is plain shows)
+    // (the level of the nodes in an element, which plain text does not show)
     let inside = Margin {
         pretty: false,
         level: 1,

@@ -8,7 +8,7 @@ use html_names::Refused;
 use std::alloc::{AllocError, AllocFailed, Global};
 use thiserror::Error;
 
-/// Why a frame has no text.
+/// The reason why a frame has no text.
 #[derive(Debug, Drop, PartialEq, Eq, Error)]
 pub enum FrameFault {
     /// An allocation failed.
@@ -22,7 +22,7 @@ pub enum FrameFault {
 impl FrameFault {
     ghost use Rattle.typst_html_encode.specs.FrameWriters.{frame_fault_number};
 
-    /// The fault's number: 0 for out of memory, and 15 for a refusal, as `ExportFault` has it.
+    /// Returns the fault's number: 0 for out of memory, and 15 for a refusal, as in `ExportFault`.
     pub fn number(&self) -> u8
         ensures { result ≡ frame_fault_number self.now }
     {
@@ -33,12 +33,12 @@ impl FrameFault {
     }
 }
 
-/// What writes frames. `()` refuses each.
+/// A writer of frames. `()` refuses every frame.
 ///
-/// Its law: the answer, a text or a refusal, is decided by the frame and the mode, out of memory
-/// aside. `drawing` says which it is, of the frame as contracts see it.
+/// Its law: the writer, the frame and the mode decide whether `write` returns a text or a refusal,
+/// and which text, unless memory runs out. `drawing` states this for the view of a frame.
 ///
-/// A whole implementation, which writes the same text for each frame:
+/// A complete implementation, which writes the same text for each frame:
 ///
 /// ```
 /// ghost use Rattle.std.specs.Prelude.{Some};
@@ -67,10 +67,11 @@ impl FrameFault {
 /// }
 /// ```
 pub trait FrameWriter {
-    /// The text of a frame where pretty writing is on or off; nothing where it is refused.
+    /// The text of a frame with pretty writing on or off, or nothing if the frame is refused.
     ghost drawing: { Self → HtmlFrameView → Bool → Option (List ℕ) };
 
-    /// The text of a frame. `pretty` says whether pretty writing is on where it stands.
+    /// Returns the text of a frame, or refuses the frame. `pretty` is whether pretty writing is on
+    /// at the frame.
     fn write(&self, alloc: Global, frame: &HtmlFrame, pretty: bool) -> Result<String, FrameFault>
         ensures draws { Draws (drawing self.now (html_frame_view frame.now) pretty) result };
 }

@@ -1,4 +1,4 @@
-//! What is known of an element by its name.
+//! The properties of an element that its name decides.
 
 ghost use Rattle.std.specs.Prelude.{◌≡◌};
 ghost use Rattle.html_names.specs.Displays.{default_display};

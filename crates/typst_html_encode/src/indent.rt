@@ -14,10 +14,10 @@ const LINE: &str = concat!(
     "                                                                "
 );
 
-/// How many levels the spaces of `LINE` are for.
+/// The number of levels that `LINE` has spaces for.
 const MOST_LEVELS: usize = 64;
 
-/// The first levels of an indent, as many as `LINE` has.
+/// Returns the number of levels to write at once: all of them, or those that `LINE` has spaces for.
 fn first_levels(level: usize) -> usize
     ensures fits { result ≤ 64 }
     ensures within { result ≤ level }
@@ -53,7 +53,7 @@ fn push_spaces(out: &mut TextWriter, level: usize) -> Result<(), AllocError>
     Ok(())
 }
 
-/// Adds a line feed and two spaces a level, in one piece where the level is not deep.
+/// Appends a line feed and two spaces per level, in one piece up to `MOST_LEVELS` levels.
 #[tactic(auto, using(crate::proofs::Indents::indent_ascii))]
 pub(crate) fn push_indent(out: &mut TextWriter, level: usize) -> Result<(), AllocError>
     ensures { OnOk result (out.new ≡ out.old ++ indent level) }

@@ -15,8 +15,8 @@ use crate::options::HtmlOptions;
 use std::alloc::AllocError;
 
 /// The plain text of a frame-free tree with valid names and without a fault reads as the tree's
-/// normal form, and its pretty text as that of the indented tree, unless a raw text on lines of its
-/// own ends in a closing tag that lacks its last character.
+/// normal form. Its pretty text reads as the normal form of the indented tree, unless a raw text on
+/// lines of its own ends in a closing tag that lacks its last character.
 #[tactic(auto, using(crate::proofs::ReadingBack::reads_back))]
 pub fn text_reads_back()
     ensures { ReadsBack }
@@ -29,8 +29,9 @@ pub fn same_text_same_form()
     ensures { SameTextSameForm }
 {}
 
-/// Texts that are read, and texts that are not: values in double quotes or not, end tags that are
-/// exact or not, and one element with nothing but blanks around it or more.
+/// Texts that are not read, for example because a value is in single quotes, an end tag is not
+/// exact, or there is more than one element with blanks around it. A text of one element with
+/// blanks around it is read.
 pub fn reads_exact_syntax()
     ensures quotes { read (codes "<!DOCTYPE html><p title='x'></p>") ≡ None }
     ensures case { read (codes "<!DOCTYPE html><p></P>") ≡ None }
@@ -48,8 +49,9 @@ pub fn reads_exact_syntax()
         ≡ Some (branch (codes "p") [] no_plains) }
 {}
 
-/// References that are read, and that are not: by another name than the five, or by another
-/// spelling than the one in small hexadecimal digits.
+/// A reference that is read, and references that are not: those with a name other than the five,
+/// with a spelling other than the one in small hexadecimal digits, or with the number of U+0000, of
+/// a surrogate, or of no character.
 pub fn reads_references()
     ensures entity { read (codes "<!DOCTYPE html><p>&nbsp;</p>") ≡ None }
     ensures reference { read (codes "<!DOCTYPE html><p>&#x41;</p>")
@@ -63,8 +65,9 @@ pub fn reads_references()
     ensures too_large { read (codes "<!DOCTYPE html><p>&#x110000;</p>") ≡ None }
 {}
 
-/// Texts with a raw text that ends before its closing tag, an escapable raw text with and without
-/// an element, and a line feed behind the start tag of `pre`, which is dropped, and of `p`.
+/// Texts with a raw text that ends in a closing tag but for its last character, a raw text with a
+/// closing tag in capitals, an escapable raw text with and without an element, and a line feed
+/// behind the start tag of `pre`, which is dropped, and of `p`, which is kept.
 pub fn reads_raw_text()
     ensures script { read (codes "<!DOCTYPE html><script></script</script>")
         ≡ Some (paragraph_of (codes "script") (codes "</script")) }
@@ -80,7 +83,7 @@ pub fn reads_raw_text()
         ≡ Some (paragraph_of (codes "pre") (codes "x")) }
 {}
 
-/// Options are equal where both ask for pretty text or neither does.
+/// Options are equal if both ask for pretty text or neither does.
 pub fn equal_options(a: &HtmlOptions, b: &HtmlOptions) -> bool
     ensures { IsTrue result ↔ (a.now ≡ b.now) }
 {
@@ -101,22 +104,23 @@ pub fn default_options() -> HtmlOptions
     HtmlOptions::default()
 }
 
-/// Faults are equal where their kinds are, and their characters, names and spans.
+/// Faults are equal if their kinds, characters, names and spans are.
 pub fn equal_export_faults(a: &ExportFault, b: &ExportFault) -> bool
     ensures { IsTrue result ↔ (export_fault_view a.now ≡ export_fault_view b.now) }
 {
     a == b
 }
 
-/// Faults of frames are equal where their kinds are.
+/// Faults of frames are equal if their kinds are.
 pub fn equal_frame_faults(a: &FrameFault, b: &FrameFault) -> bool
     ensures { IsTrue result ↔ (a.now ≡ b.now) }
 {
     a == b
 }
 
-/// Indents do not show once white space has collapsed, where there is no frame and no raw element,
-/// what has indents is a border, and none that has them inside keeps its white space.
+/// Indents are not visible once white space has collapsed, if there is no frame and no raw element,
+/// each element with indents around or inside it has a border, and none with indents inside
+/// preserves its white space.
 pub fn indents_collapse()
     ensures content { ContentCollapses }
     ensures body { BodyCollapses }

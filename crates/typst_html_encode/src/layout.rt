@@ -1,5 +1,5 @@
-//! Where pretty writing puts indents. The rules are this project's; the CSS defaults they go by are
-//! those of HTML Standard 15.3.
+//! The places of indents in pretty text. The rules are this project's; they go by the CSS defaults
+//! of HTML Standard 15.3.
 
 ghost use Rattle.std.specs.Prelude.{◌≡◌, ◌==◌, ◌&&◌, IfOk, IsTrue, true, bytes_eq, chars, codes};
 ghost use Rattle.std.specs.List.{list_any};
@@ -19,16 +19,17 @@ use html_names::property::Display;
 use html_names::{HtmlTag, attr, tag};
 use std::alloc::AllocError;
 
-/// How far in a node stands.
+/// The indentation of a node, and whether pretty writing is on there.
 #[derive(Clone, Copy)]
 pub(crate) struct Margin {
     pub(crate) pretty: bool,
-    /// How many levels deep the node stands, the root on level 0.
+    /// The level of the node. The root has level 0.
     pub(crate) level: usize,
 }
 
 impl Margin {
-    /// A level that no number counts is refused: so deep a tree would not fit into memory.
+    /// Returns the margin one level deeper. Fails if the level overflows: so deep a tree would not
+    /// fit into memory.
     pub(crate) fn deeper(self) -> Result<Margin, AllocError>
         ensures { IfOk result (λ margin. margin ≡ deeper self) }
     {
@@ -52,7 +53,7 @@ impl Margin {
     }
 }
 
-/// Whether the display is one of lines: a block, a list item, a table or a part of one.
+/// Returns whether the display is a block, a list item, a table or a part of one.
 fn is_of_lines(display: Option<Display>) -> bool
     ensures { result ≡ is_of_lines display }
 {
@@ -111,7 +112,7 @@ fn wants_pretty_around(element: &Element) -> bool
         || tag::is_metadata_content(tag)
 }
 
-/// Whether a node wants pretty writing: a frame, or an element that wants lines of its own.
+/// Returns whether the node is a frame, or an element that wants lines of its own.
 fn node_wants_pretty(node: &Node) -> bool
     ensures { result ≡ node_wants_pretty (node_view node.now) }
 {
@@ -143,7 +144,8 @@ fn is_pretty_inside(element: &Element) -> bool
     nodes_want_pretty(&element.children) && allows_pretty_inside(element)
 }
 
-/// Whether an indent stands before the child: one is due, or the child wants it.
+/// Returns whether an indent stands before the child: one is due, or the child wants lines of its
+/// own.
 pub(crate) fn has_indent(due: bool, child: &Node) -> bool
     ensures { result ≡ has_indent due (node_view child.now) }
 {
@@ -154,7 +156,7 @@ pub(crate) fn has_indent(due: bool, child: &Node) -> bool
     }
 }
 
-/// Whether an indent is due after the child: never where writing is plain.
+/// Returns whether an indent is due after the child. None is due in plain text.
 pub(crate) fn due_after(margin: Margin, due: bool, child: &Node) -> bool
     ensures { result ≡ (margin.pretty && due_after due (node_view child.now)) }
 {
@@ -166,7 +168,7 @@ pub(crate) fn due_after(margin: Margin, due: bool, child: &Node) -> bool
         }
 }
 
-/// Whether a script is of another type than JavaScript.
+/// Returns whether an attribute `type` has a value other than `text/javascript`.
 #[tactic(auto, unfolding(html_names::specs::Tables::known_attrs), using(crate::proofs::Given::pair_given))]
 fn has_other_type(element: &Element) -> bool
     ensures { result ≡ has_other_type (head_view element.now).attrs }
@@ -180,7 +182,7 @@ fn has_other_type(element: &Element) -> bool
     false
 }
 
-/// Whether pretty writing puts the text of a raw element on lines of its own.
+/// Returns whether pretty writing puts the text of a raw element on lines of its own.
 #[tactic(auto, unfolding(html_names::specs::Tables::known_tags, crate::specs::Layout::is_by_lines))]
 pub(crate) fn is_by_lines(element: &Element) -> bool
     ensures { result ≡ is_by_lines (head_view element.now) }
@@ -194,7 +196,8 @@ fn holds_backquote(text: &str) -> bool
     text.chars().any(|c| c == '`')
 }
 
-/// Whether a raw text keeps its lines as they are: that of a script with a template literal.
+/// Returns whether a raw text keeps its lines as they are: the text of a script that holds a
+/// backquote, as template literals do.
 #[tactic(auto, unfolding(html_names::specs::Tables::known_tags, crate::specs::Layout::keeps_lines))]
 pub(crate) fn keeps_lines(tag: &HtmlTag, text: &str) -> bool
     ensures { result ≡ keeps_lines tag.now (chars text.now) }

@@ -1,8 +1,9 @@
-//! Writing: the HTML text of a tree, with the proof that it reads back.
+//! The HTML text of a tree, with the proof that the text reads back.
 //!
 //! # Example
 //!
-//! A list in pretty text. It has no frame, so `()`, which refuses each, is its writer of frames:
+//! A list, written pretty. It has no frames, so its frame writer is `()`, which refuses every
+//! frame:
 //!
 //! ```
 //! use html_dom::{HtmlElement, HtmlNode, Span};

@@ -1,7 +1,7 @@
-/// How HTML text is written.
+/// Options for writing HTML text.
 #[derive(Clone, Debug, Default, Drop, PartialEq, Eq, Hash)]
 pub struct HtmlOptions {
-    /// Whether blocks, and other elements that want it, stand on lines of their own, indented by
-    /// two spaces a level.
+    /// Whether blocks, and other elements that want it, are on lines of their own, indented by two
+    /// spaces per level.
     pub pretty: bool,
 }

@@ -1,4 +1,4 @@
-//! Raw text, which ends where its element's closing tag stands.
+//! Raw text, which ends at the closing tag of its element.
 
 ghost use Rattle.std.specs.Prelude.{◌≡◌, ◌++◌, OnOk, chars};
 ghost use Rattle.html_dom_flat.specs.Siblings.{head_view, node_view, siblings_view};
@@ -32,7 +32,8 @@ pub(crate) fn write_raw(
     Ok(())
 }
 
-/// The text of a raw element, which holds no closing tag of it.
+/// Returns the text of a raw element, or the first fault in it, such as the closing tag of the
+/// element.
 fn checked_text(element: &Element) -> Result<String, ExportFault>
     ensures { let children = siblings_view element.now.children in
         Gives result (nodes_raw_text children)

@@ -19,7 +19,7 @@ use html_names::text_writer::TextWriter;
 use html_names::{HtmlTag, tag};
 use std::alloc::AllocError;
 
-/// Writes the value of an attribute, and nothing where it is empty.
+/// Writes the value of an attribute, or nothing if the value is empty.
 #[tactic(auto, using(crate::proofs::Escapes::values))]
 fn write_value(out: &mut TextWriter, value: &String, span: Span) -> Result<(), ExportFault>
     ensures { Adds result out.old out.new
@@ -81,8 +81,8 @@ pub(crate) fn write_end(out: &mut TextWriter, tag: &HtmlTag) -> Result<(), Alloc
     out.push('>')
 }
 
-/// Whether the first child that is neither a tag nor an empty text begins with a line feed or a
-/// carriage return.
+/// Returns whether the first child that is neither a tag nor an empty text begins with a line feed
+/// or a carriage return.
 fn begins_with_feed(children: &Siblings) -> bool
     ensures { result ≡ begins_with_feed (siblings_view children.now) }
 {
@@ -109,7 +109,7 @@ fn drops_feed(tag: &HtmlTag) -> bool
     *tag == tag::pre || *tag == tag::textarea
 }
 
-/// Writes a line feed where a reader would drop the text's own.
+/// Writes a line feed if a reader would drop the one that the text begins with.
 #[tactic(auto, using(crate::proofs::Layouts::either_order))]
 pub(crate) fn write_feed(out: &mut TextWriter, element: &Element) -> Result<(), AllocError>
     ensures { OnOk result (out.new ≡

@@ -1,4 +1,4 @@
-//! Writing, plain and pretty: one walk over a flat tree.
+//! Plain and pretty writing, in one walk over a flat tree.
 
 ghost use Rattle.std.specs.Prelude.{◌≡◌, ◌++◌, OnOk, Some, chars, false};
 ghost use Rattle.html_dom_tree.specs.FrameViews.{html_frame_view};
@@ -28,7 +28,7 @@ use html_dom_tree::HtmlFrame;
 use html_names::text_writer::TextWriter;
 use std::alloc::{AllocError, Global};
 
-/// Nodes that are inside no element have the margin `outer`.
+/// Writes the nodes of a tree. Nodes that are inside no element have the margin `outer`.
 pub(crate) fn write_tree<F: FrameWriter>(
     alloc: Global,
     out: &mut TextWriter,
@@ -76,7 +76,7 @@ fn write_close(out: &mut TextWriter, element: &OpenElement) -> Result<(), AllocE
     write_end(out, element.tag)
 }
 
-/// The node, if it is an element that the walk enters.
+/// Returns the node if it is an element that the walk enters.
 fn entered<'a>(node: &Node<'a>) -> Option<Element<'a>>
     ensures { Enters (node_view node.now) result }
 {
@@ -114,7 +114,7 @@ fn write_first<F: FrameWriter>(
     }
 }
 
-/// Writes an element whose children are not written one by one, and else its start.
+/// Writes the start of an element that the walk enters, or the whole of any other element.
 fn write_element(out: &mut TextWriter, element: &Element, margin: Margin) -> Result<(), ExportFault>
     ensures writes { Adds result out.old out.new
         (element_first_text margin (element_view element.now))

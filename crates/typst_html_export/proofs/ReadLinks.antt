@@ -21,9 +21,10 @@ use Rattle.typst_html_encode.specs.declared.fault.ExportFault.{ExportFault}
 use Rattle.typst_html_encode.specs.declared.options.HtmlOptions.{HtmlOptions}
 use Rattle.typst_html_encode.proofs.ReadIds.{layout_keeps_texts, past_words}
 use Rattle.typst_html_export.specs.ReadLinks.{GivenLinksLeadWhenRead, DocumentIsReadable, read_places}
+use Rattle.html_dom_link.specs.NewNames.{gathered_names}
 
 normal_ids : (ns : NodesView) → plains_texts ids_of (nodes_normal ns) ≡ first_ids ns
-unfolding plains_texts nodes_normal first_ids
+unfolding plains_texts nodes_normal gathered_names
 normal_ids none = refl
 normal_ids (node (tag_node t) ns) = normal_ids ns
 normal_ids (node (text_node s span) ns) = past_words ids_of s (nodes_normal ns) ∙ normal_ids ns
@@ -32,7 +33,7 @@ normal_ids (node (frame_node f) ns) = normal_ids ns
 
 normal_places : (ns : NodesView) → NodesAreFrameFree ns →
     plains_texts place_names (nodes_normal ns) ≡ nodes_places ns
-unfolding plains_texts nodes_normal nodes_places NodesAreFrameFree NodeIsFrameFree
+unfolding plains_texts nodes_normal gathered_names NodesAreFrameFree NodeIsFrameFree
 normal_places none free = refl
 normal_places (node (tag_node t) ns) free = normal_places ns free.1
 normal_places (node (text_node s span) ns) free =

@@ -16,7 +16,7 @@ use Rattle.html_flow_convert.specs.declared.convert.Whitespace.TheVariants.{Norm
 use Rattle.typst_html_encode.specs.FaultViews.{ExportFaultView, too_deep, not_alone, footnotes}
 use Rattle.typst_html_export.specs.DocumentHead.{made_node, head_node, lang_text}
 
--- an element that a document has of its own if it is among its nodes
+-- whether a document has an element of its own if this is among its nodes: an `html` or a `body`
 abbrev pub is_own : Head → Bool
 is_own h = is_named_html h || bytes_eq h.name (codes "body")
 
@@ -26,7 +26,7 @@ own_head (text_node s span) = None
 own_head (element_node h ns) = if is_own h then Some h else None
 own_head (frame_node f) = None
 
--- an element with the number of nodes before it, after so many more
+-- an element and the number of nodes before it, with so many more nodes before
 abbrev pub own_after : ℕ → ℕ × Head → ℕ × Head
 own_after more own = (own.0 + more, own.1)
 
@@ -110,7 +110,7 @@ abbrev pub item_spans : ItemsView → List ℕ
 item_spans no_items = []
 item_spans (item i role items) = item_span i ∷ item_spans items
 
--- footnotes have no place beside an element of the document's own, even if they have no nodes
+-- the fault of footnotes beside an element of the document's own, even if they have no nodes
 abbrev pub note_faults : (spans : List ℕ) → List ExportFaultView
 note_faults [] = []
 note_faults (span ∷ spans) = footnotes (span ∷ spans) ∷ []
@@ -121,7 +121,7 @@ outline_faults own_body notes = note_faults (item_spans notes)
 outline_faults nothing_own notes = []
 outline_faults (own_among_others name span) notes = not_alone name span ∷ []
 
--- of the spans of bodies that are too deep
+-- the faults of bodies that are too deep, from their spans
 abbrev pub depth_faults : (spans : List ℕ) → List ExportFaultView
 depth_faults = map too_deep
 
@@ -131,7 +131,7 @@ abbrev pub assembly_faults : (limit : ℕ) (content : NodesView) (notes : ItemsV
 assembly_faults limit content notes =
     outline_faults (document_outline content) notes ++ depth_faults (items_too_deep 1 limit notes)
 
--- all faults for which no document is made from items, in the order of refusal
+-- all faults of making a document from items, in the order of refusal
 abbrev pub items_document_faults : (limit : ℕ) (items notes : ItemsView) → List ExportFaultView
 items_document_faults limit items notes = depth_faults (items_too_deep 0 limit items)
     ++ assembly_faults limit (document_nodes items) notes

@@ -31,7 +31,8 @@ CleanDocumentsAreWritten = (frames : Frames) (options : HtmlOptions) (info : Inf
     (items : ItemsView) → is_plain_flow items ≡ true → are_clean_items items ≡ true →
     is_clean_info info ≡ true → root_faults frames options (linked_root info items no_items) ≡ []
 
--- and so it can with the `href` of its links, whatever names they lead to, among any places
+-- such a document can be written with the `href` of its links too, whatever names they lead to,
+-- among any places
 abbrev pub CleanLinkedDocumentsAreWritten : Type 0
 CleanLinkedDocumentsAreWritten = (frames : Frames) (options : HtmlOptions) (info : InfoView)
     (items : ItemsView) → is_plain_flow items ≡ true → are_clean_items items ≡ true →

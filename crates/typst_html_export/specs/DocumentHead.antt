@@ -13,7 +13,7 @@ made_node name attrs ns = element_node (record (new_element name).0 { attrs = at
 abbrev pub charset_node : NodeView
 charset_node = made_node (codes "meta") ((codes "charset", codes "utf-8") ∷ []) none
 
--- an entry with a name
+-- a `meta` with a name and its content
 abbrev pub entry_node : (name content : List ℕ) → NodeView
 entry_node name content =
     made_node (codes "meta") ((codes "name", name) ∷ (codes "content", content) ∷ []) none
@@ -24,7 +24,7 @@ viewport_node = entry_node (codes "viewport") (codes "width=device-width, initia
 abbrev pub title_node : (title : List ℕ) → NodeView
 title_node title = made_node (codes "title") [] (node (text_node title 0) none)
 
--- if a text is given, even an empty one
+-- a title if there is a text for it, even an empty one
 abbrev pub title_nodes : Option (List ℕ) → List NodeView
 title_nodes None = []
 title_nodes (Some title) = title_node title ∷ []
@@ -37,7 +37,7 @@ description_nodes (Some text) = entry_node (codes "description") text ∷ []
 abbrev pub joined_text : List (List ℕ) → List ℕ
 joined_text = join_by (λ text. text) (codes ", ")
 
--- if there are texts, even empty ones
+-- an entry with the joined texts if there are texts, even empty ones
 abbrev pub list_meta_nodes : (name : List ℕ) → List (List ℕ) → List NodeView
 list_meta_nodes name [] = []
 list_meta_nodes name (text ∷ texts) = entry_node name (joined_text (text ∷ texts)) ∷ []
@@ -50,7 +50,7 @@ abbrev pub head_node : InfoView → NodeView
 head_node info =
     made_node (codes "head") [] (nodes_of (charset_node ∷ viewport_node ∷ entry_nodes info))
 
--- a region after its language
+-- a region as it stands after its language
 abbrev pub region_text : Option (List ℕ) → List ℕ
 region_text None = []
 region_text (Some region) = codes "-" ++ region

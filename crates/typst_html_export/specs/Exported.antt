@@ -19,7 +19,7 @@ abbrev pub export_text : Frames → HtmlOptions → InfoView → (items notes : 
 export_text frames options info items notes =
     document_text frames options (linked_root info items notes)
 
--- that document once its links are resolved
+-- the document of items once its links are resolved
 abbrev pub resolved_document : InfoView → (items notes : ItemsView) → DocumentView
 resolved_document info items notes = document_with_links (linked_document info items notes)
 
@@ -36,14 +36,14 @@ abbrev pub root_faults : Frames → HtmlOptions → ElementView → List ExportF
 root_faults frames options root =
     map export_fault_view (writing.document_faults frames options root)
 
--- all faults for which items have no text: first those of making their document, then those of
+-- all faults of writing the text of items: first those of making their document, then those of
 -- writing its tree
 abbrev pub export_faults : (limit : ℕ) → Frames → HtmlOptions → InfoView → (items notes : ItemsView)
     → List ExportFaultView
 export_faults limit frames options info items notes = items_document_faults limit items notes
     ++ root_faults frames options (linked_root info items notes)
 
--- the same if links are resolved before it is written
+-- the same if links are resolved before the tree is written
 abbrev pub export_linked_faults : (limit : ℕ) → Frames → HtmlOptions → InfoView
     → (items notes : ItemsView) → List ExportFaultView
 export_linked_faults limit frames options info items notes = items_document_faults limit items notes

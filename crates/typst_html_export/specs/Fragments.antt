@@ -26,7 +26,7 @@ fragment_nodes level items = styled_nodes (converted_nodes level Normal None ite
 abbrev pub export_fragment_text : Frames → ConversionLevel → ItemsView → List ℕ
 export_fragment_text frames level items = writing.fragment_text frames (fragment_nodes level items)
 
--- first what stands too deep, then what can't be written
+-- all faults: first bodies that are too deep, then what can't be written
 abbrev pub export_fragment_faults : (limit : ℕ) → Frames → ConversionLevel → ItemsView
     → List ExportFaultView
 export_fragment_faults limit frames level items = depth_faults (items_too_deep 0 limit items)
@@ -37,7 +37,7 @@ seen_children None = None
 seen_children (Some (words t)) = None
 seen_children (Some (branch name attrs kids)) = Some (seen_plains kids)
 
--- put into a `div`, the text of items in plain flow shows exactly their text
+-- once the text is put into a `div`, exactly the text of items in plain flow is visible of it
 abbrev pub FragmentIsSeen : (text : List ℕ) → ItemsView → Type 0
 FragmentIsSeen text items = is_plain_flow items ≡ true →
     seen_children (read (text_in_div text)) ≡ Some (items_text items)

@@ -14,7 +14,7 @@ document_with_known_anchors is_target d = record (document_with_new_anchors is_t
   introspector = record d.introspector { anchor = document_anchor is_target d };
 }
 
--- with anchors for all locations that recorded links lead to
+-- a document with anchors for all locations that recorded links lead to
 abbrev pub document_with_anchors : DocumentView → DocumentView
 document_with_anchors d = document_with_known_anchors d.introspector.is_link_target d
 

@@ -14,20 +14,20 @@ abbrev pub HaveSameAtoms : ElementView → ElementView → Type 0
 HaveSameAtoms e old = (preserved : Bool) →
     plains_atoms preserved (nodes_normal e.1) ≡ plains_atoms preserved (nodes_normal old.1)
 
--- a tree with anchors has those of the tree without
+-- a tree with anchors has the atoms of the tree without
 abbrev pub AnchorsKeepAtoms : Type 0
 AnchorsKeepAtoms = (x : Targets) (e : ElementView) → HaveSameAtoms (element_with_anchors x e) e
 
--- and so does one with the `href` of its links
+-- a tree with the `href` of its links has the atoms of the tree without
 abbrev pub LinksKeepAtoms : Type 0
 LinksKeepAtoms = (hrefs : Hrefs) (e : ElementView) → HaveSameAtoms (root_with_links hrefs e) e
 
--- no frame comes or goes
+-- the `href` of links neither adds nor removes a frame
 abbrev pub LinksKeepFrames : Type 0
 LinksKeepFrames = (hrefs : Hrefs) (e : ElementView) →
     (ElementIsFrameFree (root_with_links hrefs e) ↔ ElementIsFrameFree e)
 
--- valid names stay valid
+-- valid names stay valid with the `href` of links
 abbrev pub LinksKeepNames : Type 0
 LinksKeepNames = (hrefs : Hrefs) (e : ElementView) → ElementIsNamed e →
     ElementIsNamed (root_with_links hrefs e)

@@ -62,7 +62,7 @@ abbrev pub assembled_document_with_head : InfoView → (head : List NodeView)
 assembled_document_with_head info head items notes =
     document_around_with_head info head (document_nodes items) notes
 
--- with anchors for all locations that links lead to
+-- the document of items, with anchors for all locations that links lead to
 abbrev pub linked_document_with_head : InfoView → (head : List NodeView)
     → (items notes : ItemsView) → DocumentView
 linked_document_with_head info head items notes =
@@ -79,8 +79,8 @@ abbrev pub export_text_with_head : Frames → HtmlOptions → InfoView → (head
 export_text_with_head frames options info head items notes =
     document_text frames options (linked_root_with_head info head items notes)
 
--- all faults for which there is none: first those of making the document, whatever its head is,
--- then those of writing its tree
+-- all faults of writing that text: first those of making the document, whatever its head is, then
+-- those of writing its tree
 abbrev pub export_faults_with_head : (limit : ℕ) → Frames → HtmlOptions → InfoView
     → (head : List NodeView) → (items notes : ItemsView) → List ExportFaultView
 export_faults_with_head limit frames options info head items notes =
@@ -97,18 +97,19 @@ is_root (own_among_others name span) = false
 abbrev pub have_own_root : ItemsView → Bool
 have_own_root items = is_root (document_outline (document_nodes items))
 
--- without such nodes it is the document of items alone
+-- without such nodes, the document is that of items alone
 abbrev pub NoNodesChangeNothing : Type 0
 NoNodesChangeNothing = (info : InfoView) (items notes : ItemsView) →
     linked_document_with_head info [] items notes ≡ linked_document info items notes
 
--- and so it is, whatever these nodes are, if the items have a root of their own
+-- the document is that of items alone too, whatever these nodes are, if the items have a root of
+-- their own
 abbrev pub OwnRootsHaveNoNodes : Type 0
 OwnRootsHaveNoNodes = (info : InfoView) (head : List NodeView) (items notes : ItemsView) →
     have_own_root items ≡ true →
     linked_document_with_head info head items notes ≡ linked_document info items notes
 
--- which then does not depend on the information either
+-- such a document does not depend on the information either
 abbrev pub OwnRootsHaveNoInfo : Type 0
 OwnRootsHaveNoInfo = (info : InfoView) (items notes : ItemsView) → have_own_root items ≡ true →
     linked_root info items notes ≡ linked_root no_info items notes

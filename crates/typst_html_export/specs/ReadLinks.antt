@@ -17,9 +17,9 @@ read_places (Some (words text)) = []
 read_places (Some (branch name attrs children)) =
     place_names name attrs ++ plains_texts place_names children
 
--- from a document before and after its links were resolved, and its text: each link that got an
--- `href` leads to the anchor of its destination among the places that are read, and that anchor is
--- the first `id` of an element that is read
+-- each link that got an `href` leads to the anchor of its destination among the places that are
+-- read, and that anchor is the first `id` of an element that is read; `old` and `new` are a
+-- document before and after its links were resolved, and `text` is its text
 abbrev pub GivenLinksLeadWhenRead : (old new : DocumentView) → (text : List ℕ) → Type 0
 GivenLinksLeadWhenRead old new text =
     All (LeadsAmong new.introspector.anchor (read_places (read text)) (read_ids (read text)))

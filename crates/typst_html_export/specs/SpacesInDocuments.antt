@@ -25,7 +25,7 @@ pub record ArePlainItems (limit : ℕ) (items notes : ItemsView) : Type 0 where
   pub within : items_too_deep 0 limit items ≡ []
   pub alone : notes ≡ no_items
 
--- a document is made from them
+-- a document can be made from such items
 abbrev pub PlainDocumentsAreMade : Type 0
 PlainDocumentsAreMade = (limit : ℕ) (items notes : ItemsView) → ArePlainItems limit items notes →
     items_document_faults limit items notes ≡ []
@@ -37,12 +37,12 @@ IsSeenAs root items = (frames : Frames) (options : HtmlOptions) → ElementIsNam
     writing.document_faults frames options root ≡ [] →
     seen_text (document_text frames options root) ≡ Some (items_text items)
 
--- for a document made from items in plain flow, with its anchors
+-- this holds for a document made from items in plain flow, with its anchors
 abbrev pub PlainDocumentsAreSeen : Type 0
 PlainDocumentsAreSeen = (info : InfoView) (items : ItemsView) → is_plain_flow items ≡ true →
     IsSeenAs (linked_root info items no_items) items
 
--- and with the `href` of its links, whatever it is
+-- this holds with the `href` of its links too, whatever it is
 abbrev pub PlainLinkedDocumentsAreSeen : Type 0
 PlainLinkedDocumentsAreSeen = (info : InfoView) (items : ItemsView) → is_plain_flow items ≡ true →
     (hrefs : Hrefs) → IsSeenAs (root_with_links hrefs (linked_root info items no_items)) items
@@ -60,17 +60,18 @@ abbrev pub PlainDocumentsAreRead : Type 0
 PlainDocumentsAreRead = (info : InfoView) (items : ItemsView) → is_plain_flow items ≡ true →
     IsReadAs (linked_root info items no_items) items
 
--- and with the `href` of its links, whatever it is
+-- this holds with the `href` of its links too, whatever it is
 abbrev pub PlainLinkedDocumentsAreRead : Type 0
 PlainLinkedDocumentsAreRead = (info : InfoView) (items : ItemsView) → is_plain_flow items ≡ true →
     (hrefs : Hrefs) → IsReadAs (root_with_links hrefs (linked_root info items no_items)) items
 
--- if items in plain flow have no footnotes, this holds for a document
+-- this holds for a document if its items are in plain flow and it has no footnotes
 abbrev pub SpacesAreLeft : DocumentView → (items notes : ItemsView) → Type 0
 SpacesAreLeft d items notes = is_plain_flow items ≡ true → notes ≡ no_items →
     IsReadAs (document_root d) items
 
--- and exactly the items' text is visible in a text
+-- exactly the items' text is visible in a text, if they are in plain flow and there are no
+-- footnotes
 abbrev pub SpacesAreSeen : (text : List ℕ) → (items notes : ItemsView) → Type 0
 SpacesAreSeen text items notes = is_plain_flow items ≡ true → notes ≡ no_items →
     seen_text text ≡ Some (items_text items)

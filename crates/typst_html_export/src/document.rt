@@ -42,7 +42,7 @@ use typst_html_encode::ExportFault;
 /// that links lead to.
 ///
 /// Makes the document of [`html_document_for_bundle`], and then anchors for the targets of start
-/// tags and of links in frames, as [`create_link_anchors`] does, where they stand in the tree. The
+/// tags and of links in frames, as [`create_link_anchors`] does, if they stand in the tree. The
 /// document's introspector knows them: each is the name of what serves its location in the tree.
 /// The positions that it knows stay those of the tree without anchors. If all ids of the tree
 /// without anchors differ, those of the returned one do. Anchors are invisible: once white space
@@ -84,8 +84,8 @@ pub fn html_document(
     ensures distinct { IdsAreDistinct (assembled_document (info_view info.now)
         (items_view items.now) (items_view footnotes.now)) →
         IfOk result (λ document. IdsAreDistinct (document_view document)) }
-    // Items in plain flow, without footnotes and none too deep, become a document, out of memory
-    // aside, and in its text exactly theirs is visible.
+    // Items in plain flow, without footnotes and none too deep, become a document unless an
+    // allocation fails, and in its text exactly theirs is visible.
     ensures plain { ArePlainItems limit (items_view items.now) (items_view footnotes.now) →
         FailsByMemoryAlone result }
     ensures spaces { IfOk result (λ document. SpacesAreLeft (document_view document)
@@ -145,8 +145,9 @@ pub fn html_document_with_head(
     ensures distinct { IdsAreDistinct (assembled_document_with_head (info_view info.now)
         (map node_view head.now) (items_view items.now) (items_view footnotes.now)) →
         IfOk result (λ document. IdsAreDistinct (document_view document)) }
-    // Items in plain flow, without footnotes and none too deep, become a document, out of memory
-    // aside, and if no node of the head is raw or a frame, in its text exactly theirs is visible.
+    // Items in plain flow, without footnotes and none too deep, become a document unless an
+    // allocation fails, and if no node of the head is raw or a frame, in its text exactly theirs is
+    // visible.
     ensures plain { ArePlainItems limit (items_view items.now) (items_view footnotes.now) →
         FailsByMemoryAlone result }
     ensures spaces { AreReadable (nodes_view head.now) →
@@ -157,7 +158,7 @@ pub fn html_document_with_head(
     Ok(with_anchors(alloc, document)?)
 }
 
-/// Does not look at the tree if no link leads to a location.
+/// Adds anchors for the locations that links lead to. Does not look at the tree if there are none.
 fn with_anchors(alloc: Global, mut document: HtmlDocument) -> Result<HtmlDocument, AllocError>
     ensures made { IfOk result (λ made.
         document_view made ≡ document_with_anchors (document_view document)) }
@@ -184,13 +185,13 @@ fn with_anchors(alloc: Global, mut document: HtmlDocument) -> Result<HtmlDocumen
 /// the language and a head with the information. Finally writes the css of all elements into their
 /// attributes `style`.
 ///
-/// Fails if an allocation fails, or by the first of these: items too deep for the limit, which is
+/// Fails if an allocation fails, or with the first of these: items too deep for the limit, which is
 /// from 1 to 10,000 (`is_depth_limit`); an `html` or `body` among other nodes; footnotes beside an
 /// `html` or `body` of the document's own; footnotes too deep.
 ///
-/// Positions lead to the elements that hold the tags, where [`HtmlDocument::new`] says so. For
-/// items in plain flow, without footnotes, exactly their text is visible in the body once white
-/// space has collapsed.
+/// Positions lead to the elements that hold the tags, as [`HtmlDocument::new`] says. For items in
+/// plain flow, without footnotes, exactly their text is visible in the body once white space has
+/// collapsed.
 ///
 /// ```
 /// use typst_html::{DocumentInfo, HtmlElem, Item, Pair, html_document_for_bundle, tag};
@@ -247,8 +248,9 @@ fn document_without_anchors(
 /// Returns whether the items have their own root: an `html` alone among their nodes, tags aside.
 ///
 /// Their documents then have that root as it is, so that neither the information nor nodes for the
-/// head are in the tree; no call refuses that. This call checks it, at the price of making and
-/// dropping the items' nodes. Fails if an allocation fails, or by the first fault of making the
+/// head are in the tree; no call refuses that. This call checks it, at the cost of making and
+/// dropping the items' nodes. Fails if an allocation fails, or with the first fault of making the
+/// document without footnotes.
 /// document without footnotes.
 ///
 /// ```

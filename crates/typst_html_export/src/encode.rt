@@ -41,8 +41,8 @@ use typst_html_encode::{ExportFault, FrameWriter, HtmlOptions, html_in_bundle, h
 
 /// Returns the HTML text of a document: that of its root, as [`html_in_bundle`] writes it.
 ///
-/// Succeeds exactly if nothing is wrong with the root, and otherwise returns the first fault; out
-/// of memory may come before either. [`html_in_bundle`] says what the text reads as.
+/// Succeeds exactly if nothing is wrong with the root, and otherwise fails with the first fault; an
+/// allocation may fail before either. [`html_in_bundle`] says what the text reads as.
 ///
 /// ```
 /// use typst_html::{DocumentInfo, HtmlElem, HtmlOptions, Item, Pair};
@@ -82,13 +82,13 @@ pub fn html<F: FrameWriter>(
 /// of their document with anchors.
 ///
 /// [`html_document`] makes the document, and [`html`] writes it. `limit` is from 1 to 10,000. Fails
-/// if an allocation fails, or by the first fault of making the document or, if there is none, of
+/// if an allocation fails, or with the first fault of making the document or, if there is none, of
 /// writing its tree.
 ///
-/// For items in plain flow, without footnotes and none too deep, the document is always made, out
-/// of memory aside, and once white space has collapsed exactly their text is visible in the body
-/// that is read. If, further, all texts, values, roles and labels, and the texts of `info`, have
-/// only text characters, and no void element has a body, there is no fault.
+/// For items in plain flow, without footnotes and none too deep, the document is always made unless
+/// an allocation fails, and once white space has collapsed exactly their text is visible in the
+/// body that is read. If, further, all texts, values, roles and labels, and the texts of `info`,
+/// have only text characters, and no void element has a body, there is no fault.
 ///
 /// ```
 /// use typst_html::{DocumentInfo, HtmlOptions, Item, Pair, Span, export};
@@ -120,9 +120,9 @@ pub fn export<F: FrameWriter>(
         (export_faults limit (F.drawing frames.now) options.now
         (info_view info.now) (items_view items.now) (items_view footnotes.now)) }
 
-    // Items in plain flow are refused only for faults of their document's tree, clean ones with
-    // clean information for none, out of memory aside. Once white space has collapsed, exactly
-    // their text is visible.
+    // If no allocation fails, items in plain flow are refused only for faults of their document's
+    // tree, and clean ones with clean information are not refused. Once white space has collapsed,
+    // exactly their text is visible.
     ensures plain { ArePlainItems limit (items_view items.now) (items_view footnotes.now) →
         IfErr result (λ e. IsFirstView e (root_faults (F.drawing frames.now) options.now (linked_root
         (info_view info.now) (items_view items.now) (items_view footnotes.now)))) }
@@ -174,8 +174,8 @@ pub fn export_with_head<F: FrameWriter>(
         (export_faults_with_head limit (F.drawing frames.now) options.now (info_view info.now)
         (map node_view head.now) (items_view items.now) (items_view footnotes.now)) }
 
-    // Items in plain flow are refused only for faults of their document's tree, out of memory
-    // aside. If no node of the head is raw or a frame, exactly their text is visible once white
+    // If no allocation fails, items in plain flow are refused only for faults of their document's
+    // tree. If no node of the head is raw or a frame, exactly their text is visible once white
     // space has collapsed.
     ensures plain { ArePlainItems limit (items_view items.now) (items_view footnotes.now) →
         IfErr result (λ e. IsFirstView e (root_faults (F.drawing frames.now) options.now
@@ -202,9 +202,10 @@ pub fn export_with_head<F: FrameWriter>(
 /// Returns the HTML text of items with links that lead: that of their document with anchors, once
 /// its links are resolved.
 ///
-/// [`html_document`] makes the document, [`resolve_links`](html_dom_link::resolve_links) gives each
-/// `a` without an `href` that stands behind a start tag with a destination the `href` of that
-/// destination's anchor, and [`html`] writes it. Fails as [`export`] does.
+/// [`html_document`] makes the document, [`resolve_links`](html_dom_link::resolve_links) sets the
+/// `href` of its links, and [`html`] writes it. A link is an `a` without an `href` that stands
+/// behind a start tag with a destination; its `href` becomes that of the destination's anchor.
+/// Fails as [`export`] does.
 ///
 /// Each link that got an `href` leads: the fragment that a browser takes from it indicates its
 /// destination's anchor, in the tree and, if the text reads back as [`html_in_bundle`] says, in the

@@ -25,10 +25,10 @@ use typst_html_encode::{ExportFault, FrameWriter, html_fragment};
 /// of its own, `ConversionLevel::Inline` for one in a line. Links get neither anchors nor an `href`:
 /// both depend on the ids of the whole page.
 ///
-/// It fails where an allocation does, else by the first item whose body is deeper than `limit`,
-/// which is from 1 to 10,000, else by the first fault of writing.
+/// Fails if an allocation fails, else with the first item whose body is deeper than `limit`, which
+/// is from 1 to 10,000, else with the first fault of writing.
 ///
-/// Without frames, the text reads as these nodes where it is put into a `div`. There, if the items
+/// Without frames, the text reads as these nodes once it is put into a `div`. There, if the items
 /// are in plain flow and the level is that of a block, exactly their text is visible once white
 /// space has collapsed.
 ///

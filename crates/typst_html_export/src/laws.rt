@@ -16,8 +16,8 @@ pub fn plain_documents()
 {}
 
 /// The document of items in plain flow, without footnotes, with its anchors and with the `href` of
-/// its links, whatever names these lead to: the root shows exactly the items' text, plain or
-/// pretty, and so does its text if the root has valid names and no fault. If items and information
+/// its links, whatever names these lead to: exactly the items' text is visible of the root, plain
+/// or pretty, and in its text if the root has valid names and no fault. If items and information
 /// are clean, there is no fault.
 pub fn plain_documents_with_links()
     ensures read { PlainLinkedDocumentsAreRead }

@@ -11,12 +11,12 @@ use Rattle.typst_html_export.specs.Exported.{linked_root, resolved_document, res
 use Rattle.typst_html_export.specs.Linked.{linked_document}
 use Rattle.typst_html_laws.specs.ItemHyperlinks.{ItemsHaveNoHyperlink}
 
--- items without hyperlinks make a tree without, with anchors too
+-- items without hyperlinks make a tree without hyperlinks, with anchors too
 abbrev pub NoHyperlinkIsMade : Type 0
 NoHyperlinkIsMade = (info : InfoView) (items notes : ItemsView) → ItemsHaveNoHyperlink items →
     ItemsHaveNoHyperlink notes → ElementHasNoHyperlink (linked_root info items notes)
 
--- once the links of their document are resolved, no fragment is dead, and no id is repeated where all
+-- once the links of their document are resolved, no fragment is dead, and no id is repeated if all
 -- names of the tree differ
 pub record LinksAreSound (info : InfoView) (items notes : ItemsView) : Type 0 where
   pub dead : ItemsHaveNoHyperlink items → ItemsHaveNoHyperlink notes →
@@ -24,13 +24,13 @@ pub record LinksAreSound (info : InfoView) (items notes : ItemsView) : Type 0 wh
   pub repeated : IdsAreDistinct (resolved_document info items notes) →
       repeated_ids (resolved_root info items notes) ≡ []
 
--- where the anchors are texts
+-- the links of a document are sound if its anchors are texts
 abbrev pub ExportedLinksAreSound : Type 0
 ExportedLinksAreSound = (info : InfoView) (items notes : ItemsView) →
     AnchorsAreTexts (linked_document info items notes).introspector.anchor →
     LinksAreSound info items notes
 
--- of whatever items that document is
+-- the links of a document are sound, whatever items it was made from
 abbrev pub MadeLinksAreSound : DocumentView → Type 0
 MadeLinksAreSound d = (info : InfoView) (items notes : ItemsView) →
     d ≡ linked_document info items notes → LinksAreSound info items notes

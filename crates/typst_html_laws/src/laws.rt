@@ -6,22 +6,23 @@ ghost use Rattle.typst_html_laws.specs.SoundLinks.{ExportedLinksAreSound, MadeLi
 
 use html_dom_document::HtmlDocument;
 
-/// Where no `a` among items and footnotes, at any depth, has an `href`, none in the tree of their
+/// If no `a` among items and footnotes, at any depth, has an `href`, none in the tree of their
 /// document has one, with its styles and its anchors.
 pub fn no_hyperlink_is_made()
     ensures { NoHyperlinkIsMade }
 {}
 
-/// So, once links are resolved, as `export_linked` writes it, the tree of their document has no
-/// dead fragment, where its anchors are texts, as `texts` of `export_linked` says: links that were
-/// given no `href` lead to no fragment, and `dead_links` tells them. Where all names of that
-/// document differ, as `distinct` of `export_linked` says, no id is repeated.
+/// If no `a` among items and footnotes has an `href`, the tree of their document, as
+/// `export_linked` writes it once links are resolved, has no dead fragment, provided that its
+/// anchors are texts (`texts` of `export_linked`): links that got no `href` lead to no fragment,
+/// and `dead_links` reports them. If all names of that document differ (`distinct` of
+/// `export_linked`), no id is repeated.
 pub fn exported_links_are_sound()
     ensures { ExportedLinksAreSound }
 {}
 
-/// So it is, once links are resolved, of items of which this is the document, as `html_document`
-/// makes it: its anchors are texts.
+/// The same holds, once links are resolved, for all items from which `html_document` makes this
+/// document, as its anchors are texts.
 pub fn made_links_are_sound(document: &HtmlDocument)
     ensures { MadeLinksAreSound (document_view document.now) }
 {

@@ -54,7 +54,7 @@ unfolding keeps_case
 by_case names n P h one other = case_by (list_any is_capital n) names n P h (λ c s. one s)
     (λ c none. other (small n c) none)
 
--- the names of a list are told apart by their small letters
+-- the names of a list differ by their small letters
 abbrev pub ComeBack : List (List ℕ) → Type 0
 ComeBack names = map (λ m. with_capitals names (lowered m)) names ≡ map (λ m. m) names
 

@@ -59,7 +59,7 @@ no_returns path index above (node n ns) m =
     no_returns path (suc index) above ns (right_empty (node_misnested (path ++ index ∷ []) above n)
     (nodes_misnested path (suc index) above ns) m)
 
--- without one, the writer and the reader tell alike whether a line feed stands first
+-- without one, the writer and the reader agree whether a line feed stands first
 pub feed_is : (ns : NodesView) → has_return (nodes_raw_text ns) ≡ false →
     begins_with_feed ns ≡ begin_with_feed ns
 feed_is none r = refl

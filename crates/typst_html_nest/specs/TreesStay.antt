@@ -15,11 +15,12 @@ use Rattle.typst_html_parse_open.specs.Pages.{Notes, Reads}
 use Rattle.typst_html_parse.specs.PageReading.{page_read}
 use Rattle.typst_html_parse.specs.PageTokens.{most_attrs}
 
--- what the reader of pages refuses in any tree: a `template`, and more attributes than it keeps
+-- the reader of pages does not refuse the element in any tree: it is no `template`, and has no more
+-- attributes than the reader accepts
 abbrev pub HeadIsReadable : Head → Type 0
 HeadIsReadable h = (of kind.Template h.name ≡ false) × (length h.attrs ≤ most_attrs)
 
--- there is none at any depth
+-- the reader refuses no element for that, at any depth
 unfoldable mutual
   pub NodeIsReadable : NodeView → Type 0
   NodeIsReadable (tag_node t) = Unit {0}
@@ -34,11 +35,11 @@ unfoldable mutual
 abbrev pub ElementIsReadable : ElementView → Type 0
 ElementIsReadable e = NodeIsReadable (element_node e.0 e.1)
 
--- no error was gone over
+-- the report of a page without errors
 abbrev pub no_notes : Notes
 no_notes = record { count = 0; first = [] }
 
--- what is read is the element, tags dropped and texts joined
+-- the element is read without an error, as it is but with tags dropped and texts joined
 pub record IsReadBack (e : ElementView) (r : Reads (ElementView × Notes)) : Type 0 where
   pub root : ElementView
   pub read : r ≡ Ok (root, no_notes)
@@ -52,12 +53,13 @@ pub record IsKept (frames : Frames) (e : ElementView) : Type 0 where
   pub clean : document_faults frames plain_options e ≡ []
   pub nested : misnested_nodes e ≡ []
 
--- its plain text is read as the tree, where a page may be as deep as browsers let it be
+-- the reader of pages reads the plain text of such a tree as the tree, if a page may be as deep as
+-- browsers allow
 abbrev pub TreesStay : Type 0
 TreesStay = (frames : Frames) (limit : ℕ) (e : ElementView) → IsKept frames e → 512 < limit →
     IsReadBack e (page_read limit (document_text frames plain_options e))
 
--- so both readers, of what is written here and of pages, read the same of it
+-- both readers, that of written texts and that of pages, read the same of the text
 pub record IsReadAlike (text : List ℕ) (r : Reads (ElementView × Notes)) : Type 0 where
   pub root : ElementView
   pub page : r ≡ Ok (root, no_notes)

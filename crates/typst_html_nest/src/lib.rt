@@ -1,5 +1,5 @@
-//! Where a parser of HTML makes of a text the tree that was written: the theorem behind
-//! [`misnested`](html_dom_nest::misnested).
+//! The theorem behind [`misnested`](html_dom_nest::misnested): a parser of HTML makes the tree that
+//! was written, if nothing in it is misnested.
 //!
 //! There is no code here: the functions of [`laws`] have laws as their contracts and do nothing.
 #![tactic(auto)]

@@ -1,5 +1,5 @@
 -- The visible pieces, gathered in one pass over the atoms: a blank is held back until what follows
--- says whether it is visible.
+-- decides whether it is visible.
 use Rattle.std.specs.Prelude.{ℕ, Bool, true, false, ◌||◌, List, [], ◌∷◌, ◌++◌, map, if◌then◌else◌}
 use Rattle.html_dom_tree.specs.PlainTree.{nodes_normal}
 use Rattle.html_dom_tree.specs.Tree.{NodeView, tag_node, text_node, element_node, frame_node, NodesView}
@@ -21,7 +21,7 @@ empty_page = record { parts = []; text = []; after_edge = false }
 abbrev pub ended_parts : GatheredPage → List Part
 ended_parts p = p.parts ++ put_text p.text []
 
--- with a part that is no text
+-- a page with one more part that is no text
 abbrev pub with_part : GatheredPage → Part → (after_edge : Bool) → GatheredPage
 with_part p x after_edge =
     record { parts = ended_parts p ++ x ∷ []; text = []; after_edge = after_edge }
@@ -46,7 +46,7 @@ pub data Before : Type 0 where
   -- until it is known whether support follows
   blank : (later : List ℕ) → Before
 
--- what was held back, if support follows and if none does
+-- the pieces that were held back, given whether support follows
 abbrev pub released : (supported : Bool) → Before → List Piece
 released supported bare = []
 released supported support = []
@@ -90,7 +90,7 @@ past b (object name) = support
 past b break = bare
 past b border = bare
 
--- what is gathered so far
+-- the progress so far
 pub record Seen : Type 0 where
   pub page : GatheredPage
   pub before : Before
@@ -108,11 +108,11 @@ run s (a ∷ as') = run (step s a) as'
 abbrev pub border_atoms : Bool → List Atom
 border_atoms b = if b then border ∷ [] else []
 
--- no support follows the last atom
+-- all parts, if no support follows the last atom
 abbrev pub final : Seen → List Part
 final s = ended_parts (with_pieces s.page (released false s.before))
 
--- past a node
+-- the progress past a node
 abbrev pub past_node : (preserved : Bool) → Seen → NodeView → Seen
 past_node preserved s (tag_node t) = s
 past_node preserved s (text_node text span) = run s (text_atoms preserved text)
@@ -121,6 +121,6 @@ past_node preserved s (element_node h kids) = if is_unseen h.name h.attrs then s
     (plains_atoms (preserved || preserves h.name h.attrs) (nodes_normal (seen_nodes kids))))
 past_node preserved s (frame_node b) = s
 
--- past the nodes of a list
+-- the progress past the nodes of a list
 abbrev pub past_nodes : (preserved : Bool) → Seen → NodesView → Seen
 past_nodes preserved s ns = run s (plains_atoms preserved (nodes_normal (seen_nodes ns)))

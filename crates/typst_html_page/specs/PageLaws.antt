@@ -1,4 +1,4 @@
--- What a page that was read shows.
+-- Laws of what is visible of a page that was read.
 use Rattle.std.specs.Prelude.{◌≡◌, ℕ, true, List, Some}
 use Rattle.html_dom_tree.specs.Tree.{NodesView, ElementView}
 use Rattle.typst_html_encode.specs.Collapsing.{Piece}
@@ -12,15 +12,16 @@ use Rattle.typst_html_spaces.specs.SeenBody.{CanBeRead, seen_text}
 use Rattle.typst_html_page.specs.PageTexts.{page_pieces}
 use Rattle.typst_html_page.specs.Unseen.{seen_element, shows_all}
 
--- an element that was read, whose body hides nothing, shows what is visible in the body of the text
--- that it was read from
+-- exactly what is visible in the body of the text that an element was read from is visible of the
+-- element, if neither the element, nor its body, nor anything in the body is hidden
 abbrev pub ReadPagesAreSeen : Type 0
 ReadPagesAreSeen = (text : List ℕ) (root : ElementView) (pieces : List Piece) →
     accepted (read text) ≡ Some root → shows_all root ≡ true → seen_text text ≡ Some pieces →
     page_pieces root ≡ pieces
 
--- any element shows what is visible in the body of the text that is written of it without its
--- hidden elements, if that can be read back and what has indents in its body is a border
+-- exactly what is visible in the body of the text that is written of any element without its hidden
+-- elements is visible of the element, if that text can be read back and what has indents in its
+-- body is a border
 abbrev pub UnseenPartsAreLeftOut : Type 0
 UnseenPartsAreLeftOut = (frames : Frames) (options : HtmlOptions) (root : ElementView)
     (body : NodesView) → CanBeRead frames options (seen_element root) →

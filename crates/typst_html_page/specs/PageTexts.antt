@@ -1,4 +1,4 @@
--- What a browser shows of a root's body.
+-- What is visible of a root's body in a browser.
 use Rattle.std.specs.Prelude.{List, [], Some, unwrap_or}
 use Rattle.html_dom_tree.specs.PlainTree.{element_normal}
 use Rattle.html_dom_tree.specs.Tree.{ElementView}
@@ -7,11 +7,11 @@ use Rattle.typst_html_spaces.specs.SeenBody.{seen_tree}
 use Rattle.typst_html_page.specs.Parts.{Part, joined_parts}
 use Rattle.typst_html_page.specs.Unseen.{seen_element}
 
--- what is visible in the body of the normal form of a root without its hidden elements; a root
--- without a body shows nothing
+-- what is visible in the body of the normal form of a root without its hidden elements; nothing is
+-- visible of a root without a body
 abbrev pub page_pieces : ElementView → List Piece
 page_pieces root = unwrap_or (seen_tree (Some (element_normal (seen_element root)))) []
 
--- the same as parts
+-- what is visible of a root, as parts
 abbrev pub page_parts : ElementView → List Part
 page_parts root = joined_parts (page_pieces root)

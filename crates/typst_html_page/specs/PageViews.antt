@@ -11,7 +11,7 @@ use Rattle.typst_html_page.specs.declared.shown.PageText.{PageText}
 use Rattle.typst_html_page.specs.declared.shown.Shown.{Shown}
 use Rattle.typst_html_page.specs.declared.shown.Shown.TheVariants.{Text, Object, LineBreak, Edge}
 
--- a text is its characters
+-- a part, whose text is its characters
 abbrev pub part_view : Shown → Part
 part_view (Text text) = text_part (text_view text)
 part_view (Object tag) = object_part tag

@@ -1,6 +1,6 @@
--- Hidden elements, which a browser does not show: those to which HTML Standard 15.3.1, hidden
--- elements, gives `display: none`, except `noscript`, which is shown if scripting is disabled. What
--- other css hides, such as that of a `dialog` that is not open, counts as visible.
+-- Hidden elements, which are invisible in a browser: those to which HTML Standard 15.3.1, hidden
+-- elements, gives `display: none`, except `noscript`, which is visible if scripting is disabled.
+-- What other css hides, such as that of a `dialog` that is not open, counts as visible.
 use Rattle.std.specs.Prelude.{◌≡◌, ℕ, Bool, true, not, ◌&&◌, ◌||◌, List, codes, bytes_eq, if◌then◌else◌, Option, option_map}
 use Rattle.html_names.specs.Displays.{default_display, is_hidden}
 use Rattle.html_names.specs.Names.{listed_names, stands_in}
@@ -13,8 +13,8 @@ use Rattle.typst_html_parse_names.specs.ForeignNames.{lowered}
 abbrev pub obsolete_unseen_names : List (List ℕ)
 obsolete_unseen_names = listed_names (codes "basefont noembed noframes param")
 
--- these, and by default `area`, `base`, `datalist`, `head`, `link`, `meta`, `rp`, `script`, `style`,
--- `template` and `title`
+-- whether elements of that name are hidden: these, and by default `area`, `base`, `datalist`,
+-- `head`, `link`, `meta`, `rp`, `script`, `style`, `template` and `title`
 unfoldable pub is_unseen_name : List ℕ → Bool
 is_unseen_name name =
     is_hidden (default_display name) || stands_in obsolete_unseen_names name
@@ -23,7 +23,7 @@ is_unseen_name name =
 abbrev pub small_value : List TextPair → (name : List ℕ) → Option (List ℕ)
 small_value attrs name = option_map lowered (first attrs name)
 
--- `hidden` with any value but `until-found`: what that hides has a display
+-- whether `hidden` has any value but `until-found`, which hides without `display: none`
 abbrev pub has_hidden : List TextPair → Bool
 has_hidden attrs = has_name attrs (codes "hidden")
     && not (is_text (codes "until-found") (small_value attrs (codes "hidden")))
@@ -32,7 +32,7 @@ abbrev pub is_hidden_input : List ℕ → List TextPair → Bool
 is_hidden_input name attrs =
     bytes_eq name (codes "input") && is_text (codes "hidden") (small_value attrs (codes "type"))
 
--- an `embed` with `hidden` is displayed
+-- whether an element is hidden; an `embed` with `hidden` is not
 unfoldable pub is_unseen : List ℕ → List TextPair → Bool
 is_unseen name attrs = is_unseen_name name ||
     ((has_hidden attrs && not (bytes_eq name (codes "embed"))) || is_hidden_input name attrs)
@@ -46,7 +46,7 @@ seen_nodes (node (element_node h kids) ns) = if is_unseen h.name h.attrs then se
     else node (element_node h (seen_nodes kids)) (seen_nodes ns)
 seen_nodes (node (frame_node f) ns) = node (frame_node f) (seen_nodes ns)
 
--- a root without hidden elements; a hidden one shows nothing
+-- a root without hidden elements; a hidden root has no nodes left
 abbrev pub seen_element : ElementView → ElementView
 seen_element root =
     (root.0, if is_unseen root.0.name root.0.attrs then none else seen_nodes root.1)
@@ -54,7 +54,7 @@ seen_element root =
 abbrev pub is_seen : Head → Bool
 is_seen h = not (is_unseen h.name h.attrs)
 
--- each element of the nodes is visible, at any depth
+-- whether each element of the nodes is visible, at any depth
 unfoldable pub are_seen : NodesView → Bool
 are_seen none = true
 are_seen (node (tag_node t) ns) = are_seen ns
@@ -62,7 +62,7 @@ are_seen (node (text_node s span) ns) = are_seen ns
 are_seen (node (element_node h kids) ns) = is_seen h && (are_seen kids && are_seen ns)
 are_seen (node (frame_node f) ns) = are_seen ns
 
--- so is the first `body`, and each element in it
+-- whether the first `body` and each element in it are visible
 abbrev pub shows_body : NodesView → Bool
 shows_body none = true
 shows_body (node (tag_node t) ns) = shows_body ns
@@ -71,7 +71,7 @@ shows_body (node (element_node h kids) ns) =
     if bytes_eq h.name (codes "body") then is_seen h && are_seen kids else shows_body ns
 shows_body (node (frame_node f) ns) = shows_body ns
 
--- a root is visible, as are its first `body` and each element in that
+-- whether a root, its first `body` and each element in that are visible
 abbrev pub shows_all : ElementView → Bool
 shows_all root = is_seen root.0 && shows_body root.1
 

@@ -1,4 +1,4 @@
-//! What a browser shows: the text of a page once white space has collapsed.
+//! What is visible of a page in a browser once white space has collapsed.
 #![tactic(auto)]
 
 pub mod laws;

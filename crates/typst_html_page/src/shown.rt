@@ -1,4 +1,4 @@
-//! What a page shows.
+//! The visible parts of a page.
 
 ghost use Rattle.std.specs.Prelude.{◌≡◌};
 ghost use Rattle.typst_html_page.specs.PageViews.{page_text_view, parts_view};
@@ -7,7 +7,7 @@ ghost use Rattle.typst_html_page.specs.PlainTexts.{before_edge, is_edge, part_by
 use html_names::HtmlTag;
 use std::fmt;
 
-/// A part of what a page shows.
+/// A visible part of a page.
 #[derive(Debug, PartialEq, Eq, Drop)]
 pub enum Shown {
     /// Neighbouring characters: at least one, and as many as there are.
@@ -60,14 +60,14 @@ fn before_edge(parts: &[Shown]) -> &[Shown]
     if last.is_edge() { rest } else { parts }
 }
 
-/// What a browser shows of a page once white space has collapsed.
+/// What is visible of a page in a browser once white space has collapsed.
 #[derive(Debug, PartialEq, Eq, Drop)]
 pub struct PageText {
     pub(crate) parts: Vec<Shown>,
 }
 
 impl PageText {
-    /// Returns the parts, in the order in which they are shown.
+    /// Returns the parts, in their order on the page.
     pub fn parts(&self) -> &[Shown]
         ensures { parts_view result.now ≡ page_text_view self.now }
     {

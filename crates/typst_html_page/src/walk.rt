@@ -18,10 +18,10 @@ use html_dom_tree::{HtmlElement, HtmlNode};
 use html_names::tag;
 use std::alloc::{AllocError, Global};
 
-/// Returns what a browser shows of a root's body, its first child named `body` that is not hidden,
-/// once white space has collapsed (CSS Text, white space processing, as this project states it). A
-/// root without such a child shows nothing, and neither does a frame. Fails only if an allocation
-/// fails.
+/// Returns what is visible in a browser of a root's body, its first child named `body` that is not
+/// hidden, once white space has collapsed (CSS Text, white space processing, as this project states
+/// it). Nothing is visible of a root without such a child, nor of a frame. Fails only if an
+/// allocation fails.
 ///
 /// An element is hidden, with everything in it, if HTML Standard 15.3.1 gives it `display: none`:
 ///
@@ -32,27 +32,26 @@ use std::alloc::{AllocError, Global};
 /// - an `input` whose `type` is `hidden` in any ASCII case.
 ///
 /// Of a repeated attribute the first counts. Elements of SVG and MathML are judged like those of
-/// HTML. What is hidden counts as absent. A `noscript` is shown, as without scripting.
+/// HTML. What is hidden counts as absent. A `noscript` is visible, as without scripting.
 ///
-/// A tab, line feed, carriage return or space is shown as a space if what stands before it and what
-/// stands after it, further such blanks after it aside, support it; otherwise it is not shown.
+/// A tab, line feed, carriage return or space is visible as a space if what stands before it and
+/// what stands after it, further such blanks after it aside, support it; otherwise it is invisible.
 /// Visible characters, preserved blanks and objects support it; line breaks, edges and the ends of
-/// the body do not. Ignorable characters do not count here, and are shown as they are.
+/// the body do not. Ignorable characters do not count here, and stay as they are.
 ///
 /// Blanks at any depth in `pre`, or in an element whose first `style` is exactly
-/// `white-space: pre-wrap` or `display: block; white-space: pre-wrap`, are preserved: they are
-/// shown as they are. An edge stands where a block, a list item, a table or a caption, row group,
-/// row or cell of one begins and ends, by default or because its first `style` is exactly
-/// `display: block` or the latter of the two. Neighbouring edges are one. A replaced element is one
-/// object, whatever is in it, and a `br` only a line break. No other css counts: what it hides is
-/// shown, such as a `dialog` or the content of `details` that are not open.
+/// `white-space: pre-wrap` or `display: block; white-space: pre-wrap`, are preserved: they stay as
+/// they are. An edge stands where a block, a list item, a table or a caption, row group, row or
+/// cell of one begins and ends, by default or because its first `style` is exactly `display: block`
+/// or the latter of the two. Neighbouring edges are one. A replaced element is one object, whatever
+/// is in it, and a `br` only a line break. No other css counts: what it hides counts as visible,
+/// such as a `dialog` or the content of `details` that are not open.
 ///
-/// All neighbouring characters that are shown are one text, across nodes too, so no text is empty,
-/// and no two texts or edges are neighbours.
+/// All neighbouring characters that are visible are one text, across nodes too, so no text is
+/// empty, and no two texts or edges are neighbours.
 ///
-/// Items in plain flow are shown as they are, if none of them is hidden: of what is read of the
-/// text that `export` makes of them without footnotes, plain or pretty, the page text is exactly
-/// the items' text.
+/// If no item in plain flow is hidden, exactly the items' text is the page text of what is read
+/// from the text that `export` makes from them without footnotes, plain or pretty.
 ///
 /// Takes time linear in the size of the tree.
 ///

@@ -7,8 +7,8 @@ use Rattle.typst_html_parse_tree.specs.PageBodies.{is_space}
 use Rattle.typst_html_parse_open.specs.declared.modes.TableRule.{TableRule}
 use Rattle.typst_html_parse_open.specs.declared.modes.TableRule.TheVariants.{ClosesP, Unknown}
 
--- in lowercase, with one space for neighbouring blanks, but none at the end; `behind_space`: a
--- blank stands before
+-- the text in lowercase, with one space for neighbouring blanks, and none at the end;
+-- `behind_space` says whether a blank stands before the text
 abbrev pub spaced : (behind_space : Bool) → List ℕ → List ℕ
 spaced behind_space [] = []
 spaced behind_space (c ∷ cs) = if is_space c then spaced true cs
@@ -31,6 +31,6 @@ known_types =
 unfoldable pub is_known : List ℕ → Bool
 is_known text = stands_in known_types text
 
--- the rule for the text between `<!DOCTYPE` and `>`
+-- the rule for tables that the text between `<!DOCTYPE` and `>` sets
 unfoldable pub table_rule : (inner : List ℕ) → TableRule
 table_rule inner = if is_known (spaced true inner) then ClosesP else Unknown

@@ -9,7 +9,7 @@ pub record BeginsWith (front text rest : List ℕ) : Type 0 where
   pub long : length text ≡ length front + length rest
   pub rest_utf8 : IsUtf8 rest
 
--- the text is a front of such characters, then the rest
+-- the text is a front of characters that pass the test, and the rest
 pub record CutsAll (is : ℕ → Bool) (text front rest : List ℕ) : Type 0 where
   pub begins : BeginsWith front text rest
   pub are : all is front ≡ true

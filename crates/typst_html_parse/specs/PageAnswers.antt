@@ -1,5 +1,5 @@
--- The results of reading a page: the element and the errors of the definition, or its refusal; out
--- of memory may come before.
+-- The results of reading a page: the element and the errors of the definition, or its refusal. An
+-- allocation may fail before either.
 use Rattle.std.specs.Prelude.{◌≡◌, ℕ, true, false, List, map, chars, take, Result, Ok, Err, IfOk, IfErr}
 use Rattle.std.specs.Str.{is_utf8}
 use Rattle.std.specs.Str.Lossy.{utf8_valid_len}
@@ -29,15 +29,15 @@ abbrev pub placed : (text : List ℕ) → PageError × ℕ → PageNote
 placed text n = record { error = n.0; place = place_at text n.1 }
 
 abbrev pub ArePlaced : (text : List ℕ) → pages.Notes → PageNotes → Type 0
-ArePlaced text notes told =
-    (told.count ≡ notes.count) × (told.first.items ≡ map (placed text) notes.first)
+ArePlaced text notes reported =
+    (reported.count ≡ notes.count) × (reported.first.items ≡ map (placed text) notes.first)
 
--- a reader is behind a text
+-- a call returns the expected reader, which has read a text
 pub record Begins (r : Result Reader Halt) (expected : Reads PageReader) : Type 0 where
   pub made : IfOk r (λ reader. expected ≡ Ok (reader_of reader))
   pub halted : IfErr r (IsHalt expected)
 
--- a text is read as expected
+-- a call reads a text as expected
 pub record ReadsText (r : Result (HtmlElement × Notes) Halt)
     (expected : Reads (ElementView × pages.Notes)) : Type 0 where
   pub made : IfOk r (λ read. expected ≡ Ok (element_view read.0, notes_of read.1))
@@ -50,19 +50,19 @@ IsFault text expected (fault.NotText place) = ⊥
 IsFault text expected (fault.Refused refusal place) =
     (n : ℕ) × (expected ≡ Err (refusal, n)) × (place ≡ place_at text n)
 
--- why reading stops, as a fault
+-- the fault for the reason why reading stops
 abbrev pub fault_of : (text : List ℕ) → Halt → PageFault
 fault_of text halt.OutOfMemory = fault.OutOfMemory
 fault_of text (halt.Refused refusal place) = fault.Refused refusal (place_at text place)
 
--- an element and errors are those of the text
+-- the element and the reported errors are those of the text
 pub record IsPage (text : List ℕ) (expected : Reads (ElementView × pages.Notes)) (e : HtmlElement)
-    (told : PageNotes) : Type 0 where
+    (reported : PageNotes) : Type 0 where
   pub notes : pages.Notes
   pub read : expected ≡ Ok (element_view e, notes)
-  pub placed : ArePlaced text notes told
+  pub placed : ArePlaced text notes reported
 
--- a page is read as expected, or refused
+-- a call reads a page as expected, or fails with the expected fault
 pub record Gives (r : Result (HtmlElement × PageNotes) PageFault) (text : List ℕ)
     (expected : Reads (ElementView × pages.Notes)) : Type 0 where
   pub made : IfOk r (λ read. IsPage text expected read.0 read.1)
@@ -78,7 +78,7 @@ IsNoText page (fault.NotText place) =
     place ≡ place_at (valid_text page) (utf8_valid_len page)
 IsNoText page (fault.Refused refusal place) = ⊥
 
--- a page of bytes is read like its text, or it is no text
+-- a call reads a page of bytes like its text, or fails because the bytes are no text
 pub record GivesBytes (r : Result (HtmlElement × PageNotes) PageFault) (page : List ℕ)
     (limit : ℕ) : Type 0 where
   pub text : is_utf8 page ≡ true → Gives r (chars page) (page_read limit (chars page))

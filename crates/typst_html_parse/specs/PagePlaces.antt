@@ -1,12 +1,12 @@
--- Places in a page: lines and columns are those of the text with its CR LF and CR as LF and without a
--- byte order mark, and offsets are bytes of the text itself.
+-- Places in a page. Lines and columns are those of the text with LF for its CR LF and CR, and
+-- without a byte order mark; offsets count the bytes of the text itself.
 use Rattle.std.specs.Prelude.{ℕ, ◌+◌, Bool, false, not, ◌&&◌, ◌||◌, ◌==◌, nat_le, List, [], ◌∷◌, if◌then◌else◌}
 use Rattle.std.specs.Char.{len_utf8}
 use Rattle.typst_html_read.specs.Places.{beginning}
 use Rattle.typst_html_read.specs.declared.place.Place.{Place}
 
--- behind one more character; a line feed behind a carriage return ends no other line, and a byte
--- order mark at the beginning is no character of a line
+-- the place behind one more character; a line feed behind a carriage return ends no other line, and
+-- a byte order mark at the beginning is no character of a line
 abbrev pub next_place : (after_return : Bool) → Place → ℕ → Place
 next_place after_return p c = record {
   offset = p.offset + len_utf8 c;
@@ -15,7 +15,7 @@ next_place after_return p c = record {
       else (if c == 0xfeff && p.offset == 0 then p.column else p.column + 1);
 }
 
--- from a place on, the first place with at least that offset, or the end of the text
+-- the first place, from a given one on, with at least that offset, or else the end of the text
 abbrev pub place_from : (after_return : Bool) → Place → (text : List ℕ) → (offset : ℕ) → Place
 place_from after_return p [] offset = p
 place_from after_return p (c ∷ cs) offset = if nat_le offset p.offset then p

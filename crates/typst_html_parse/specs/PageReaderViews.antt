@@ -53,7 +53,7 @@ value_at r = tokens.Value (draft_of r.draft) (text_view r.draft.attr) (text_view
 abbrev pub raw_at : Reader → tokens.TokenState
 raw_at r = tokens.Raw (depth_of r.depth) r.run
 
--- the state before a reference
+-- the state before a reference, by its context
 abbrev pub holder_of : Holder → (value raw : tokens.TokenState) → tokens.TokenState
 holder_of holder.Data value raw = tokens.Data
 holder_of holder.Value value raw = value

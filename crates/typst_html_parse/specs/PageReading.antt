@@ -1,4 +1,4 @@
--- Reading a page as a browser does (HTML Standard 13.2), except that it stops where nodes would be
+-- Reading a page as a browser does (HTML Standard 13.2), except that it stops if nodes would be
 -- moved or made a second time.
 use Rattle.std.specs.Prelude.{ℕ, false, ◌==◌, List, [], ◌∷◌, if◌then◌else◌, Option, Some, None, Ok, Err}
 use Rattle.html_dom_tree.specs.Tree.{ElementView}
@@ -7,7 +7,7 @@ use Rattle.typst_html_parse_open.specs.Pages.{Notes, Reads, ◌next◌, first_pa
 use Rattle.typst_html_parse_open.specs.declared.fault.PageRefusal.TheVariants as refusal
 use Rattle.typst_html_parse.specs.PageTokens.{PageReader, Reading, Data, step, finished}
 
--- before a text that starts at that offset in bytes
+-- the reader before a text that starts at that offset in bytes
 abbrev pub first_reader : (limit place : ℕ) → PageReader
 first_reader limit place = record {
   state = Data;
@@ -23,13 +23,13 @@ abbrev pub run : PageReader → List ℕ → Reads PageReader
 run r [] = Ok r
 run r (c ∷ cs) = (step r c) next (λ q. run q cs)
 
--- a byte order mark is dropped
+-- the reader behind a text, without its byte order mark
 abbrev pub begun : (limit : ℕ) → List ℕ → Reads PageReader
 begun limit [] = Ok (first_reader limit 0)
 begun limit (c ∷ cs) = if c == 0xfeff then run (first_reader limit 3) cs
     else run (first_reader limit 0) (c ∷ cs)
 
--- a page has an element
+-- the element of a page and its errors, or a refusal if there is no element
 abbrev pub root_made : Option ElementView → Reading → Reads (ElementView × Notes)
 root_made None r = Err (refusal.Unsettled, r.place)
 root_made (Some root) r = Ok (root, r.page.notes)

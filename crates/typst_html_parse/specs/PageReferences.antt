@@ -20,18 +20,18 @@ is_hex_digit c = is_digit c || (nat_le 97 c && nat_le c 102) || (nat_le 65 c && 
 abbrev pub is_x : ℕ → Bool
 is_x c = (c == 120) || (c == 88)
 
--- behind `&#`
+-- whether the character belongs to the reference behind `&#` and these characters
 abbrev pub continues_number : List ℕ → ℕ → Bool
 continues_number [] c = is_digit c || is_x c
 continues_number (d ∷ ds) c = if is_x d then is_hex_digit c else is_digit c
 
--- the character belongs to the reference behind `&` and these characters
+-- whether the character belongs to the reference behind `&` and these characters
 abbrev pub continues : (since : List ℕ) → ℕ → Bool
 continues [] c = is_alphanumeric c || c == 35
 continues (s ∷ ss) c = if s == 35 then continues_number ss c else is_alphanumeric c
 
--- the characters of a reference, whether the `;` behind it belongs to it, and the errors in it:
--- that there is none, or one of its name, and one of its number
+-- the characters of a reference; whether the `;` behind it belongs to it; the error that there is
+-- no `;`, or an error of its name; and an error of its number
 pub record Resolved : Type 0 where
   pub chars : List ℕ
   pub takes_end : Bool
@@ -110,13 +110,13 @@ found_before None rest other = other
 found_before (Some found) rest other = Some (found, rest)
 
 -- the longest name without a `;`, of at most so many characters, with which the characters begin:
--- its characters, and those behind it
+-- the characters that it stands for, and those behind the name
 abbrev pub longest_legacy : (at_most : ℕ) → List ℕ → Option (List ℕ × List ℕ)
 longest_legacy zero cs = None
 longest_legacy (suc n) cs = found_before (legacy_reference (take (suc n) cs)) (drop (suc n) cs)
     (longest_legacy n cs)
 
--- in a value, a name is none if something such as this follows (13.2.5.73)
+-- whether what follows a name without a `;` in a value makes it no reference (13.2.5.73)
 abbrev pub is_followed : (rest : List ℕ) → Option ℕ → Bool
 is_followed (c ∷ cs) behind = true
 is_followed [] None = false
@@ -146,7 +146,7 @@ abbrev pub resolved_named : (in_value : Bool) (since : List ℕ) → Option ℕ 
 resolved_named in_value since behind = resolved_name in_value since behind
     (if is_end behind then named_reference since else None)
 
--- resolves a reference from the characters behind `&`, and the one behind them
+-- the result of resolving a reference, from the characters behind `&` and the one behind them
 unfoldable pub resolved : (in_value : Bool) (since : List ℕ) → Option ℕ → Resolved
 resolved in_value [] behind = itself None []
 resolved in_value (s ∷ ss) behind = if s == 35 then resolved_digits (s ∷ ss) ss behind

@@ -8,7 +8,7 @@ use Rattle.typst_html_parse.specs.declared.reader.State.TheVariants as state
 use Rattle.typst_html_parse_open.specs.Pages.{with_char}
 use Rattle.typst_html_parse_tree.specs.TakenTexts.{takes_text}
 
--- in a text
+-- the reader in text
 abbrev pub in_data : Reading → PageReader
 in_data r = record { state = Data; reading = r }
 
@@ -30,7 +30,7 @@ abbrev pub behind_stretch : List ℕ → Reading → Reading
 behind_stretch [] r = r
 behind_stretch (c ∷ cs) r = behind_stretch cs (behind_char c r)
 
--- in a value in double quotes
+-- the reader in a value in double quotes
 abbrev pub in_quotes : TagDraft → (attr value : List ℕ) → Reading → PageReader
 in_quotes tag attr value r = record { state = Value tag attr value 34; reading = r }
 
@@ -38,13 +38,13 @@ pub record IsInQuotes (r : Reader) : Type 0 where
   pub state : r.state ≡ state.Value
   pub quote : r.draft.quote ≡ 34
 
--- behind ASCII characters that change nothing else
+-- the progress behind ASCII characters that change nothing else
 abbrev pub behind_chars : List ℕ → Reading → Reading
 behind_chars [] r = r
 behind_chars (c ∷ cs) r =
     behind_chars cs (record r { place = r.place + 1; after_return = false })
 
--- some characters of the text are read, and the rest is left
+-- a call reads some characters of the text, and leaves the rest
 pub record ReadsFront (old new : PageReader) (text rest : List ℕ) : Type 0 where
   pub same : run old (chars text) ≡ run new (chars rest)
   pub place : new.reading.place + length rest ≡ old.reading.place + length text

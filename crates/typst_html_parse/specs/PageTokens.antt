@@ -25,7 +25,7 @@ use Rattle.typst_html_parse_open.specs.declared.fault.PageRefusal.TheVariants as
 use Rattle.typst_html_parse.specs.declared.comment.CommentPart.{CommentPart}
 use Rattle.typst_html_parse.specs.declared.comment.CommentPart.TheVariants as comment
 
--- a tag so far
+-- the part of a tag that is read so far
 pub record TagDraft : Type 0 where
   pub is_end : Bool
   pub name : List ℕ
@@ -42,7 +42,7 @@ pub data TokenState : Type 0 where
   AttrName : TagDraft → (attr : List ℕ) → TokenState
   AfterAttrName : TagDraft → (attr : List ℕ) → TokenState
   BeforeValue : TagDraft → (attr : List ℕ) → TokenState
-  -- a value in quotes of that kind, or, for 0, in none
+  -- in a value: the quote around it, or 0 for none
   Value : TagDraft → (attr value : List ℕ) (quote : ℕ) → TokenState
   AfterValue : TagDraft → TokenState
   -- after the `/` of a tag
@@ -66,9 +66,9 @@ pub record Reading : Type 0 where
   pub page : Page
   -- the number of bytes that were read
   pub place : ℕ
-  -- the last token was a start tag that drops a following line feed
+  -- whether the last token was a start tag that drops a following line feed
   pub fresh : Bool
-  -- the last character was a carriage return
+  -- whether the last character was a carriage return
   pub after_return : Bool
 
 pub record PageReader : Type 0 where
@@ -86,8 +86,8 @@ abbrev pub erring : PageError → Reading → Reading
 erring e r = with_notes (with_note e r.place r.page.notes) r
 
 abbrev pub erring_if : Bool → PageError → Reading → Reading
-erring_if told e r =
-    with_notes (if told then with_note e r.place r.page.notes else r.page.notes) r
+erring_if is_error e r =
+    with_notes (if is_error then with_note e r.place r.page.notes else r.page.notes) r
 
 abbrev pub with_some_note : Option PageError → (place : ℕ) → Notes → Notes
 with_some_note None place notes = notes
@@ -99,14 +99,14 @@ erring_some e r = with_notes (with_some_note e r.place r.page.notes) r
 abbrev pub stopped : {A : Type 0} → PageRefusal → Reading → Reads A
 stopped refusal r = Err (refusal, r.page.start)
 
--- a token begins at the next character
+-- marks that a token begins at the next character
 abbrev pub beginning : Reading → Reading
 beginning r = record r { page = record r.page { start = r.place } }
 
 abbrev pub emitted : Token → Reading → Reads Reading
 emitted token r = (token_read token r.page) next (λ p. Ok (record r { page = p; fresh = false }))
 
--- a character; a line feed right after such a start tag is dropped
+-- emits a character, but drops a line feed right behind a start tag that drops it
 abbrev pub char_emitted : ℕ → Reading → Reads Reading
 char_emitted c r = if r.fresh && c == 10 then Ok (record r { fresh = false })
     else emitted (Char c) r
@@ -115,7 +115,7 @@ abbrev pub chars_emitted : List ℕ → Reading → Reads Reading
 chars_emitted [] r = Ok r
 chars_emitted (c ∷ cs) r = (char_emitted c r) next chars_emitted cs
 
--- behind a start tag: within an element of text alone, or not
+-- the state behind a start tag, which depends on whether it opens an element of text alone
 abbrev pub behind_start : List OpenElement → TokenState
 behind_start stack = if is_at (of kind.Raw) stack then Raw 0 0 else Data
 
@@ -138,17 +138,17 @@ end_emitted tag closed r = (emitted (End tag.name)
 abbrev pub is_name : List ℕ → Bool
 is_name name = not (length name == 0) && list_all is_tag_char name
 
--- a complete tag
+-- emits a complete tag
 abbrev pub tag_emitted : (closed : Bool) → TagDraft → Reading → Reads PageReader
 tag_emitted closed tag r = if not (is_name tag.name) then stopped refusal.UnknownName r
     else (if tag.is_end then end_emitted tag closed r
     else start_emitted (record { name = tag.name; attrs = tag.attrs; closed = closed }) r)
 
--- the most attributes of a tag
+-- the greatest number of attributes of a tag
 abbrev pub most_attrs : ℕ
 most_attrs = 256
 
--- a complete attribute: of two with one name the first counts
+-- adds a complete attribute to the tag; of two with one name the first counts
 abbrev pub attr_added : (attr value : List ℕ) → TagDraft → Reading → Reads (TagDraft × Reading)
 attr_added attr value tag r = if is_some (attr_fault attr) then stopped refusal.UnknownName r
     else (if has_name tag.attrs attr
@@ -207,7 +207,7 @@ after_attr_name_read tag attr c r = if is_space c then goes (AfterAttrName tag a
     else (if c == 61 then goes (BeforeValue tag attr) r
     else with_attr attr [] tag r (λ t. before_attr_read t c))
 
--- these make a value without quotes look as if quotes were missing
+-- whether the character makes a value without quotes look as if quotes were missing
 abbrev pub looks_quoted : ℕ → Bool
 looks_quoted c = (c == 34) || (c == 39) || (c == 60) || (c == 61) || (c == 96)
 
@@ -244,12 +244,13 @@ self_closing_read tag c r = if c == 62 then tag_emitted true tag r
 abbrev pub begins : (front : List ℕ) → List ℕ → Bool
 begins front text = starts_with ◌==◌ text front
 
--- the markup behind `<!` may begin so: `--`, `doctype` in any case, `[CDATA[`
+-- whether markup that may stand behind `<!` begins with the text: `--`, `doctype` in any case, or
+-- `[CDATA[`
 abbrev pub begins_markup : List ℕ → Bool
 begins_markup since = begins since (codes "--") || begins (lowered since) (codes "doctype")
     || begins since (codes "[CDATA[")
 
--- a comment, unless it stands in SVG or MathML
+-- reads `<![CDATA[` as a comment, unless it stands in SVG or MathML
 abbrev pub cdata_begun : Reading → Reads PageReader
 cdata_begun r = if is_in_foreign r.page.stack then goes (Cdata 0) r
     else goes BogusComment (erring error.CdataInHtmlContent r)
@@ -302,7 +303,7 @@ part_read (Some part) r = goes (Comment part) r
 abbrev pub comment_read : CommentPart → ℕ → Reading → Reads PageReader
 comment_read part c r = part_read (next_part part c) (erring_some (comment_error part c) r)
 
--- a document type counts only before all other tokens
+-- reads a document type, which counts only before all other tokens
 abbrev pub doctype_taken : (inner : List ℕ) → Reading → Reading
 doctype_taken inner r = if is_unseen r.page.tables
     then record r { page = record r.page { tables = table_rule inner }; fresh = false }
@@ -333,12 +334,13 @@ script_depth (suc n) text c = if c == 62 && ends_in (codes "--") text then 0
 abbrev pub depth_behind : (depth : ℕ) → Page → ℕ → ℕ
 depth_behind depth p c = if is_at (of kind.Script) p.stack then script_depth depth p.text c else 0
 
--- a character of such an element's text
+-- reads a character of the text in an element of text alone
 abbrev pub raw_char_read : (depth run : ℕ) → ℕ → Reading → Reads PageReader
 raw_char_read depth run c r = (char_emitted c r)
     next goes (Raw (depth_behind depth r.page c) (min (run + 1) 255))
 
--- the closing tag of that name may end here, as no reference stands for any of it
+-- whether a closing tag of that name may end here: no reference stands for any of it, and no script
+-- in a comment is open
 abbrev pub may_end : (name : List ℕ) (depth run : ℕ) → Bool
 may_end name depth run = nat_lt depth 2 && nat_le (length (closing name)) run
 
@@ -348,7 +350,7 @@ ended_of None depth run text c = None
 ended_of (Some name) depth run text c =
     if may_end name depth run && ends_raw name text c then Some name else None
 
--- the current node's name, if its closing tag ends so
+-- the current node's name, if the character ends its closing tag
 abbrev pub ended_name : List OpenElement → (depth run : ℕ) (text : List ℕ) → ℕ → Option (List ℕ)
 ended_name stack depth run text c = ended_of (current_name stack) depth run text c
 
@@ -372,7 +374,7 @@ reference_read cs (Value tag attr value quote) r = goes (Value tag attr (value +
 reference_read cs (Raw depth run) r = (chars_emitted cs r) next goes (Raw depth 0)
 reference_read cs s r = (chars_emitted cs r) next goes Data
 
--- references lead back to these states
+-- reads a character in a state to which a reference leads back
 abbrev pub text_read_in : TokenState → ℕ → Reading → Reads PageReader
 text_read_in (Value tag attr value quote) c r = value_read tag attr value quote c r
 text_read_in (Raw depth run) c r = raw_read depth run c r
@@ -385,7 +387,7 @@ abbrev pub in_value : TokenState → Bool
 in_value (Value tag attr value quote) = true
 in_value s = false
 
--- with the errors of the reference
+-- records the errors of a reference
 abbrev pub reference_erring : Resolved → Reading → Reading
 reference_erring found r = erring_some found.error (erring_some found.missing r)
 
@@ -421,7 +423,7 @@ abbrev pub past_char : ℕ → (place : ℕ) → PageReader → PageReader
 past_char c place q =
     record q { reading = record q.reading { place = place + len_utf8 c; after_return = c == 13 } }
 
--- behind a character; a line feed behind a carriage return is part of it (13.2.3.5)
+-- reads a character; a line feed behind a carriage return is part of it (13.2.3.5)
 abbrev pub step : PageReader → ℕ → Reads PageReader
 step q c = if c == 0 then Err (refusal.NullCharacter, q.reading.place)
     else (if c == 10 && q.reading.after_return then Ok (record q {
@@ -432,7 +434,7 @@ step q c = if c == 0 then Err (refusal.NullCharacter, q.reading.place)
     })
     else (moved q.state (if c == 13 then 10 else c) q.reading) next (λ p. Ok (past_char c q.reading.place p)))
 
--- the end of the text
+-- emits the characters of a reference at the end of the text
 abbrev pub end_chars_emitted : Resolved → Reading → Reads Reading
 end_chars_emitted found r = chars_emitted found.chars (reference_erring found r)
 

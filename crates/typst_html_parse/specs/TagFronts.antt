@@ -8,19 +8,19 @@ use Rattle.typst_html_parse_open.specs.OpenElements.{current_name}
 use Rattle.typst_html_parse_open.specs.Pages.{Reads, ◌next◌, closed}
 use Rattle.typst_html_parse_tree.specs.OwnEnds.{takes_own_end}
 
--- after `<`, or `</`
+-- the state after `<` or `</`
 abbrev pub tag_open : (is_end : Bool) → TokenState
 tag_open true = EndTagOpen
 tag_open false = TagOpen
 
--- behind the name of a tag
+-- the reader behind the name of a tag
 abbrev pub in_name : (is_end : Bool) (name : List ℕ) → Reading → PageReader
 in_name is_end name r = record {
   state = TagName (record { is_end = is_end; name = name; attrs = [] });
   reading = behind_chars name r;
 }
 
--- the text begins with the name and the `>` of the current node's end tag, which only closes the node
+-- the text begins with the name and the `>` of the current node's end tag, which only closes it
 pub record EndsOwn (r : Reading) (text rest : List ℕ) : Type 0 where
   pub name : List ℕ
   pub current : current_name r.page.stack ≡ Some name
@@ -29,7 +29,7 @@ pub record EndsOwn (r : Reading) (text rest : List ℕ) : Type 0 where
   pub are : all is_name_char name ≡ true
   pub begins : BeginsWith (name ++ 62 ∷ []) text rest
 
--- behind so many more characters, which close the current node
+-- the reader behind so many more characters, with which the current node's end tag closes it
 abbrev pub behind_own_end : (length : ℕ) → Reading → Reads PageReader
 behind_own_end length r = (closed true r.page) next (λ p. Ok (in_data (record {
   page = p;

@@ -19,10 +19,10 @@ use html_names::{HtmlAttr, HtmlTag, NameFault};
 use std::alloc::{AllocError, Global};
 use typst_html_parse_open::{Halt, PageError, PageRefusal};
 
-/// The most attributes of a tag.
+/// The greatest number of attributes of a tag.
 const MOST_ATTRS: usize = 256;
 
-/// A tag so far, and its current attribute.
+/// The part of a tag that is read so far, and its current attribute.
 #[derive(Drop)]
 pub(crate) struct Draft {
     pub(crate) is_end: bool,

@@ -1,4 +1,4 @@
-//! Why a page is not read, and the errors from which the reader recovers.
+//! The reasons for which a page is not read, and the errors from which the reader recovers.
 
 ghost use Rattle.std.specs.Prelude.{◌≡◌};
 ghost use Rattle.typst_html_parse.specs.PageFaults.{number_of};
@@ -9,9 +9,9 @@ use thiserror::Error;
 use typst_html_parse_open::{PageError, PageRefusal};
 use typst_html_read::Place;
 
-/// Why a page was not read. Offsets of places are in bytes of the given page; a line ends with a
-/// line feed, a carriage return or both in that order, and a byte order mark at the beginning is no
-/// character of the first.
+/// The reason why a page was not read. Offsets of places are in bytes of the given page; a line
+/// ends with a line feed, a carriage return or both in that order, and a byte order mark at the
+/// beginning is no character of the first.
 #[derive(Clone, Copy, Debug, PartialEq, Eq, Error)]
 pub enum PageFault {
     /// An allocation failed.
@@ -33,7 +33,8 @@ pub enum PageFault {
     },
 }
 
-/// An error of a page from which the reader recovered, with its place, given as in [`PageFault`].
+/// An error of a page from which the reader recovered, and its place, with the units of
+/// [`PageFault`].
 #[derive(Clone, Copy, Debug, PartialEq, Eq)]
 pub struct PageNote {
     /// The error.
@@ -52,8 +53,8 @@ pub struct PageNotes {
 }
 
 impl PageFault {
-    /// Returns the fault's number: 0 for out of memory, 25 for bytes that are no text, like a text
-    /// with another syntax, and otherwise that of the refusal.
+    /// Returns the fault's number: 0 if an allocation failed, 25 for bytes that are no text, like a
+    /// text with another syntax, and otherwise that of the refusal.
     pub fn number(&self) -> u8
         ensures { result ≡ number_of self.now }
     {

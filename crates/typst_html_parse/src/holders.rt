@@ -120,8 +120,8 @@ impl Reader {
                 reading.emit_brackets(self.brackets)?;
             }
             State::Raw => {
-                let told = !matches!(self.depth, Depth::Outside);
-                reading.note_if(told, PageError::EofInScriptHtmlCommentLikeText)?;
+                let is_error = !matches!(self.depth, Depth::Outside);
+                reading.note_if(is_error, PageError::EofInScriptHtmlCommentLikeText)?;
             }
             State::Reference => self.leave_reference()?,
             State::TagName

@@ -14,7 +14,7 @@ pub(crate) struct Legacy<'a> {
 }
 
 impl Legacy<'_> {
-    /// Returns whether in a value something follows that makes the name none.
+    /// Returns whether what follows the name in a value makes it no reference.
     pub(crate) fn is_followed(&self, behind: Option<char>) -> bool
         ensures { result ≡ references.is_followed (chars self.now.rest.now) behind }
     {

@@ -86,7 +86,7 @@ impl<'a> Places<'a> {
     /// Takes time linear in the distance from the place that was returned before, or from the
     /// beginning, if it lies before that.
     pub fn at(&mut self, offset: usize) -> Place
-        ensures told { result ≡ places.place_at (text_of self.old) offset }
+        ensures place { result ≡ places.place_at (text_of self.old) offset }
         ensures text { text_of self.new ≡ text_of self.old }
     {
         let begun = self.begun_before(offset);
@@ -108,7 +108,7 @@ impl<'a> Places<'a> {
 
     fn moved_to(self, offset: usize) -> Places<'a>
         requires { self.place.offset ≤ offset }
-        ensures told { result.place ≡ places.place_at (text_of self.entry) offset }
+        ensures place { result.place ≡ places.place_at (text_of self.entry) offset }
         ensures text { text_of result ≡ text_of self.entry }
     {
         let Places {

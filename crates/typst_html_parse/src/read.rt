@@ -21,7 +21,7 @@ const BYTE_ORDER_MARK: char = '\u{feff}';
 ///
 /// Reads as HTML Standard 13.2 says, with scripting disabled, and recovers from the errors that
 /// browsers recover from. Comments and document types leave nothing in the element. Refuses a page
-/// where a browser would move nodes, make them a second time, or change a complete element;
+/// if a browser would move nodes of it, make them a second time, or change a complete element;
 /// [`PageRefusal`] lists the cases.
 ///
 /// The span of an element is the offset in bytes of the `<` of its start tag, or of the tag or the
@@ -102,7 +102,7 @@ pub fn read_page_bytes(
     }
 }
 
-/// Returns why a text is not read.
+/// Returns the fault for a text that is not read.
 fn fault_of(text: &str, halt: Halt) -> PageFault
     ensures { result ≡ fault_of (chars text.now) halt }
 {

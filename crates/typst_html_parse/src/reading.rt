@@ -17,9 +17,9 @@ pub(crate) struct Reading {
     pub(crate) page: Page,
     /// The number of bytes that were read.
     pub(crate) place: usize,
-    /// The last token was a start tag that drops a following line feed.
+    /// Whether the last token was a start tag that drops a following line feed.
     pub(crate) fresh: bool,
-    /// The last character was a carriage return.
+    /// Whether the last character was a carriage return.
     pub(crate) after_return: bool,
 }
 
@@ -31,11 +31,11 @@ impl Reading {
         self.page.notes.add(error, self.place)
     }
 
-    pub(crate) fn note_if(&mut self, told: bool, error: PageError) -> Result<(), AllocError>
+    pub(crate) fn note_if(&mut self, is_error: bool, error: PageError) -> Result<(), AllocError>
         ensures { OnOk result (reading_of self.new
-            ≡ tokens.erring_if told error (reading_of self.old)) }
+            ≡ tokens.erring_if is_error error (reading_of self.old)) }
     {
-        if told { self.note(error) } else { Ok(()) }
+        if is_error { self.note(error) } else { Ok(()) }
     }
 
     pub(crate) fn note_some(&mut self, error: Option<PageError>) -> Result<(), AllocError>

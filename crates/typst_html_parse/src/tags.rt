@@ -14,7 +14,8 @@ use typst_html_parse_open::{Halt, PageError, PageRefusal, StartTag, TagName, Tok
 use typst_html_parse_tree::is_space;
 
 impl Reader {
-    /// Enters the content behind a start tag: that of an element of text alone, or not.
+    /// Sets the state for the content behind a start tag, which depends on whether it is text
+    /// alone.
     fn enter(&mut self, drops_feed: bool)
         ensures { reader_of self.new ≡ tokens.behind_start_tag drops_feed
             (reading_of self.old.reading) }
@@ -52,8 +53,9 @@ impl Reader {
         ensures { Moves result (tokens.end_emitted (record (draft_of self.old.draft) { name = name.tag })
             closed (reading_of self.old.reading)) (reader_of self.new) }
     {
-        let told = !self.draft.attrs.0.is_empty();
-        self.reading.note_if(told, PageError::EndTagWithAttributes)?;
+        let is_error = !self.draft.attrs.0.is_empty();
+        self.reading
+            .note_if(is_error, PageError::EndTagWithAttributes)?;
         self.reading
             .note_if(closed, PageError::EndTagWithTrailingSolidus)?;
         self.reading.emit(Token::End(name))?;

@@ -98,9 +98,9 @@ impl Reader {
         ensures { Moves result (tokens.after_value_read (draft_of self.old.draft) c
             (reading_of self.old.reading)) (reader_of self.new) }
     {
-        let told = !(is_space(c) || c == '/' || c == '>');
+        let is_error = !(is_space(c) || c == '/' || c == '>');
         self.reading
-            .note_if(told, PageError::MissingWhitespaceBetweenAttributes)?;
+            .note_if(is_error, PageError::MissingWhitespaceBetweenAttributes)?;
         self.before_attr(c)
     }
 }

@@ -48,8 +48,8 @@ with_capitals_at table small text n k d s r a at e =
     let names = texts table in
     let long : length (map lowered names) ≡ length names = length-map names lowered in
     let within : n < length names = omega (arith, ap length s, long, at.0) in
-    let told : n < length table = omega (arith, within, length-map table (λ b. b.now)) in
-    let is : get_or names n [] ≡ (get_or table k d).now = rw e (get_or-map (λ b. b.now) table n d [] told) in
+    let agrees : n < length table = omega (arith, within, length-map table (λ b. b.now)) in
+    let is : get_or names n [] ≡ (get_or table k d).now = rw e (get_or-map (λ b. b.now) table n d [] agrees) in
     let same : lowered (get_or names n []) ≡ text =
     sym (get_or-map lowered names n [] [] within) ∙ rw s at at.1 in
     let found = find_at names text n (rw s at r) within same in

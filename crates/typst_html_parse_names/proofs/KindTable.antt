@@ -10,7 +10,7 @@ use Rattle.typst_html_parse_names.specs.declared.kind.Kind.{Kind}
 use Rattle.typst_html_parse_names.specs.declared.kind.Kind.TheVariants as kind
 use Rattle.typst_html_parse_names.specs.declared.kind_table.TheConstants.{NAMES, KIND_BITS, STARTS}
 
--- two tables that a test of each tells apart nowhere, at one place
+-- two tables that no test of an entry tells apart, at one index
 at_place : {A B C : Type 0} (f : A → C) (g : B → C) (as' : List A) (bs : List B) (a : A) (b : B)
     (n : ℕ) → map f as' ≡ map g bs → n < length bs → f (get_or as' n a) ≡ g (get_or bs n b)
 at_place f g as' [] a b n e h = absurd (omega arith)

@@ -83,7 +83,7 @@ second_of : (m n t : List ℕ) → bytes_eq t m ≡ false → stands_in (m ∷ n
 unfolding stands_in
 second_of m n t other = rw (bytes_eq-sym m t, other, bytes_eq-sym n t) (or-false (bytes_eq t n))
 
--- what comparisons with the two media types tell
+-- what follows from comparisons with the two media types
 pub first_encoding : (t : List ℕ) → true ≡ bytes_eq t (chars (codes "application/xhtml+xml")) →
     true ≡ is_html_encoding t
 unfolding is_html_encoding chars

@@ -6,7 +6,7 @@ use Rattle.html_names.specs.Characters.{all, is_tag_char, is_attr_char}
 use Rattle.html_names.specs.Names.{is_ascii}
 use Rattle.typst_html_parse_names.specs.ForeignNames.{with_capitals}
 
--- a text that may be the name of a tag and of an attribute
+-- whether a text may be the name of a tag and of an attribute
 abbrev pub is_name : List ℕ → Bool
 is_name [] = false
 is_name (c ∷ cs) = all is_tag_char (c ∷ cs) && all is_attr_char (c ∷ cs) && is_ascii (c ∷ cs)

@@ -41,14 +41,14 @@ math_attrs = listed_names (codes "definitionURL")
 abbrev pub with_capitals : List (List ℕ) → List ℕ → List ℕ
 with_capitals names name = unwrap_or (find (λ n. bytes_eq (lowered n) name) names) name
 
--- a `font` with one of these attributes closes SVG and MathML (13.2.6.5)
+-- whether a `font` with an attribute of that name closes SVG and MathML (13.2.6.5)
 unfoldable pub is_font_attr : List ℕ → Bool
 is_font_attr name = stands_in (listed_names (codes "color face size")) name
 
--- the attribute with the media type of an `annotation-xml`'s content
+-- whether the attribute of that name has the media type of an `annotation-xml`'s content
 unfoldable pub is_encoding : List ℕ → Bool
 is_encoding name = stands_in (listed_names (codes "encoding")) name
 
--- media types of HTML for the content of `annotation-xml`
+-- whether the value is a media type of HTML for the content of an `annotation-xml`
 unfoldable pub is_html_encoding : List ℕ → Bool
 is_html_encoding value = stands_in (listed_names (codes "application/xhtml+xml text/html")) value

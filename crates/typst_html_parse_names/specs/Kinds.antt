@@ -74,13 +74,13 @@ kind_place kind.SvgHtml = 62
 abbrev pub kind_bit : Kind → ℕ
 kind_bit k = 2 ^ kind_place k
 
--- the kind is among those of the bits
+-- whether the kind is among those of the bits
 abbrev pub has_bit : Kind → (bits : ℕ) → Bool
 has_bit k bits = not (bit_and bits (kind_bit k) == 0)
 
 abbrev pub has : Kinds → Kind → Bool
 has ks k = has_bit k ks.bits
 
--- they are the kinds of the name
+-- the kinds are those of the name
 abbrev pub IsKindsOf : (name : List ℕ) → Kinds → Type 0
 IsKindsOf name ks = (k : Kind) → has ks k ≡ of k name

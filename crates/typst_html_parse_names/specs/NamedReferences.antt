@@ -9,7 +9,7 @@ use Rattle.typst_html_parse_names.specs.ReferenceRows.{legacy_groups, other_grou
 unfoldable pub value_in_groups : List (List Row) → (name : List ℕ) → Option (List ℕ)
 value_in_groups groups = value_in (flat_map (λ rows. rows) groups)
 
--- the characters for a name without a `;` behind it, which some may lack
+-- the characters for a name that may stand without a `;` behind it
 unfoldable pub legacy_reference : (name : List ℕ) → Option (List ℕ)
 legacy_reference name = value_in_groups legacy_groups name
 

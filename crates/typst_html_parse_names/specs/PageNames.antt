@@ -5,7 +5,7 @@ use Rattle.html_names.specs.Names.{listed_names, stands_in}
 use Rattle.typst_html_parse_names.specs.declared.kind.Kind.{Kind}
 use Rattle.typst_html_parse_names.specs.declared.kind.Kind.TheVariants as kind
 
--- is that name
+-- whether two names are equal
 abbrev pub is : (name : List ℕ) → List ℕ → Bool
 is name n = bytes_eq n name
 
@@ -46,11 +46,11 @@ kind_names kind.Tr = listed_names (codes "tr")
 kind_names kind.Root = listed_names (codes "body html")
 -- elements that the reader does not support
 kind_names kind.Unread = listed_names (codes "frameset plaintext template")
--- in the head, elements without an end tag
+-- elements in the head without an end tag
 kind_names kind.HeadLeaf = listed_names (codes "base basefont bgsound link meta")
 -- RCDATA: text in which references are read
 kind_names kind.EscapableRaw = listed_names (codes "textarea title")
--- these, RAWTEXT and script data: elements of text alone
+-- elements of text alone: RCDATA, RAWTEXT and script data
 kind_names kind.Raw = listed_names (codes "iframe noembed noframes script style textarea title xmp")
 kind_names kind.ScriptOrStyle = listed_names (codes "script style")
 -- the content of the head, which begins no body (13.2.6.4.4)
@@ -65,21 +65,21 @@ kind_names kind.Formatting =
 kind_names kind.Marker = listed_names (codes "applet caption marquee object td th")
 -- elements that only their own end tag closes
 kind_names kind.Whole = listed_names (codes "applet form marquee object")
--- in the body, elements without an end tag
+-- elements in the body without an end tag
 kind_names kind.Leaf =
     listed_names (codes "area br embed hr img input keygen param source track wbr")
 kind_names kind.Heading = listed_names (codes "h1 h2 h3 h4 h5 h6")
--- their end tags close everything open in them (13.2.6.4.7)
+-- elements whose end tags close everything open in them (13.2.6.4.7)
 kind_names kind.ClosesInScope =
     listed_names (codes "address applet article aside blockquote button center details dialog dir")
     ++ listed_names (codes "div dl fieldset figcaption figure footer header hgroup listing main")
     ++ listed_names (codes "marquee menu nav object ol pre search section select summary ul")
--- their start tags close a `p`
+-- elements whose start tags close a `p`
 kind_names kind.ClosesP =
     listed_names (codes "address article aside blockquote center dd details dialog dir div dl dt")
     ++ listed_names (codes "fieldset figcaption figure footer form h1 h2 h3 h4 h5 h6 header hgroup")
     ++ listed_names (codes "hr li listing main menu nav ol p pre search section summary ul xmp")
--- no formatting elements are made again before their start tags
+-- elements before whose start tags no formatting elements are made again
 kind_names kind.Unformatted =
     listed_names (codes "address article aside blockquote center dd details dialog dir div dl dt")
     ++ listed_names (codes "fieldset figcaption figure footer form h1 h2 h3 h4 h5 h6 header hgroup")
@@ -90,7 +90,7 @@ kind_names kind.Implied = listed_names (codes "dd dt li optgroup option p rb rp 
 -- sections of a table
 kind_names kind.Section = listed_names (codes "tbody tfoot thead")
 kind_names kind.TablePart = listed_names (codes "caption col colgroup tbody td tfoot th thead tr")
--- start tags that are ignored in a body
+-- elements whose start tags are ignored in a body
 kind_names kind.Misplaced =
     listed_names (codes "caption col colgroup frame head tbody td tfoot th thead tr")
 -- elements that an end tag of another name does not cross (13.2.4.2)
@@ -105,26 +105,26 @@ kind_names kind.Special =
 -- elements that bound a scope (13.2.4.2)
 kind_names kind.BoundsScope =
     listed_names (codes "applet caption html marquee object select table td template th")
--- and those that bound that of a list item beside
+-- elements that bound only the scope of a list item
 kind_names kind.BoundsList = listed_names (codes "ol ul")
 -- special elements that do not end the search for a list item
 kind_names kind.PassedByItems = listed_names (codes "address div p")
 kind_names kind.RubyPart = listed_names (codes "rb rp rt rtc")
 kind_names kind.RubyText = listed_names (codes "rp rt")
--- a line feed behind their start tag is dropped
+-- elements behind whose start tag a line feed is dropped
 kind_names kind.DropsFeed = listed_names (codes "listing pre textarea")
--- start tags that close SVG and MathML (13.2.6.5)
+-- elements whose start tags close SVG and MathML (13.2.6.5)
 kind_names kind.Breakout =
     listed_names (codes "b big blockquote body br center code dd div dl dt em embed h1 h2 h3 h4 h5")
     ++ listed_names (codes "h6 head hr i img li listing menu meta nobr ol p pre ruby s small span")
     ++ listed_names (codes "strike strong sub sup table tt u ul var")
--- start tags that are read as MathML in the text of MathML
+-- elements whose start tags are read as MathML in the text of MathML
 kind_names kind.Glyph = listed_names (codes "malignmark mglyph")
 -- elements of MathML in which text and elements of HTML stand
 kind_names kind.MathText = listed_names (codes "mi mn mo ms mtext")
--- and of SVG
+-- elements of SVG in which text and elements of HTML stand
 kind_names kind.SvgHtml = listed_names (codes "desc foreignObject title")
 
--- the name is one of the kind
+-- whether the name is one of the kind
 unfoldable pub of : Kind → (name : List ℕ) → Bool
 of kind name = stands_in (kind_names kind) name

@@ -21,7 +21,7 @@ row_of text = (
   map (digits_value 16) (slice_split is_plus (after_first is_equals text)),
 )
 
--- the rows of a text, with one space between
+-- the rows of a text, which one space separates
 abbrev pub rows_of : List ℕ → List Row
 rows_of text = map row_of (listed_names text)
 

@@ -13,7 +13,7 @@ rows_view names (r ∷ rs) =
     (take r.name_length names, r.first ∷ option_to_list r.second)
     ∷ rows_view (drop r.name_length names) rs
 
--- the names have the lengths that the references say
+-- whether the names have the lengths that the references state
 abbrev pub are_as_long : (names : List ℕ) → List Reference → Bool
 are_as_long names [] = true
 are_as_long names (r ∷ rs) =
@@ -35,8 +35,8 @@ abbrev pub begins_with : (letter : ℕ) (name : List ℕ) → Bool
 begins_with letter [] = false
 begins_with letter (c ∷ cs) = c == letter
 
--- ASCII names: those of the first group begin with that letter, and those of each other group with
--- the next one
+-- whether all names are ASCII, those of the first group begin with that letter, and those of each
+-- other group with the next one
 abbrev pub are_grouped : (letter : ℕ) → List (List Row) → Bool
 are_grouped letter [] = true
 are_grouped letter (rows ∷ groups) =

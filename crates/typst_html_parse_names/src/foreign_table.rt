@@ -47,7 +47,7 @@ macro_rules! tag_rows {
     };
 }
 
-/// Does the same for each attribute of SVG that has capitals.
+/// Passes to the macro `$column` a row for each attribute of SVG that has capitals.
 macro_rules! attr_rows {
     ($column:ident) => {
         $column! {

@@ -23,12 +23,12 @@ abbrev pub some_or : Option Mode → Option Mode → Option Mode
 some_or None m = m
 some_or (Some m) n = Some m
 
--- the mode that the innermost of them with a mode sets
+-- the mode that the innermost element with a mode sets
 abbrev pub brought_mode : List OpenElement → Option Mode
 brought_mode [] = None
 brought_mode (o ∷ os) = some_or (own_mode o os) (brought_mode os)
 
--- the mode if none of them sets one: it depends on the root only
+-- the mode if no element sets one: it depends on the root only
 abbrev pub root_mode : List OpenElement → Mode
 root_mode [] = BeforeHtml
 root_mode (o ∷ []) = html_mode o.children
@@ -37,7 +37,7 @@ root_mode (o ∷ p ∷ ps) = root_mode (p ∷ ps)
 abbrev pub context : List OpenElement → Context
 context os = record { mode = brought_mode os; has_paragraph = in_scope Button (of kind.P) os }
 
--- at each of them, innermost first
+-- the facts about each element, innermost first
 abbrev pub contexts : List OpenElement → List Context
 contexts [] = []
 contexts (o ∷ os) = context (o ∷ os) ∷ contexts os
@@ -45,7 +45,7 @@ contexts (o ∷ os) = context (o ∷ os) ∷ contexts os
 abbrev pub context_of : PageElement → Context
 context_of e = e.context
 
--- each element, the last of them the innermost, has the facts about it
+-- each element has the facts about it; the innermost is the last
 abbrev pub AreKnown : List PageElement → Type 0
 AreKnown es = reverse (map context_of es) ≡ contexts (list_of es)
 

@@ -8,6 +8,6 @@ abbrev pub element_of : PageElement → OpenElement
 element_of e = let v = element_view e.element in
     record { head = v.0; space = e.space; children = v.1 }
 
--- innermost first
+-- the open elements, innermost first
 abbrev pub list_of : List PageElement → List OpenElement
 list_of es = reverse (map element_of es)

@@ -1,5 +1,5 @@
--- How steps end: with the expected page or turn, or with the expected refusal; out of memory may
--- come before.
+-- The results of steps: the expected page or turn, or the expected refusal. An allocation may fail
+-- before either.
 use Rattle.std.specs.Prelude.{◌≡◌, Option, Some, None, option_map, Result, Ok, Err, OnOk, IfOk, IfErr}
 use Rattle.html_dom_tree.specs.Views.{element_view}
 use Rattle.html_dom_tree.specs.declared.node.HtmlElement.{HtmlElement}
@@ -11,32 +11,32 @@ use Rattle.typst_html_parse_open.specs.declared.fault.Halt.TheVariants.{OutOfMem
 use Rattle.typst_html_parse_open.specs.declared.notes.Notes.{Notes}
 use Rattle.typst_html_parse_open.specs.declared.token.Token.{Token}
 
--- reading stops as expected, unless memory ran out
+-- reading stops as expected, unless an allocation failed
 abbrev pub IsHalt : {A : Type 0} → Reads A → Halt → Type 0
 IsHalt expected OutOfMemory = Unit {0}
 IsHalt expected (Refused refusal place) = expected ≡ Err (refusal, place)
 
--- a page changes as expected
+-- a step changes a page as expected
 pub record Steps (r : Result (Unit {0}) Halt) (expected : Reads Page) (new : Page) : Type 0 where
   pub made : OnOk r (expected ≡ Ok new)
   pub halted : IfErr r (IsHalt expected)
 
--- a page changes so, unless memory ran out
+-- a step changes a page as expected, and fails only if an allocation fails
 pub record Changes (r : Result (Unit {0}) Halt) (expected new : Page) : Type 0 where
   pub made : OnOk r (new ≡ expected)
   pub halted : IfErr r (λ e. e ≡ OutOfMemory)
 
--- the token that is processed again, if one is
+-- the turn, from the token that is processed again, if any
 abbrev pub turn_of : Option Token → Page → Turn
 turn_of None p = Taken p
 turn_of (Some token) p = Again p (token_of token)
 
--- a mode handles a token as expected
+-- the rules of a mode handle a token as expected
 pub record Turns (r : Result (Option Token) Halt) (expected : Reads Turn) (new : Page) : Type 0 where
   pub made : IfOk r (λ again. expected ≡ Ok (turn_of again new))
   pub halted : IfErr r (IsHalt expected)
 
--- a page is read to its end: the root is made, and the errors are returned
+-- a call reads a page to its end, and returns its root and its errors
 pub record Finishes (r : Result (Option HtmlElement × Notes) Halt) (p : Page) : Type 0 where
   pub root : IfOk r (λ read. option_map element_view read.0 ≡ root_of (settled p).stack)
   pub notes : IfOk r (λ read. notes_of read.1 ≡ p.notes)

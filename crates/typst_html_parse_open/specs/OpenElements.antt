@@ -22,20 +22,20 @@ abbrev pub is_html : Space → Bool
 is_html Html = true
 is_html space = false
 
--- an element of HTML with such a name
+-- whether the element is one of HTML whose name passes the test
 abbrev pub is_of : (test : List ℕ → Bool) → OpenElement → Bool
 is_of test o = is_html o.space && test o.head.name
 
--- an element of SVG or MathML with that name, in lowercase
+-- whether the element is one of SVG or MathML with that name, in lowercase
 abbrev pub is_foreign_of : (name : List ℕ) → OpenElement → Bool
 is_foreign_of name o = not (is_html o.space) && bytes_eq (lowered o.head.name) name
 
--- the current node is a goal
+-- whether the current node is a goal
 abbrev pub at : (goal : OpenElement → Bool) → List OpenElement → Bool
 at goal [] = false
 at goal (o ∷ os) = goal o
 
--- the current node is one
+-- whether the current node is an element of HTML whose name passes the test
 abbrev pub is_at : (test : List ℕ → Bool) → List OpenElement → Bool
 is_at test = at (is_of test)
 
@@ -44,20 +44,20 @@ abbrev pub current_space : List OpenElement → Space
 current_space [] = Html
 current_space (o ∷ os) = o.space
 
--- the current node is one of SVG or MathML
+-- whether the current node is an element of SVG or MathML
 abbrev pub is_in_foreign : List OpenElement → Bool
 is_in_foreign = at (λ o. not (is_html o.space))
 
--- a search from the current node outwards reaches a goal before a bound
+-- whether a search from the current node outwards reaches a goal before a bound
 abbrev pub reaches : (goal bound : OpenElement → Bool) → List OpenElement → Bool
 reaches goal bound [] = false
 reaches goal bound (o ∷ os) = goal o || (not (bound o) && reaches goal bound os)
 
--- an open element is one
+-- whether any open element is one of HTML whose name passes the test
 abbrev pub has : (test : List ℕ → Bool) → List OpenElement → Bool
 has test = reaches (is_of test) (λ o. false)
 
--- an element of SVG or MathML that bounds scopes, and is special
+-- whether an element of SVG or MathML bounds scopes, and is special
 abbrev pub is_foreign_bound : Space → (name : List ℕ) → Bool
 is_foreign_bound Html name = false
 is_foreign_bound Svg name = of kind.SvgHtml name
@@ -72,23 +72,23 @@ bounds ListItem o = is_of (of kind.BoundsList) o || bounds_general o
 bounds Button o = is_of (of kind.Button) o || bounds_general o
 bounds Table o = is_of (λ n. of kind.Html n || of kind.Table n || of kind.Template n) o
 
--- one is in scope: no other element that bounds the scope is inside it
+-- whether such an element is in scope: no other element that bounds the scope is inside it
 abbrev pub in_scope : Scope → (test : List ℕ → Bool) → List OpenElement → Bool
 in_scope scope test = reaches (is_of test) (bounds scope)
 
 abbrev pub is_special : OpenElement → Bool
 is_special o = is_of (of kind.Special) o || is_foreign_bound o.space o.head.name
 
--- one is open, with no special element inside it
+-- whether such an element is open, with no special element inside it
 abbrev pub is_near : (test : List ℕ → Bool) → List OpenElement → Bool
 is_near test = reaches (is_of test) is_special
 
--- one is open, with no element inside it that hides it
+-- whether such an element is open, with no element inside it that hides it
 abbrev pub is_active : (test : List ℕ → Bool) → List OpenElement → Bool
 is_active test = reaches (is_of test) (is_of (of kind.Marker))
 
--- the same of an item, in which `address`, `div` and `p` may stand (13.2.6.4.7, start tags of `li`,
--- `dd`, `dt`)
+-- whether an element ends the search for an item: `address`, `div` and `p` do not (13.2.6.4.7,
+-- start tags of `li`, `dd`, `dt`)
 abbrev pub bounds_item : OpenElement → Bool
 bounds_item o = is_special o && not (is_of (of kind.PassedByItems) o)
 
@@ -109,7 +109,7 @@ named_mode name below = if of kind.Cell name then Some InCell
     else (if of kind.Noscript name && is_at (of kind.Head) below then Some InHeadNoscript
     else None)))))))))
 
--- any of them is an element
+-- whether any of the nodes is an element
 abbrev pub has_elements : NodesView → Bool
 has_elements none = false
 has_elements (node (tag_node t) ns) = has_elements ns
@@ -117,7 +117,7 @@ has_elements (node (text_node text span) ns) = has_elements ns
 has_elements (node (element_node h children) ns) = true
 has_elements (node (frame_node f) ns) = has_elements ns
 
--- within `html`, outside of head and body
+-- the mode within `html`, outside of head and body
 abbrev pub html_mode : NodesView → Mode
 html_mode children = if has_elements children then AfterHead else BeforeHead
 
@@ -144,13 +144,13 @@ completed o = element_node o.head o.children
 abbrev pub with_last_child : NodeView → OpenElement → OpenElement
 with_last_child child o = record o { children = with_last o.children child }
 
--- the current node is complete, unless it is the root
+-- completes the current node, unless it is the root
 abbrev pub without_current : List OpenElement → List OpenElement
 without_current [] = []
 without_current (o ∷ []) = o ∷ []
 without_current (o ∷ p ∷ ps) = with_last_child (completed o) p ∷ ps
 
--- all of them are complete
+-- the root, with all open elements complete
 abbrev pub all_completed : OpenElement → List OpenElement → ElementView
 all_completed o [] = (o.head, o.children)
 all_completed o (p ∷ ps) = all_completed (with_last_child (completed o) p) ps

@@ -1,4 +1,5 @@
--- The numbers of refusals of pages. Those below 26 belong to faults of writing; one fits.
+-- The numbers of refusals of pages. Numbers below 26 belong to faults of writing; one of these also
+-- numbers a refusal.
 use Rattle.std.specs.Prelude.{ℕ}
 use Rattle.typst_html_parse_open.specs.declared.fault.PageRefusal.{PageRefusal}
 use Rattle.typst_html_parse_open.specs.declared.fault.PageRefusal.TheVariants as refusal

@@ -1,5 +1,5 @@
--- The state of a page that is being read, and the steps that its tokens take: elements are opened
--- and closed (HTML Standard 13.2.4 and 13.2.6).
+-- The state of a page that is being read, and the steps that its tokens take: they open and close
+-- elements (HTML Standard 13.2.4 and 13.2.6).
 use Rattle.std.specs.Prelude.{ℕ, zero, suc, ◌+◌, min, Bool, true, false, not, ◌&&◌, ◌||◌, nat_lt, nat_le, List, [], ◌∷◌, ◌++◌, length, if◌then◌else◌, bytes_eq, Option, Some, None, Result, Ok, Err}
 use Rattle.html_dom_tree.specs.Tree.{TextPair, Head, none}
 use Rattle.typst_html_parse_open.specs.OpenElements.{OpenElement, at, is_of, is_at, in_scope, with_last_text, without_current}
@@ -15,8 +15,8 @@ use Rattle.typst_html_parse_open.specs.declared.modes.Space.TheVariants.{Html}
 use Rattle.typst_html_parse_open.specs.declared.modes.TableRule.{TableRule}
 use Rattle.typst_html_parse_open.specs.declared.modes.TableRule.TheVariants as rule
 
--- the recovered errors: their number (at most that of 32 bits), and the first ten, each with its
--- offset in bytes
+-- the errors that the reader recovered from: their number (at most that of 32 bits), and the first
+-- ten, each with its offset in bytes
 pub record Notes : Type 0 where
   pub count : ℕ
   pub first : List (PageError × ℕ)
@@ -57,7 +57,7 @@ first_page limit = record {
 pub record StartTag : Type 0 where
   pub name : List ℕ
   pub attrs : List TextPair
-  -- it ends in `/>`
+  -- whether it ends in `/>`
   pub closed : Bool
 
 pub data Token : Type 0 where
@@ -67,7 +67,7 @@ pub data Token : Type 0 where
   -- the end of the page
   Finish : Token
 
--- the result of a token, or why the page is not read, with the offset of the place in bytes
+-- the result of a token, or the refusal of the page, with the offset of its place in bytes
 abbrev pub Reads : Type 0 → Type 0
 Reads A = Result A (PageRefusal × ℕ)
 
@@ -84,7 +84,7 @@ abbrev pub noted : PageError → Page → Page
 noted e p = record p { notes = with_note e p.start p.notes }
 
 abbrev pub noted_if : Bool → PageError → Page → Page
-noted_if told e p = if told then noted e p else p
+noted_if is_error e p = if is_error then noted e p else p
 
 abbrev pub with_char : ℕ → Page → Page
 with_char c p = record p { text = p.text ++ c ∷ [] }
@@ -102,7 +102,8 @@ with_element o p = record p {
   lost = if is_of (of kind.Marker) o then None ∷ p.lost else p.lost;
 }
 
--- an element as its tag makes it; its span is the offset in bytes of the token that opens it
+-- the head of an element that a tag makes; its span is the offset in bytes of the token that opens
+-- it
 abbrev pub page_head : (name : List ℕ) → List TextPair → (start : ℕ) → Head
 page_head name attrs start = record {
   name = name;
@@ -122,20 +123,21 @@ opened_in space name attrs p = if nat_le p.limit (length p.stack) then refused r
 abbrev pub opened : (name : List ℕ) → List TextPair → Page → Reads Page
 opened = opened_in Html
 
--- those before the nearest element that hides them
+-- the formatting elements that were lost outside the nearest element that hides them
 abbrev pub behind_marker : List (Option (List ℕ)) → List (Option (List ℕ))
 behind_marker [] = []
 behind_marker (None ∷ ls) = ls
 behind_marker (Some name ∷ ls) = behind_marker ls
 
--- the formatting elements that are lost once the current node is closed, by its own end tag or another
+-- the formatting elements that are lost once the current node is closed, by its own end tag or
+-- another
 abbrev pub lost_with : (own : Bool) → List OpenElement → List (Option (List ℕ)) →
     List (Option (List ℕ))
 lost_with own [] lost = lost
 lost_with own (o ∷ os) lost = if is_of (of kind.Marker) o then behind_marker lost
     else (if is_of (of kind.Formatting) o && not own then Some o.head.name ∷ lost else lost)
 
--- closes the current node, whose text is a child of it
+-- closes the current node, whose text is already a child of it
 abbrev pub settled_closed : (own : Bool) → Page → Reads Page
 settled_closed own p = if is_at (of kind.Whole) p.stack && not own
     then refused refusal.CrossedElement p
@@ -144,7 +146,7 @@ settled_closed own p = if is_at (of kind.Whole) p.stack && not own
 abbrev pub closed : (own : Bool) → Page → Reads Page
 closed own p = settled_closed own (settled p)
 
--- closes the current node while the condition holds, so often at most
+-- closes the current node while the condition holds, at most so many times
 abbrev pub closed_while : (goes_on : List OpenElement → Bool) → (at_most : ℕ) → Page → Reads Page
 closed_while goes_on zero p = Ok p
 closed_while goes_on (suc n) p = if goes_on p.stack then (closed false p) next closed_while goes_on n
@@ -166,17 +168,18 @@ implied_closed but p =
 abbrev pub no_name : List ℕ → Bool
 no_name name = false
 
--- closes such an element, and records an error unless the current node is the named one
+-- closes elements whose end tag is implied, and then the nearest element of HTML whose name passes
+-- `test`; records an error unless the current node is then the named one
 abbrev pub closed_over : (named test but : List ℕ → Bool) → Page → Reads Page
 closed_over named test but p = (implied_closed but p) next (λ q. closed_to test
     (noted_if (not (is_at named q.stack)) error.EndTagOverOpenElements q))
 
--- by its end tag, if it is in scope
+-- closes such an element by its end tag, or records an error if it is not in scope
 abbrev pub closed_in : Scope → (named test but : List ℕ → Bool) → Page → Reads Page
 closed_in scope named test but p = if in_scope scope test p.stack then closed_over named test but p
     else Ok (noted error.EndTagWithoutStart p)
 
--- a formatting element of that name was closed by a tag of another
+-- whether a tag of another name closed a formatting element of that name, and no element hides it
 abbrev pub is_lost : (name : List ℕ) → List (Option (List ℕ)) → Bool
 is_lost name [] = false
 is_lost name (None ∷ ls) = false
@@ -192,11 +195,11 @@ loses_some [] = false
 loses_some (None ∷ ls) = false
 loses_some (Some name ∷ ls) = true
 
--- a formatting element would be made again here (13.2.4.3)
+-- refuses a page in which a formatting element would be made again here (13.2.4.3)
 abbrev pub reconstructed : Page → Reads Page
 reconstructed p = if loses_some p.lost then refused refusal.Reconstruction p else Ok p
 
--- what a mode does with a token: takes it, or processes it again
+-- the result of a mode's rules for a token: they take it, or process it again
 pub data Turn : Type 0 where
   Taken : Page → Turn
   Again : Page → Token → Turn

@@ -47,7 +47,7 @@ pub struct PageElement {
     pub(crate) has_elements: bool,
     /// The facts about it, once it is among the open elements.
     pub(crate) context: Context,
-    ghost told: { IsKindsOf (element_view element).0.name kinds },
+    ghost kinds_are: { IsKindsOf (element_view element).0.name kinds },
     ghost counted: { has_elements ≡ has_child_elements (element_view element) },
 }
 

@@ -3,7 +3,8 @@
 use thiserror::Error;
 
 /// An error of a page from which the reader recovers, as a browser does. Errors of the text have
-/// names of HTML Standard 13.2.2; those of the tree have none there, but names of this project.
+/// names of HTML Standard 13.2.2; errors of the tree have no names there, so they have names of
+/// this project.
 #[derive(Clone, Copy, Debug, PartialEq, Eq, Error)]
 pub enum PageError {
     #[error("abrupt-closing-of-empty-comment")]
@@ -88,7 +89,7 @@ pub enum PageError {
     /// A second `html`, `head` or `body`.
     #[error("a second html, head or body")]
     SecondStartTag,
-    /// An element is closed where another of its kind begins, such as an `a` in an `a`.
+    /// An element is closed because another of its kind begins, such as an `a` in an `a`.
     #[error("an element within another of its kind")]
     NestedElement,
     /// A `noscript` in the head is closed before content that can't stand in it.

@@ -1,4 +1,4 @@
-//! Why a page is not read.
+//! The reasons for which a page is not read.
 
 ghost use Rattle.std.specs.Prelude.{◌≡◌};
 ghost use Rattle.typst_html_parse_open.specs.PageRefusals.{refusal_number};
@@ -85,7 +85,7 @@ impl PageRefusal {
     }
 }
 
-/// Why reading stops.
+/// The reason why reading stops.
 #[derive(Clone, Copy, Debug, PartialEq, Eq)]
 pub enum Halt {
     /// An allocation failed.

@@ -8,7 +8,7 @@ ghost use Rattle.typst_html_parse_open.specs.Pages.{with_note};
 use crate::error::PageError;
 use std::alloc::{AllocError, Global};
 
-const MOST_TOLD: usize = 10;
+const MOST_NOTES: usize = 10;
 
 /// The errors of a page from which the reader recovered.
 #[derive(Drop)]
@@ -35,7 +35,7 @@ impl Notes {
         ensures { OnOk result (notes_of self.new ≡ with_note error place (notes_of self.old)) }
     {
         self.count = self.count.saturating_add(1);
-        if self.first.len() < MOST_TOLD {
+        if self.first.len() < MOST_NOTES {
             self.first.push((error, place))?;
         }
         Ok(())

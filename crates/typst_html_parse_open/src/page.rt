@@ -79,11 +79,11 @@ impl Page {
     }
 
     /// Records an error at the token, if there is one.
-    pub fn note_if(&mut self, told: bool, error: PageError) -> Result<(), Halt>
-        ensures { Changes result (pages.noted_if told error (page_of self.old))
+    pub fn note_if(&mut self, is_error: bool, error: PageError) -> Result<(), Halt>
+        ensures { Changes result (pages.noted_if is_error error (page_of self.old))
             (page_of self.new) }
     {
-        if told { self.note(error) } else { Ok(()) }
+        if is_error { self.note(error) } else { Ok(()) }
     }
 
     /// Appends a character to the current node.
@@ -230,8 +230,8 @@ impl Page {
             (target_test but.entry) (page_of self.old)) (page_of self.new) }
     {
         self.close_implied(but)?;
-        let told = !self.stack.is_target(named);
-        self.note_if(told, PageError::EndTagOverOpenElements)?;
+        let is_error = !self.stack.is_target(named);
+        self.note_if(is_error, PageError::EndTagOverOpenElements)?;
         self.close_to(target)
     }
 

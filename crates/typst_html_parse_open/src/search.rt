@@ -29,7 +29,7 @@ pub enum Goal<'a> {
     Foreign(&'a HtmlTag),
 }
 
-/// How long elements are closed.
+/// The condition under which elements are closed.
 #[derive(Clone, Copy)]
 pub enum While<'a> {
     /// While the current node is not the goal.
@@ -38,7 +38,7 @@ pub enum While<'a> {
     Implied(Target<'a>),
 }
 
-/// Where a search ends.
+/// The bound at which a search ends.
 #[derive(Clone, Copy)]
 pub enum Bound {
     /// At an element that bounds the scope.

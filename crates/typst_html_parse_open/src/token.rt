@@ -16,7 +16,7 @@ pub struct TagName {
     pub tag: HtmlTag,
     /// Its kinds.
     pub kinds: Kinds,
-    ghost told: { IsKindsOf tag kinds },
+    ghost is_error: { IsKindsOf tag kinds },
 }
 
 impl TagName {

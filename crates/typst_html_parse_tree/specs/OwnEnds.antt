@@ -8,7 +8,7 @@ use Rattle.typst_html_parse_open.specs.declared.modes.Mode.{Mode}
 use Rattle.typst_html_parse_open.specs.declared.modes.Mode.TheVariants.{InBody, InTable, InSection, InRow, InCell}
 use Rattle.typst_html_parse_tree.specs.PageTrees.{is_unseen}
 
--- in a body
+-- whether the end tag of a current node of that name in a body closes it, and does nothing else
 abbrev pub closes_in_body : (name : List ℕ) → Bool
 closes_in_body name = not (of kind.Root name || (of kind.Br name || of kind.Form name))
     && not (of kind.Implied name && (of kind.Heading name || of kind.ClosesInScope name))

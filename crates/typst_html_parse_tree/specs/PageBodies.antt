@@ -1,4 +1,5 @@
--- What a token does in a body (HTML Standard 13.2.6.4.7), and before it (13.2.6.4.2 to 13.2.6.4.6).
+-- The steps of a token in a body (HTML Standard 13.2.6.4.7), and before it (13.2.6.4.2 to
+-- 13.2.6.4.6).
 use Rattle.std.specs.Prelude.{ℕ, Bool, true, false, not, ◌&&◌, ◌||◌, ◌==◌, List, [], length, if◌then◌else◌, codes, map, Ok}
 use Rattle.html_dom_tree.specs.Tree.{TextPair}
 use Rattle.typst_html_parse_names.specs.ForeignNames.{svg_names, svg_attrs, math_attrs, with_capitals}
@@ -15,15 +16,15 @@ use Rattle.typst_html_parse_open.specs.declared.modes.Space.TheVariants.{Html, S
 use Rattle.typst_html_parse_open.specs.declared.modes.TableRule.{TableRule}
 use Rattle.typst_html_parse_open.specs.declared.modes.TableRule.TheVariants as rule
 
--- tab, LF, FF, CR, space; a CR comes only from a reference
+-- whether it is a tab, LF, FF, CR or space; a CR comes only from a reference
 abbrev pub is_space : ℕ → Bool
 is_space c = (c == 9) || (c == 10) || (c == 12) || (c == 13) || (c == 32)
 
--- an element without content
+-- appends an element without content
 abbrev pub leaf : StartTag → Page → Reads Page
 leaf tag p = (opened tag.name tag.attrs p) next closed true
 
--- a second `html` or `body`: attributes would be added to those of the first
+-- handles a second `html` or `body`, whose attributes would be added to those of the first
 abbrev pub repeated : StartTag → Page → Reads Page
 repeated tag p = if length tag.attrs == 0 then Ok (noted error.SecondStartTag p)
     else refused refusal.MergedAttributes p
@@ -32,7 +33,7 @@ abbrev pub head_element : StartTag → Page → Reads Page
 head_element tag p =
     if of kind.HeadLeaf tag.name then leaf tag p else opened tag.name tag.attrs p
 
--- an element of SVG or MathML, with the capitals of its names (13.2.6.5)
+-- the name of an element of SVG or MathML, with its capitals (13.2.6.5)
 abbrev pub foreign_name : Space → List ℕ → List ℕ
 foreign_name Svg name = with_capitals svg_names name
 foreign_name space name = name
@@ -50,12 +51,12 @@ entered space tag p =
     (opened_in space (foreign_name space tag.name) (foreign_attrs space tag.attrs) p)
     next (λ q. if tag.closed then closed true q else Ok q)
 
--- any other end tag
+-- handles any other end tag
 abbrev pub other_closed : (name : List ℕ) → Page → Reads Page
 other_closed name p = if is_near (is name) p.stack then closed_over (is name) (is name) (is name) p
     else Ok (noted error.EndTagWithoutStart p)
 
--- the adoption agency algorithm, as long as nothing moves (13.2.6.4.7)
+-- runs the adoption agency algorithm, as long as nothing moves (13.2.6.4.7)
 abbrev pub adopted : (name : List ℕ) → Page → Reads Page
 adopted name p = if is_lost name p.lost
     then Ok (noted error.EndTagOfClosedElement (record p { lost = without_lost name p.lost }))
@@ -66,7 +67,7 @@ adopted name p = if is_lost name p.lost
     else closed_to (is name)
     (noted_if (not (is_at (is name) p.stack)) error.EndTagOverOpenElements p))))
 
--- closes such an element before the next
+-- closes an element of that name before the next, and records an error
 abbrev pub nested_closed : (name : List ℕ) → Page → Reads Page
 nested_closed name p = if in_scope scope.General (is name) p.stack
     then (implied_closed no_name (noted error.NestedElement p)) next closed_to (is name) else Ok p
@@ -98,7 +99,7 @@ abbrev pub heading_closed : Page → Reads Page
 heading_closed p = if is_at (of kind.Heading) p.stack
     then closed false (noted error.NestedElement p) else Ok p
 
--- options, and rules between them
+-- closes options before the next, and before a rule
 abbrev pub option_closed : (name : List ℕ) → Page → Reads Page
 option_closed name p = if in_scope scope.General (of kind.Select) p.stack
     then (if of kind.Option name then implied_closed (of kind.Optgroup) p
@@ -106,14 +107,14 @@ option_closed name p = if in_scope scope.General (of kind.Select) p.stack
     else (if not (of kind.Hr name) && is_at (of kind.Option) p.stack then closed false p
     else Ok p)
 
--- parts of a ruby annotation
+-- closes parts of a ruby annotation before the next
 abbrev pub ruby_closed : (name : List ℕ) → Page → Reads Page
 ruby_closed name p = if in_scope scope.General (of kind.Ruby) p.stack
     then (if of kind.RubyText name then implied_closed (of kind.Rtc) p
     else implied_closed no_name p)
     else Ok p
 
--- a table closes a `p`, except in quirks mode
+-- closes a `p` before a table, except in quirks mode
 abbrev pub p_closed_by_table : TableRule → Page → Reads Page
 p_closed_by_table rule.KeepsP p = Ok p
 p_closed_by_table rule.ClosesP p = p_closed p
@@ -142,7 +143,7 @@ closed_before name p = if of kind.A name then anchor_closed name p
     else (if of kind.RubyPart name then ruby_closed name p
     else closed_before_block name p))))))
 
--- handles the formatting elements around an element before it
+-- handles the formatting elements around an element, before it opens
 abbrev pub formatted : (name : List ℕ) → Page → Reads Page
 formatted name p = if of kind.Unformatted name then Ok p else (reconstructed p) next (λ q.
     if of kind.Nobr name && in_scope scope.General (is name) q.stack
@@ -158,7 +159,7 @@ abbrev pub element_begun : StartTag → Page → Reads Page
 element_begun tag p =
     (closed_before tag.name p) next (λ q. (formatted tag.name q) next inserted tag)
 
--- a form in a form is ignored
+-- whether the start tag is ignored: that of a form in a form
 abbrev pub is_nested : (name : List ℕ) → Page → Bool
 is_nested name p = of kind.Form name && has (is name) p.stack
 
@@ -182,12 +183,12 @@ form_closed p = if not (has (of kind.Form) p.stack) then Ok (noted error.EndTagW
     else Ok p) next (λ q. if is_at (of kind.Form) q.stack then closed true q
     else refused refusal.CrossedElement q))
 
--- `</p>` without a `p` makes an empty one
+-- handles a `</p>`, which makes an empty `p` if there is none
 abbrev pub p_ended : Page → Reads Page
 p_ended p = if in_scope scope.Button (of kind.P) p.stack then p_closed p
     else ((opened (codes "p") [] (noted error.EndTagWithoutStart p)) next closed true)
 
--- an end tag that closes an element
+-- handles an end tag that closes an element
 abbrev pub element_ended : (name : List ℕ) → Page → Reads Page
 element_ended name p = if of kind.Form name then form_closed p
     else (if of kind.P name then p_ended p
@@ -213,7 +214,7 @@ in_body (Start tag) p = in_body_start tag p
 in_body (End name) p = in_body_end name p
 in_body Finish p = Ok (Taken p)
 
--- end tags that begin a body as start tags do (13.2.6.4.6)
+-- whether an end tag of that name begins a body, as start tags do (13.2.6.4.6)
 abbrev pub opens_body : List ℕ → Bool
 opens_body name = of kind.Root name || of kind.Br name
 
@@ -225,7 +226,7 @@ implied name token p = again (opened name [] p) token
 abbrev pub left : Token → Page → Reads Turn
 left token p = again (closed true p) token
 
--- before an element that the token implies or begins: `html`, `head`
+-- handles a token before `html` or before `head`, which the token begins or implies
 abbrev pub before : (name : List ℕ) → Token → Page → Reads Turn
 before name (Char c) p = if is_space c then Ok (Taken p) else implied name (Char c) p
 before name (Start tag) p = if is name tag.name then taken (opened name tag.attrs p)
@@ -278,7 +279,7 @@ after_head (End name) p = if opens_body name then body_implied (End name) p
     else taken_with error.EndTagWithoutStart p
 after_head Finish p = body_implied Finish p
 
--- in an element of text alone: its characters, and its end tag
+-- handles a token in an element of text alone: its characters, and its end tag
 abbrev pub in_text : Token → Page → Reads Turn
 in_text (Char c) p = Ok (Taken (with_char c p))
 in_text (Start tag) p = Ok (Taken p)

@@ -1,4 +1,4 @@
--- What a token does in a table (HTML Standard 13.2.6.4.9 to 13.2.6.4.15), in SVG and MathML
+-- The steps of a token in a table (HTML Standard 13.2.6.4.9 to 13.2.6.4.15), in SVG and MathML
 -- (13.2.6.5), and in a page (13.2.6).
 use Rattle.std.specs.Prelude.{ℕ, zero, suc, Bool, true, false, not, ◌&&◌, ◌||◌, List, [], ◌∷◌, if◌then◌else◌, codes, Ok}
 use Rattle.std.specs.List.{list_any}
@@ -26,7 +26,7 @@ part_implied name tag p = again (opened name [] p) (Start tag)
 abbrev pub begins_part : (name : List ℕ) → Bool
 begins_part name = of kind.Caption name || of kind.Colgroup name || of kind.Section name
 
--- a start tag in a table that begins none of its parts
+-- handles a start tag in a table that begins none of its parts
 abbrev pub in_table_other : StartTag → Page → Reads Turn
 in_table_other tag p = let name = tag.name in
     if of kind.Table name
@@ -36,8 +36,8 @@ in_table_other tag p = let name = tag.name in
     else (if of kind.Misplaced name then taken_with error.IgnoredStartTag p
     else refused refusal.FosterParenting p)))
 
--- a start tag in a table, if the current node is the table, or one of its parts other than a cell
--- or a caption
+-- handles a start tag in a table, if the current node is the table, or one of its parts other than
+-- a cell or a caption
 abbrev pub in_table_start : StartTag → Page → Reads Turn
 in_table_start tag p = let name = tag.name in
     if begins_part name then taken (opened name tag.attrs p)
@@ -81,7 +81,7 @@ in_section (End name) p = if of kind.Section name && is_at (is name) p.stack
     else (if of kind.Table name then left (End name) p else in_table (End name) p)
 in_section Finish p = Ok (Taken p)
 
--- the end tag is that of the table or of the section around a row
+-- whether the end tag is that of the table or of the section around a row
 abbrev pub ends_around_row : (name : List ℕ) → Page → Bool
 ends_around_row name p = of kind.Table name
     || (of kind.Section name && in_scope scope.Table (is name) p.stack)
@@ -99,7 +99,7 @@ abbrev pub part_closed : (test : List ℕ → Bool) → Page → Reads Page
 part_closed test p = (implied_closed no_name p) next (λ q. closed_to test
     (noted_if (not (is_at test q.stack)) error.CellOverOpenElements q))
 
--- an end tag in a cell or in a caption, given whether such end tags close it
+-- handles an end tag in a cell or in a caption, given whether such end tags close it
 abbrev pub in_part_end : (test : List ℕ → Bool) (closes : Bool) (name : List ℕ) → Page → Reads Turn
 in_part_end test closes name p = if closes && in_scope scope.Table (is name) p.stack
     then (if test name then taken (part_closed test p) else again (part_closed test p) (End name))
@@ -138,12 +138,12 @@ by_mode InSection = in_section
 by_mode InRow = in_row
 by_mode InCell = in_cell
 
--- such a start tag can stand neither in SVG nor in MathML
+-- whether such a start tag can stand neither in SVG nor in MathML
 abbrev pub breaks_out : StartTag → Bool
 breaks_out tag = of kind.Breakout tag.name
     || (of kind.Font tag.name && list_any (λ a. is_font_attr a.0) tag.attrs)
 
--- an element with that name is open, with none of HTML inside it
+-- whether an element of SVG or MathML with that name is open, with none of HTML inside it
 abbrev pub closes_foreign : (name : List ℕ) → List OpenElement → Bool
 closes_foreign name = reaches (is_foreign_of name) (λ o. is_html o.space)
 
@@ -165,8 +165,8 @@ in_foreign (Start tag) p = if breaks_out tag then refused refusal.HtmlInForeign 
 in_foreign (End name) p = in_foreign_end name p
 in_foreign Finish p = Ok (Taken p)
 
--- tokens that are read as HTML although the current node is one of SVG or MathML (13.2.6, tree
--- construction dispatcher)
+-- whether the attribute makes an `annotation-xml` hold HTML: its tokens are read as HTML although
+-- the current node is one of MathML (13.2.6, tree construction dispatcher)
 abbrev pub says_html : TextPair → Bool
 says_html a = is_encoding a.0 && is_html_encoding (lowered a.1)
 
@@ -199,7 +199,7 @@ abbrev pub turn : Token → Page → Reads Turn
 turn token p = if is_foreign_token token p.stack then in_foreign token p
     else by_mode (mode p.stack) token p
 
--- a token, processed again at most so many times
+-- processes the token of a turn again, if it has one; `processed` does so at most so many times
 abbrev pub behind_turn : (Token → Page → Reads Page) → Turn → Reads Page
 behind_turn process (Taken p) = Ok p
 behind_turn process (Again p token) = process token p
@@ -216,11 +216,11 @@ abbrev pub is_space_token : Token → Bool
 is_space_token (Char c) = is_space c
 is_space_token token = false
 
--- a page that begins without a document type: a table keeps a `p` open (13.2.6.4.1)
+-- a page that begins without a document type, in which a table keeps a `p` open (13.2.6.4.1)
 abbrev pub begun_untyped : Page → Page
 begun_untyped p = noted error.NoDocumentType (record p { tables = rule.KeepsP })
 
--- a token of a page
+-- reads a token of a page
 unfoldable pub token_read : Token → Page → Reads Page
 token_read token p = if not (is_unseen p.tables) then processed 8 token p
     else (if is_space_token token then Ok p

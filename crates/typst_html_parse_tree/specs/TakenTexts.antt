@@ -6,7 +6,8 @@ use Rattle.typst_html_parse_open.specs.Pages.{Page, Char, loses_some}
 use Rattle.typst_html_parse_open.specs.declared.modes.Mode.{Mode}
 use Rattle.typst_html_parse_open.specs.declared.modes.Mode.TheVariants.{InBody, InText, InCaption, InCell}
 
--- in these modes characters are appended to the current node, if no formatting element is lost
+-- whether the rules of the mode append each character to the current node: those of a text always
+-- do, and those of a body, a caption and a cell do if no formatting element is lost
 abbrev pub mode_takes_text : Mode → Page → Bool
 mode_takes_text InText p = true
 mode_takes_text InBody p = not (loses_some p.lost)
@@ -14,7 +15,7 @@ mode_takes_text InCaption p = not (loses_some p.lost)
 mode_takes_text InCell p = not (loses_some p.lost)
 mode_takes_text m p = false
 
--- each character is appended to the current node
+-- whether each character is appended to the current node
 unfoldable pub takes_text : Page → Bool
 takes_text p = not (is_unseen p.tables)
     && (is_foreign_token (Char 0) p.stack || mode_takes_text (mode p.stack) p)

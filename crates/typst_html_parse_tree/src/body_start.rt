@@ -109,8 +109,8 @@ pub(crate) fn adopt(page: &mut Page, name: &TagName) -> Result<(), Halt>
     if !page.stack.reaches(Goal::Of(named), Bound::Special) {
         return Err(page.refusal(PageRefusal::AdoptionAgency));
     }
-    let told = !page.stack.is_target(named);
-    page.note_if(told, PageError::EndTagOverOpenElements)?;
+    let agrees = !page.stack.is_target(named);
+    page.note_if(agrees, PageError::EndTagOverOpenElements)?;
     page.close_to(named)
 }
 

@@ -153,8 +153,8 @@ fn close_foreign(page: &mut Page, name: &TagName) -> Result<(), Halt>
         (page_of page.new) }
 {
     let goal = Goal::Foreign(&name.tag);
-    let told = !page.stack.is_goal(goal);
-    page.note_if(told, PageError::EndTagOverOpenElements)?;
+    let agrees = !page.stack.is_goal(goal);
+    page.note_if(agrees, PageError::EndTagOverOpenElements)?;
     page.close_to_goal(goal)
 }
 

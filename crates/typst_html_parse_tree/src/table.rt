@@ -220,8 +220,8 @@ fn close_part(page: &mut Page, part: Kind) -> Result<(), Halt>
         (page_of page.new) }
 {
     page.close_implied(Target::Nothing)?;
-    let told = !page.stack.is_at(part);
-    page.note_if(told, PageError::CellOverOpenElements)?;
+    let agrees = !page.stack.is_at(part);
+    page.note_if(agrees, PageError::CellOverOpenElements)?;
     page.close_to(Target::Kind(part))
 }
 

@@ -1,4 +1,4 @@
-//! What a token does in a page (HTML Standard 13.2.6).
+//! The steps of a token in a page (HTML Standard 13.2.6).
 
 ghost use Rattle.std.specs.Prelude.{◌≡◌};
 ghost use Rattle.typst_html_parse_open.specs.Endings.{Changes, Steps, Turns};
@@ -21,7 +21,7 @@ use typst_html_parse_open::{
     Halt, Mode, Page, PageError, PageRefusal, StartTag, TableRule, TagName, Token,
 };
 
-/// How often a token may be processed again.
+/// The greatest number of times that a token is processed again.
 const MOST_TURNS: usize = 7;
 
 fn is_space_token(token: &Token) -> bool

@@ -49,7 +49,7 @@ closing_long n = omega (arith, length-map n to_ascii_lowercase)
 small_is : (c d : ℕ) → d < 65 → to_ascii_lowercase c ≡ d → eqb c d ≡ true
 small_is c d h e = grind (arith, nat_tests)
 
--- of the first two characters nothing is left to tell
+-- the first two characters are decided
 exact_is : (end n : List ℕ) → map to_ascii_lowercase end ≡ closing n →
     bytes_eq end (codes "</" ++ n) ≡ bytes_eq (drop 2 end) n
 exact_is [] n e = cc

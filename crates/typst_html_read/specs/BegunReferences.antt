@@ -8,13 +8,13 @@ use Rattle.html_names.specs.Characters.{is_digit}
 abbrev pub is_small_digit : ℕ → Bool
 is_small_digit c = is_digit c || (nat_le 97 c && nat_le c 102)
 
--- the digits begin the number of a character, without leading zeros; none do so too. (A surrogate's
--- number begins that of another character.)
+-- the number of a character begins with these digits, without leading zeros; there may be none. (A
+-- surrogate's number begins that of another character.)
 unfoldable pub begins_digits : List ℕ → Bool
 begins_digits ds = list_all is_small_digit ds && (not (slice_index ds 0 == 48)
     && nat_lt (digits_value 16 ds) 0x11_0000)
 
--- `#x` and such digits
+-- `#x` followed by such digits
 abbrev pub begins_number : List ℕ → Bool
 begins_number [] = false
 begins_number (x ∷ []) = false
@@ -24,12 +24,12 @@ begins_number (x ∷ y ∷ ds) = x == 35 && (y == 120 && begins_digits ds)
 abbrev pub begins : (word : List ℕ) → List ℕ → Bool
 begins word cs = starts_with ◌==◌ word cs
 
--- what `reference` reads begins so
+-- a reference that `reference` reads begins with these characters
 unfoldable pub begins_reference : List ℕ → Bool
 begins_reference cs = begins (codes "amp") cs || (begins (codes "lt") cs
     || (begins (codes "gt") cs || (begins (codes "quot") cs || (begins (codes "apos") cs
     || (begins (codes "#x") cs || begins_number cs)))))
 
--- behind these characters, which stand since `&`, the character may follow
+-- the character may follow these characters, which stand behind `&`
 abbrev pub continues_reference : (since : List ℕ) → ℕ → Bool
 continues_reference since c = (c == 59) || begins_reference (since ++ c ∷ [])

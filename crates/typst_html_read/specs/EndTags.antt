@@ -4,7 +4,7 @@ use Rattle.std.specs.List.{list_all}
 use Rattle.html_names.specs.Characters.{is_tag_char}
 use Rattle.typst_html_encode.specs.Reader.{Open, ReaderState, complete, with_text}
 
--- a text begins with it
+-- the text begins with the end tag of the innermost element
 pub record EndsTag (stack : List Open) (text rest : List ℕ) : Type 0 where
   pub top : Open
   pub others : List Open

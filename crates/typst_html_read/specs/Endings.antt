@@ -1,4 +1,4 @@
--- How reading ends: with the element that is read, where nothing stands too deep, or with a fault.
+-- The result of reading: the element that is read, if no element is too deep, or a fault.
 use Rattle.std.specs.Prelude.{◌≡◌, ℕ, List, [], Option, Some, Result, IfOk, OnOk, IfErr}
 use Rattle.html_dom_tree.specs.Tree.{ElementView}
 use Rattle.html_dom_tree.specs.Views.{element_view}

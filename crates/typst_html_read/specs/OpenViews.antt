@@ -17,11 +17,11 @@ list_of os = reverse (map open_of os)
 abbrev pub stack_of : Stack → List Open
 stack_of s = list_of s.items.items
 
--- with an element as the last child
+-- the element with the child appended to its children
 abbrev pub with_child : (child o : Open) → Open
 with_child child o = record o { children = o.children then plain (completed child) no_plains }
 
--- the element is the last child of the innermost one
+-- the innermost element has the child appended to its children
 abbrev pub add_child : Open → List Open → List Open
 add_child child [] = []
 add_child child (o ∷ os) = with_child child o ∷ os

@@ -7,7 +7,7 @@ use Rattle.html_dom_tree.specs.Tree.{tag_node, text_node, element_node, frame_no
 use Rattle.typst_html_encode.specs.Reader.{Open}
 use Rattle.typst_html_read.specs.PlainElements.{plain_element}
 
--- nodes of texts and elements, as plain nodes
+-- the texts and elements among the nodes, as plain nodes
 unfoldable pub bare_nodes : NodesView → Plains
 bare_nodes none = no_plains
 bare_nodes (node (tag_node t) ns) = bare_nodes ns
@@ -20,7 +20,7 @@ bare_nodes (node (frame_node f) ns) = bare_nodes ns
 abbrev pub open_view : ElementView → Open
 open_view e = record { name = e.0.name; attrs = e.0.attrs; children = bare_nodes e.1 }
 
--- it has nothing that a text does not spell
+-- the element has nothing that a text does not spell
 abbrev pub IsPlain : ElementView → Type 0
 IsPlain e = e ≡ plain_element e.0.name e.0.attrs (bare_nodes e.1)
 

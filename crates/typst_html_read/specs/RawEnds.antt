@@ -4,11 +4,12 @@ use Rattle.std.specs.Char.{to_ascii_lowercase}
 use Rattle.std.specs.Str.{IsCharBoundary}
 use Rattle.typst_html_encode.specs.ClosingTags.{is_tag_end, ends_closing, ends_exact, before_closing}
 
--- with the character a closing tag ends
+-- the text followed by the character ends in a closing tag
 abbrev pub ends_raw : (name text : List ℕ) → ℕ → Bool
 ends_raw name text c = is_tag_end c && ends_closing name text
 
--- the closing tag in which the text and the character end begins at that byte, and is exact or not
+-- the text followed by the character ends in a closing tag, which begins at that byte and is exact
+-- or not
 pub record EndsAt (name text : List ℕ) (c : ℕ) (end : ℕ × Bool) : Type 0 where
   pub tag_end : is_tag_end c ≡ true
   pub ends : ends_closing name (chars text) ≡ true

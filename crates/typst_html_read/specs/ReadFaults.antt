@@ -1,4 +1,4 @@
--- What a fault of reading says, its number, and the fault of an export that it is.
+-- The meaning of a fault of reading, its number, and its conversion to a fault of an export.
 use Rattle.std.specs.Prelude.{◌≡◌, ℕ, List, [], ◌∷◌, Option, None}
 use Rattle.html_dom_tree.specs.Tree.{ElementView}
 use Rattle.typst_html_encode.specs.declared.fault.ExportFault.{ExportFault}
@@ -12,8 +12,8 @@ number_of OutOfMemory = 0
 number_of (TooDeep place) = 8
 number_of (Syntax place) = 25
 
--- the fault is the first in the text: the first of what stands too deep, or, where nothing does, that
--- no element is read, with the first character that no text has which is read; memory may run out
+-- the fault is the first in the text: the first element that is too deep or, if there is none and
+-- no element is read, the first character with which no readable text goes on; memory may run out
 -- before
 abbrev pub IsFirst : (text : List ℕ) → (element : Option ElementView) → (too_deep : List ℕ)
     → (unread : ℕ) → ReadFault → Type 0
@@ -23,7 +23,7 @@ IsFirst text element too_deep unread (TooDeep place) =
 IsFirst text element too_deep unread (Syntax place) =
     (element ≡ None) × (too_deep ≡ []) × (place ≡ place_at text unread)
 
--- out of memory stays out of memory; the span is how many bytes of the text stand before the place
+-- out of memory stays out of memory; the span is the number of bytes of the text before the place
 abbrev pub of_read : ReadFault → ExportFault
 of_read OutOfMemory = export.OutOfMemory
 of_read (TooDeep place) = export.TooDeep (record { 0 = place.offset })

@@ -1,4 +1,4 @@
-//! Where the text of a raw element ends.
+//! The end of the text of a raw element.
 
 ghost use Rattle.std.specs.Prelude.{◌≡◌, ◌↔◌, ◌<◌, ◌≤◌, IsTrue, MatchOption, false, chars, length, map};
 ghost use Rattle.std.specs.Char.{to_ascii_lowercase};
@@ -9,7 +9,7 @@ ghost use Rattle.typst_html_read.specs.RawEnds.{EndsAt, ends_in, ends_raw};
 
 use typst_html_encode::is_tag_end;
 
-/// Whether these bytes are a closing tag of that name, in any ASCII case, without its last
+/// Returns whether these bytes are a closing tag of that name, in any ASCII case, without its last
 /// character.
 fn is_closing(name: &[u8], end: &[u8]) -> bool
     requires { 2 ≤ length end.now }
@@ -18,8 +18,8 @@ fn is_closing(name: &[u8], end: &[u8]) -> bool
     end[0] == b'<' && end[1] == b'/' && end[2..].eq_ignore_ascii_case(name)
 }
 
-/// Where the closing tag begins that the text and the character end with, and whether it is exact
-/// up to the character.
+/// Returns the byte index at which the closing tag begins, and whether the tag is exact up to its
+/// last character. Returns `None` unless the text followed by the character ends in such a tag.
 pub fn end_of(name: &str, text: &str, c: char) -> Option<(usize, bool)>
     requires { IsOf is_tag_char (chars name.now) }
     ensures { MatchOption result
@@ -41,7 +41,7 @@ pub fn end_of(name: &str, text: &str, c: char) -> Option<(usize, bool)>
     Some((length, &end[2..] == name.as_bytes()))
 }
 
-/// Whether a text ends in a word of ASCII, which has no capitals, in any ASCII case.
+/// Returns whether a text ends in a word, in any ASCII case. The word is ASCII and has no capitals.
 pub fn ends_in(word: &str, text: &str) -> bool
     requires some { 0 < length word.now }
     requires ascii { IsTrue (is_ascii word.now) }

@@ -51,7 +51,7 @@ impl Reader {
         Ok(())
     }
 
-    /// The text so far is a child, unless it is empty.
+    /// Adds the text so far to the innermost element, unless the text is empty.
     pub(crate) fn end_text(&mut self) -> Result<(), AllocError>
         ensures { OnOk result (stack_of self.new.stack
             ≡ reader.add_text (text_view self.old.text) (stack_of self.old.stack)) }
@@ -63,7 +63,7 @@ impl Reader {
         self.stack.add_text(text)
     }
 
-    /// The character after a start tag at which a line feed is dropped.
+    /// Reads the character after a start tag, and drops it if it is a line feed.
     pub(crate) fn fresh(&mut self, c: char) -> Result<(), AllocError>
         requires { self.old.mode ≡ mode.Fresh }
         ensures { OnOk result (reader_state self.new ≡ next_state (reader_state self.old) c) }

@@ -1,4 +1,4 @@
-//! Reading end tags at once.
+//! Reading whole end tags at once.
 
 ghost use Rattle.std.specs.Prelude.{◌≡◌, ◌<◌, chars, IfOk, length, MatchOption, OnOk};
 ghost use Rattle.html_dom_tree.specs.Views.{text_view};
@@ -11,7 +11,8 @@ use crate::reader::{Mode, Reader};
 use std::alloc::AllocError;
 
 impl Reader {
-    /// Reads the end tag of the innermost element, if a text begins with it, and gives the rest.
+    /// Reads the end tag of the innermost element if the text begins with it, and returns the rest
+    /// of the text.
     pub(crate) fn read_end_tag<'a>(&mut self, text: &'a str) -> Result<Option<&'a str>, AllocError>
         ensures { IfOk result (λ found. MatchOption found (reader_state self.new ≡ reader_state self.old)
             (λ rest. ReadsOn (reader_state self.old) (reader_state self.new) (chars text.now)
@@ -27,7 +28,7 @@ impl Reader {
         Ok(Some(rest))
     }
 
-    /// The innermost element ends.
+    /// Ends the innermost element.
     fn leave(&mut self) -> Result<(), AllocError>
         ensures { OnOk result (Leaves (text_view self.old.text) (stack_of self.old.stack)
             (reader_state self.new)) }

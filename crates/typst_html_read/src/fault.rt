@@ -8,29 +8,30 @@ use std::alloc::{AllocError, AllocFailed};
 use thiserror::Error;
 use typst_html_encode::ExportFault;
 
-/// Why a text was not read.
+/// The reason why a text was not read.
 #[derive(Clone, Copy, Debug, PartialEq, Eq, Error)]
 pub enum ReadFault {
     /// An allocation failed.
     #[error("out of memory")]
     OutOfMemory,
-    /// An element stands deeper than the limit.
+    /// An element is deeper than the limit.
     #[error("elements are nested too deeply at {place}")]
     TooDeep {
         /// The place of the `<` of the element's start tag.
         place: Place,
     },
-    /// The text has another syntax than those that are read, or ends too early.
+    /// The text has a syntax that is not read, or ends too early.
     #[error("other syntax than that of written pages at {place}")]
     Syntax {
-        /// The place of the first character that no text has which is read, or the end of the text.
+        /// The place of the first character with which no readable text goes on, or the end of the
+        /// text.
         place: Place,
     },
 }
 
 impl ReadFault {
-    /// The fault's number: 0 for out of memory, 8 for an element that stands too deep, 25 for another
-    /// syntax.
+    /// Returns the fault's number: 0 for out of memory, 8 for an element that is too deep, 25 for
+    /// another syntax.
     pub fn number(&self) -> u8
         ensures { result ≡ number_of self.now }
     {
@@ -72,7 +73,7 @@ impl<T: Drop> From<Refused<T>> for ReadFault {
     }
 }
 
-/// The span is how many bytes of the text stand before the place.
+/// The span is the number of bytes of the text before the place.
 impl From<ReadFault> for ExportFault {
     ghost use Rattle.typst_html_read.specs.ReadFaults.{of_read};
 

@@ -3,14 +3,14 @@
 ghost use Rattle.typst_html_read.specs.ReadLaws.{WrittenIsRead, ReadIsWritten, ReadIsNormal};
 
 /// The plain text of a frame-free element with valid names and without a fault is read as the
-/// element that its normal form is, where `HtmlTag::intern` and `HtmlAttr::intern` take its names.
+/// element that its normal form is, if `HtmlTag::intern` and `HtmlAttr::intern` accept its names.
 #[tactic(auto, using(crate::proofs::ReadLaws::written_is_read))]
 pub fn written_is_read()
     ensures { WrittenIsRead }
 {}
 
-/// The plain text of an element that was read reads as the text that it was read from did, where
-/// the element can be written.
+/// The plain text of an element that was read reads as the original text does, if the element can
+/// be written.
 pub fn read_is_written()
     ensures { ReadIsWritten }
 {}

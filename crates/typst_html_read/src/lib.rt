@@ -1,4 +1,4 @@
-//! Reading: the tree that a written text spells.
+//! The reader of written pages: the tree that an HTML text spells.
 #![tactic(auto)]
 
 mod closing;

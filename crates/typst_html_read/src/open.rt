@@ -1,4 +1,4 @@
-//! An element that is open, with its children so far.
+//! Open elements, with their children so far.
 
 ghost use Rattle.std.proofs.Props.{props};
 ghost use Rattle.std.specs.Prelude.{◌≡◌, OnOk, OnErr};
@@ -10,7 +10,8 @@ use html_dom_tree::{HtmlAttrs, HtmlElement, HtmlNode, Span};
 use html_names::{HtmlTag, tag};
 use std::alloc::{AllocError, Global};
 
-/// An element that is open, with its children so far. It has nothing that a text does not spell.
+/// An open element, with its children so far. All that a text does not spell is as in a new
+/// element.
 #[derive(Drop)]
 pub(crate) struct OpenElement {
     pub(crate) element: HtmlElement,
@@ -36,8 +37,7 @@ impl OpenElement {
     ghost use Rattle.typst_html_read.specs.OpenViews.{open_of, with_child};
     ghost use Rattle.typst_html_read.specs.PlainElements.{plain_element};
 
-    /// An element without children.
-
+    /// Creates an element without children.
     pub(crate) fn new(alloc: Global, tag: HtmlTag, attrs: HtmlAttrs) -> OpenElement
         ensures { open_of result
             ≡ record { name = tag; attrs = attrs_view attrs; children = no_plains } }
@@ -47,7 +47,7 @@ impl OpenElement {
         OpenElement { element }
     }
 
-    /// Adds a text as the last child, unless the text is empty.
+    /// Appends a text as the last child, unless the text is empty.
     pub(crate) fn add_text(&mut self, text: String) -> Result<(), AllocError>
         ensures { OnOk result (open_of self.new ≡ record (open_of self.old) {
           children = with_text (text_view text) (open_of self.old).children;
@@ -59,7 +59,7 @@ impl OpenElement {
         Ok(())
     }
 
-    /// Adds an element as the last child.
+    /// Appends an element as the last child.
     pub(crate) fn add_child(&mut self, child: OpenElement) -> Result<(), AllocError>
         ensures { OnOk result (open_of self.new ≡ with_child (open_of child) (open_of self.old)) }
     {
@@ -73,7 +73,8 @@ impl OpenElement {
         name == self.element.tag.resolve()
     }
 
-    /// Whether the character stands at that place of its name, or is the `>` behind the name.
+    /// Returns whether the name has the character at that index or, behind the name, whether the
+    /// character is `>`.
     pub(crate) fn ends_at(&self, place: usize, c: char) -> bool
         ensures { result ≡ (c == get_or (open_of self.now).name place 62) }
     {
@@ -91,7 +92,7 @@ impl OpenElement {
         tag::is_escapable_raw(&self.element.tag)
     }
 
-    /// The element, with its children.
+    /// Consumes the open element and returns the element with its children.
     pub(crate) fn into_element(self) -> HtmlElement
         ensures { let o = open_of self in
             element_view result ≡ plain_element o.name o.attrs o.children }

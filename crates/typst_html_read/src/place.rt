@@ -10,16 +10,16 @@ use std::fmt;
 /// A place in a text.
 #[derive(Clone, Copy, Debug, PartialEq, Eq, Hash)]
 pub struct Place {
-    /// How many bytes of the text stand before it.
+    /// The number of bytes of the text before it.
     pub offset: usize,
-    /// Its line, counted from 1. In a text that is read by `read_html` a line ends with a line feed; a
-    /// carriage return ends none, and is a character as others are.
+    /// Its line, counted from 1. In a text that `read_html` reads, only a line feed ends a line; a
+    /// carriage return is a character like others.
     pub line: usize,
-    /// Its column, counted from 1: how many characters of the line stand before it, and one.
+    /// Its column, counted from 1: the number of characters of the line before it, plus one.
     pub column: usize,
 }
 
-/// `line:column`, as in `3:14`.
+/// Formats the place as `line:column`, as in `3:14`.
 impl fmt::Display for Place {
     ghost use Rattle.std.specs.Prelude.{◌++◌, codes, Some};
     ghost use Rattle.std.specs.Fmt.{decimal};
@@ -53,7 +53,7 @@ fn next_place(place: Place, c: char) -> Place
     }
 }
 
-/// The place of the character of a text before which so many stand.
+/// Returns the place behind that many characters of a text, or the end of the text if it has fewer.
 pub(crate) fn place_at(text: &str, count: usize) -> Place
     ensures { result ≡ place_at (chars text.now) count }
 {
@@ -74,7 +74,8 @@ pub(crate) fn place_at(text: &str, count: usize) -> Place
     place
 }
 
-/// How many characters the word and the text have in common before the first that differs.
+/// Returns the number of characters at the beginning of both the word and the text, up to the first
+/// that differs.
 pub(crate) fn common_length(word: &str, text: &str) -> usize
     ensures { result ≡ common_prefix_len ◌==◌ (chars word.now) (chars text.now) }
 {

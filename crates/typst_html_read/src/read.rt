@@ -14,28 +14,30 @@ use std::alloc::Global;
 
 const DOCUMENT_TYPE: &str = "<!DOCTYPE html>";
 
-/// The element that a text spells: `<!DOCTYPE html>`, and then one element with nothing around it but
-/// tabs, line feeds, carriage returns and spaces.
+/// Returns the element that a text spells. The text is `<!DOCTYPE html>` and one element, with
+/// nothing around the element but tabs, line feeds, carriage returns and spaces.
 ///
-/// It takes the syntax that is written here, and a browser's parser takes more: values stand in
-/// double quotes, each attribute follows one space, each element that is not void has an end tag of
-/// the same name, letter for letter, and a reference is `&amp;`, `&lt;`, `&gt;`, `&quot;`, `&apos;`
-/// or a number in small hexadecimal digits without leading zeros. All that a text does not spell is
-/// as [`HtmlElement::new`] makes it.
+/// Accepts the syntax that this project writes; a browser's parser accepts more. Values are in
+/// double quotes. Each attribute follows one space. An element has an end tag of the same name,
+/// letter for letter, unless it is void or ends with `/>` (`mprescripts` and `mspace`). A reference
+/// is `&amp;`, `&lt;`, `&gt;`, `&quot;`, `&apos;` or a number in small hexadecimal digits without
+/// leading zeros. All that a text does not spell is as [`HtmlElement::new`] makes it.
 ///
-/// `limit` is from 1 to 10,000 and bounds how deep elements may stand; the root stands at depth 1.
+/// `limit` bounds the depth of elements and is from 1 to 10,000. The root has depth 1.
 ///
 /// # Errors
 ///
-/// The first of these in the text, with its place:
+/// Fails with the first of these in the text, with its place. Memory may run out before either.
 ///
-/// - [`ReadFault::TooDeep`], the `<` of the start tag of an element that would stand deeper;
-/// - [`ReadFault::Syntax`], the first character that no text has which is read, or the end of a text
-///   that is not whole. A name is judged once it ends: the place of one that `HtmlTag::intern` or
-///   `HtmlAttr::intern` refuses is that of the character behind it.
+/// - [`ReadFault::TooDeep`]: an element is deeper than the limit. The place is that of the `<` of
+///   its start tag.
+/// - [`ReadFault::Syntax`]: the text has another syntax. The place is that of the first character
+///   with which no readable text goes on, or the end of an incomplete text. A name is judged once
+///   it ends: the place of a name that `HtmlTag::intern` or `HtmlAttr::intern` refuses is that of
+///   the character behind it.
 ///
-/// Cost: grows with the length of the text. Beside the element it needs memory for the elements
-/// that are open, and for one text and one name.
+/// Takes time for each byte of the text. Allocates, beside the element, memory for the open
+/// elements, one text and one name.
 ///
 /// ```
 /// use typst_html::{Place, ReadFault, read_html, tag};
@@ -71,14 +73,14 @@ fn char_count(text: &str) -> usize
     text.chars().count()
 }
 
-/// How many characters of a text stand before its rest.
+/// Returns the number of characters of a text before its rest.
 fn count_before(text: &str, rest: &str) -> usize
     ensures { result ≡ length (chars text.now) - length (chars rest.now) }
 {
     char_count(text).saturating_sub(char_count(rest))
 }
 
-/// That a text is not read from its rest on.
+/// Returns the fault of a text that cannot be read from its rest on.
 fn syntax_at(text: &str, rest: &str) -> ReadFault
     ensures { let count = length (chars text.now) - length (chars rest.now) in
         result ≡ ReadFault.Syntax (place_at (chars text.now) count) }
@@ -87,7 +89,7 @@ fn syntax_at(text: &str, rest: &str) -> ReadFault
     ReadFault::Syntax { place }
 }
 
-/// The tree that the text after the document type spells. Places are those of the whole text.
+/// Reads the text after the document type. Places in faults are places in the whole text.
 fn read_root(alloc: Global, whole: &str, text: &str, limit: usize) -> Result<HtmlElement, ReadFault>
     requires { length (chars whole.now) ≡ 15 + length (chars text.now) }
     ensures { let cs = chars text.now in

@@ -1,4 +1,4 @@
-//! A reader, which takes one character after the other.
+//! A reader, which reads one character after the other.
 
 ghost use Rattle.std.specs.Prelude.{◌≡◌, ◌↔◌, OnOk, IsTrue, None, option_map};
 ghost use Rattle.typst_html_read.specs.OpenViews.{open_of};
@@ -14,14 +14,14 @@ use html_names::charsets::is_valid_in_tag_name;
 use html_names::{HtmlAttr, HtmlTag, attr, tag};
 use std::alloc::{AllocError, Global};
 
-/// Where a reader stands.
+/// The position of a reader in the syntax.
 #[derive(Clone, Copy)]
 pub(crate) enum Mode {
     /// Outside the root.
     Outside,
     /// Within an element.
     Content,
-    /// Right after a start tag at which a line feed is dropped.
+    /// Right after a start tag behind which a line feed is dropped.
     Fresh,
     /// After `&` in a text.
     Reference,
@@ -47,11 +47,11 @@ pub(crate) enum Mode {
     Slash,
     /// In the name of an end tag.
     EndName,
-    /// Where no text has a tree.
+    /// Stopped: no text that begins so has a tree.
     Stop,
 }
 
-/// A reader, with what it keeps of the text that it has read.
+/// A reader, with the parts of the text read so far that it keeps.
 #[derive(Drop)]
 pub(crate) struct Reader {
     pub(crate) alloc: Global,
@@ -60,9 +60,10 @@ pub(crate) struct Reader {
     pub(crate) root: Option<OpenElement>,
     /// The elements that are open.
     pub(crate) stack: Stack,
-    /// The text since the last child, all that is in a raw element, or a value.
+    /// The text since the last child, the whole text since the start tag of a raw element, or a
+    /// value.
     pub(crate) text: String,
-    /// The name that is being read, or what stands since `&`.
+    /// The name that is being read, or the text since `&`.
     pub(crate) word: String,
     /// The name of the start tag.
     pub(crate) tag: HtmlTag,
@@ -73,7 +74,7 @@ pub(crate) struct Reader {
 }
 
 impl Reader {
-    /// A reader that has read the document type.
+    /// Creates a reader that has read the document type.
     pub(crate) fn new(alloc: Global) -> Reader
         ensures { reader_state result ≡ Outside None }
     {
@@ -113,7 +114,7 @@ impl Reader {
         }
     }
 
-    /// Whether with the character a start tag begins, of an element that would stand deeper than
+    /// Returns whether the character begins the start tag of an element that would be deeper than
     /// the limit.
     pub(crate) fn begins_deep(&self, limit: usize, c: char) -> bool
         ensures { result ≡ begins_deep limit (reader_state self.now) c }
@@ -124,14 +125,14 @@ impl Reader {
             && limit <= self.stack.len()
     }
 
-    /// Whether no text that begins with what was read has a tree.
+    /// Returns whether no text that begins with the text read so far has a tree.
     pub(crate) fn is_stopped(&self) -> bool
         ensures { IsTrue result ↔ (reader_state self.now ≡ Stop) }
     {
         matches!(self.mode, Mode::Stop)
     }
 
-    /// The root, if all of it is read.
+    /// Consumes the reader and returns the root, if all of it has been read.
     pub(crate) fn into_root(self) -> Option<OpenElement>
         ensures { option_map (λ o. completed (open_of o)) result ≡ final_root (reader_state self) }
     {

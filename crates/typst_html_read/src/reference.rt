@@ -11,7 +11,8 @@ ghost use Rattle.typst_html_read.specs.BegunReferences as begun;
 use html_dom_tree::text::add;
 use std::alloc::{AllocError, Global};
 
-/// The character whose one spelling in small hexadecimal digits that is, if it is none of U+0000.
+/// Returns the character whose number has exactly this spelling in small hexadecimal digits, unless
+/// it is U+0000.
 fn numbered(alloc: Global, digits: &str) -> Result<Option<char>, AllocError>
     ensures { IfOk result (λ found. found ≡ definition.numbered_char (chars digits.now)) }
 {
@@ -32,7 +33,7 @@ fn numbered(alloc: Global, digits: &str) -> Result<Option<char>, AllocError>
     }
 }
 
-/// The character that stands between `&` and `;` in these words.
+/// Returns the character that a reference stands for, by its text between `&` and `;`.
 pub(crate) fn reference(alloc: Global, words: &str) -> Result<Option<char>, AllocError>
     ensures { IfOk result (λ found. found ≡ definition.reference (chars words.now)) }
 {
@@ -71,7 +72,7 @@ fn begins_zero(text: &str) -> bool
     }
 }
 
-/// Whether the number of these digits is at most that of the last character.
+/// Returns whether the number of these digits is at most U+10FFFF, or whether there are none.
 fn is_number_of_char(digits: &str) -> bool
     requires { list_all begun.is_small_digit (chars digits.now) ≡ true }
     ensures { result ≡ nat_lt (digits_value 16 (chars digits.now)) 0x11_0000 }
@@ -85,7 +86,7 @@ fn is_number_of_char(digits: &str) -> bool
     }
 }
 
-/// Whether the number of a character begins with these digits, or has none yet.
+/// Returns whether the number of a character begins with these digits, of which there may be none.
 #[tactic(auto, unfolding(crate::specs::BegunReferences::begins_digits))]
 fn begins_digits(digits: &str) -> bool
     ensures { result ≡ begun.begins_digits (chars digits.now) }
@@ -107,7 +108,7 @@ pub fn begins(word: &str, text: &str) -> bool
     word.starts_with(text)
 }
 
-/// Whether a text is `#x` and digits with which the number of a character begins.
+/// Returns whether a text is `#x` followed by digits that the number of a character begins with.
 fn begins_number(text: &str) -> bool
     ensures { result ≡ begun.begins_number (chars text.now) }
 {
@@ -117,7 +118,7 @@ fn begins_number(text: &str) -> bool
     }
 }
 
-/// Whether a reference begins with this text behind its `&`.
+/// Returns whether a reference begins with `&` followed by this text.
 #[tactic(auto, unfolding(crate::specs::BegunReferences::begins_reference))]
 fn begins_reference(text: &str) -> bool
     ensures { result ≡ begun.begins_reference (chars text.now) }
@@ -131,7 +132,7 @@ fn begins_reference(text: &str) -> bool
         || begins_number(text)
 }
 
-/// Adds a character to what stands since `&`, and tells whether a reference begins so.
+/// Appends a character to the text since `&`, and returns whether a reference begins so.
 pub(crate) fn extend(since: &mut String, c: char) -> Result<bool, AllocError>
     ensures since { OnOk result (text_view since.new ≡ text_view since.old ++ c ∷ []) }
     ensures begins { IfOk result (λ begins.

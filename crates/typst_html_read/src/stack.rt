@@ -1,4 +1,4 @@
-//! The elements that are open.
+//! The open elements.
 
 ghost use Rattle.std.specs.Prelude.{◌≡◌, ◌↔◌, IsTrue, ◌∷◌, [], OnOk, IfSome, IfNone, chars, length};
 ghost use Rattle.html_dom_tree.specs.Views.{text_view};
@@ -10,14 +10,13 @@ ghost use Rattle.typst_html_read.specs.OpenViews.{add_child, open_of, stack_of};
 use crate::open::OpenElement;
 use std::alloc::{AllocError, Global};
 
-/// The elements that are open, the innermost last.
+/// The open elements, the innermost last.
 #[derive(Drop)]
 pub(crate) struct Stack {
     pub(crate) items: Vec<OpenElement>,
 }
 
 impl Stack {
-    /// No element.
     pub(crate) fn new(alloc: Global) -> Stack
         ensures { stack_of result ≡ [] }
     {
@@ -25,8 +24,6 @@ impl Stack {
             items: Vec::new(alloc),
         }
     }
-
-    /// How many there are.
 
     pub(crate) fn len(&self) -> usize
         ensures { result ≡ length (stack_of self.now) }
@@ -46,8 +43,6 @@ impl Stack {
         self.items.clear();
     }
 
-    /// Enters an element.
-
     pub(crate) fn push(&mut self, element: OpenElement) -> Result<(), AllocError>
         ensures { OnOk result
             (stack_of self.new ≡ open_of element ∷ stack_of self.old) }
@@ -55,8 +50,6 @@ impl Stack {
         self.items.push(element)?;
         Ok(())
     }
-
-    /// Leaves the innermost element.
 
     pub(crate) fn pop(&mut self) -> Option<OpenElement>
         ensures some { IfSome result (λ element.
@@ -67,7 +60,7 @@ impl Stack {
         self.items.pop()
     }
 
-    /// Adds a text to the innermost element, unless the text is empty.
+    /// Appends a text to the innermost element, unless the text is empty.
     pub(crate) fn add_text(&mut self, text: String) -> Result<(), AllocError>
         ensures { OnOk result (stack_of self.new
             ≡ add_text (text_view text) (stack_of self.old)) }
@@ -78,7 +71,7 @@ impl Stack {
         }
     }
 
-    /// Adds an element to the innermost one.
+    /// Appends an element to the innermost element.
     pub(crate) fn add_child(&mut self, child: OpenElement) -> Result<(), AllocError>
         ensures { OnOk result (stack_of self.new
             ≡ add_child (open_of child) (stack_of self.old)) }
@@ -89,8 +82,8 @@ impl Stack {
         }
     }
 
-    /// Whether in the name of the innermost element the character stands at that place, or is the
-    /// `>` behind that name.
+    /// Returns whether the name of the innermost element has the character at that index or, behind
+    /// the name, whether the character is `>`.
     pub(crate) fn ends_at(&self, place: usize, c: char) -> bool
         ensures { result ≡ ends_at (stack_of self.now) place c }
     {
@@ -100,7 +93,8 @@ impl Stack {
         }
     }
 
-    /// What stands in a text behind the end tag of the innermost element, if it begins with it.
+    /// Returns the rest of a text behind the end tag of the innermost element, if the text begins
+    /// with that tag.
     pub(crate) fn past_end_tag<'a>(&self, text: &'a str) -> Option<&'a str>
         ensures { IfSome result (λ rest.
             EndsTag (stack_of self.now) (chars text.now) (chars rest.now)) }

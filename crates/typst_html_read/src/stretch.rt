@@ -1,4 +1,5 @@
-//! Reading stretches of characters that are only added to a text, a value, a name or a reference.
+//! Reading stretches of characters that are only appended to a text, a value, a name or a
+//! reference.
 
 ghost use Rattle.std.specs.Prelude.{◌≡◌, ◌<◌, ◌++◌, [], chars, IfOk, true};
 ghost use Rattle.html_dom_tree.specs.Views.{text_view};
@@ -17,7 +18,7 @@ fn is_plain(end: u8, byte: u8) -> bool
     byte != end && byte != b'&'
 }
 
-/// Splits a text before its first `&` or the other character.
+/// Splits a text before its first `&` or `end`.
 fn split_plain(end: u8, text: &str) -> (&str, &str)
     requires { end < 128 }
     ensures { Splits (is_plain end) (chars text.now) (chars result.0.now) (chars result.1.now) }
@@ -30,7 +31,7 @@ fn split_plain(end: u8, text: &str) -> (&str, &str)
     text.split_at(at)
 }
 
-/// Splits a text before its first character that no tag name has.
+/// Splits a text before its first character that a tag name cannot have.
 fn split_name(text: &str) -> (&str, &str)
     ensures { Splits is_tag_char (chars text.now) (chars result.0.now) (chars result.1.now) }
 {
@@ -42,7 +43,8 @@ fn split_name(text: &str) -> (&str, &str)
     text.split_at(at)
 }
 
-/// Splits a text behind what stands between `&` and `;` of the references that are written most.
+/// Splits a text behind the name or number of one of the most frequent references, if it begins
+/// with one.
 fn split_reference(text: &str) -> (&str, &str)
     ensures parts { chars text.now ≡ chars result.0.now ++ chars result.1.now }
     ensures begins { all_grow continues [] (chars result.0.now) ≡ true }
@@ -62,7 +64,7 @@ fn split_reference(text: &str) -> (&str, &str)
     ("", text)
 }
 
-/// Adds what stands before the first `&` or the other character, and gives the rest.
+/// Appends the characters before the first `&` or `end`, and returns the rest.
 fn add_plain<'a>(read: &mut String, end: u8, text: &'a str) -> Result<&'a str, AllocError>
     requires { end < 128 }
     ensures { IfOk result (λ rest. Adds (λ _. is_plain end) (text_view read.old) (text_view read.new)
@@ -76,7 +78,7 @@ fn add_plain<'a>(read: &mut String, end: u8, text: &'a str) -> Result<&'a str, A
     Ok(rest)
 }
 
-/// Adds the characters of tag names with which a text begins, and gives the rest.
+/// Appends the characters of tag names that a text begins with, and returns the rest.
 fn add_name<'a>(read: &mut String, text: &'a str) -> Result<&'a str, AllocError>
     ensures { IfOk result (λ rest. Adds (λ _. is_tag_char) (text_view read.old) (text_view read.new)
         (chars text.now) (chars rest.now)) }
@@ -86,7 +88,8 @@ fn add_name<'a>(read: &mut String, text: &'a str) -> Result<&'a str, AllocError>
     Ok(rest)
 }
 
-/// Adds what stands between `&` and `;`, where nothing of it was read, and gives the rest.
+/// Appends the name or number of a frequent reference that a text begins with, unless part of a
+/// reference has been read, and returns the rest.
 fn add_reference<'a>(since: &mut String, text: &'a str) -> Result<&'a str, AllocError>
     ensures { IfOk result (λ rest. Adds continues (text_view since.old) (text_view since.new)
         (chars text.now) (chars rest.now)) }
@@ -100,8 +103,8 @@ fn add_reference<'a>(since: &mut String, text: &'a str) -> Result<&'a str, Alloc
 }
 
 impl Reader {
-    /// Reads the characters that a text begins with, all at once, where each would only be added to
-    /// a text, a value, a name or a reference, and gives the rest.
+    /// Reads at once the characters at the beginning of a text that would each only be appended to
+    /// a text, a value, a name or a reference, and returns the rest.
     pub(crate) fn read_stretch<'a>(&mut self, text: &'a str) -> Result<&'a str, AllocError>
         ensures { IfOk result (λ rest.
             ReadsOn (reader_state self.old) (reader_state self.new) (chars text.now) (chars rest.now)) }

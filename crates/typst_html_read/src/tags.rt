@@ -42,7 +42,7 @@ fn attr_named(alloc: Global, text: &str) -> Result<Option<HtmlAttr>, AllocError>
     }
 }
 
-/// Whether a line feed is dropped after the start tag.
+/// Returns whether a line feed is dropped after the start tag.
 #[tactic(auto, unfolding(html_names::specs::Tables::known_tags, typst_html_encode::specs::Reader::drops_feed))]
 fn drops_feed(tag: &HtmlTag) -> bool
     ensures { result ≡ reader.drops_feed tag.now }
@@ -200,7 +200,7 @@ impl Reader {
         self.complete(element)
     }
 
-    /// The character after the name or an attribute of a start tag.
+    /// Reads the character after the name or an attribute of a start tag.
     fn after(&mut self, c: char) -> Result<(), AllocError>
         ensures { OnOk result (reader_state self.new
             ≡ reader.after self.old.tag (attrs_view self.old.attrs) (stack_of self.old.stack) c) }
@@ -220,7 +220,7 @@ impl Reader {
         self.open()
     }
 
-    /// A start tag without `/` is read.
+    /// Ends a start tag without `/`: completes a void element, and opens any other.
     fn open(&mut self) -> Result<(), AllocError>
         ensures { OnOk result (reader_state self.new
             ≡ reader.after_start_tag self.old.tag (attrs_view self.old.attrs)

@@ -1,5 +1,5 @@
--- Nodes with anchors, and with an `href` of links: what is seen of them is what is seen of the
--- nodes without.
+-- Nodes with anchors, and with an `href` of links: exactly what is visible of the nodes without
+-- them is visible of these.
 use Rattle.std.specs.Prelude.{◌≡◌, ℕ, Bool, false, List, [], ◌∷◌, codes, None}
 use Rattle.html_dom_tree.specs.PlainTree.{nodes_normal}
 use Rattle.html_dom_tree.specs.Tree.{Head, NodesView}
@@ -8,7 +8,7 @@ use Rattle.typst_html_encode.specs.IndentsCollapse.{NodesAreEdged}
 use Rattle.typst_html_spaces.specs.Changed.{Change, Changed}
 use Rattle.typst_html_spaces.specs.PlainNodes.{ArePlainNodes}
 
--- an attribute that an element may be given
+-- an attribute that an element may get
 pub data NewAttribute : Type 0 where
   new_id : NewAttribute
   new_href : NewAttribute
@@ -17,11 +17,11 @@ abbrev pub attribute_name : NewAttribute → List ℕ
 attribute_name new_id = codes "id"
 attribute_name new_href = codes "href"
 
--- with that value, in front of all attributes
+-- an element with that attribute in front of all others
 abbrev pub with_front_attribute : NewAttribute → (value : List ℕ) → Head → Head
 with_front_attribute a value h = record h { attrs = (attribute_name a, value) ∷ h.attrs }
 
--- a `span` with an `id` and nothing else
+-- the head of a `span` with an `id` and nothing else
 abbrev pub anchor_head : (id : List ℕ) (span : ℕ) → Head
 anchor_head id span = record {
   name = codes "span";
@@ -32,12 +32,12 @@ anchor_head id span = record {
   pre_span = false;
 }
 
--- each `id` and each `href` passes
+-- anchors and new attributes, of which each `id` and each `href` passes a test
 module _ (Passes : NewAttribute → List ℕ → Type 0) where
   pub data IsAnchor : Head → Type 0 where
     anchor : (id : List ℕ) (span : ℕ) → Passes new_id id → IsAnchor (anchor_head id span)
 
-  -- an element stays as it is, or is given an `id` or an `href`
+  -- an element stays as it is, or gets an `id` or an `href`
   pub data IsGiven : Head → Head → Type 0 where
     nothing : {h : Head} → IsGiven h h
     given : {h : Head} (a : NewAttribute) (value : List ℕ) → Passes a value →
@@ -54,7 +54,7 @@ Anchored Passes = Changed (anchors Passes)
 abbrev pub IsAny : NewAttribute → List ℕ → Type 0
 IsAny a value = Unit {0}
 
--- what is seen stays
+-- what is visible stays
 abbrev pub AnchorsAreUnseen : Type 0
 AnchorsAreUnseen = (ns ms : NodesView) → Anchored IsAny ns ms → (preserved : Bool) →
     plains_atoms preserved (nodes_normal ms) ≡ plains_atoms preserved (nodes_normal ns)

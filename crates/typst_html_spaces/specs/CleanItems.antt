@@ -1,5 +1,5 @@
 -- Clean items: their texts and labels hold text characters alone, and no void element has a body.
--- So what they become can be written.
+-- So the nodes that they become can be written.
 use Rattle.std.specs.Prelude.{◌≡◌, Bool, true, false, not, ◌&&◌, ◌||◌}
 use Rattle.html_names.specs.Characters.{all, is_text_char}
 use Rattle.html_names.specs.Kinds.{is_void}

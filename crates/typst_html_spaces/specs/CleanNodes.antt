@@ -1,5 +1,5 @@
--- Clean nodes: plain nodes, the texts, values and labels of which hold text characters alone, and
--- of which no void element has a child. So they can be written, with anchors too.
+-- Clean nodes: plain nodes whose texts, values and labels hold text characters alone, and in which
+-- no void element has a child. So they can be written, with anchors too.
 use Rattle.std.specs.Prelude.{◌≡◌, ℕ, Bool, true, not, ◌==◌, List, [], Option, None, Some}
 use Rattle.std.specs.List.{list_all}
 use Rattle.html_names.specs.Characters.{all, is_text_char}
@@ -13,7 +13,7 @@ use Rattle.typst_html_spaces.specs.Anchored.{Anchored}
 use Rattle.typst_html_spaces.specs.DeepNodes.{Wanted, HoldsOfAll}
 use Rattle.typst_html_spaces.specs.PlainFlow.{is_plain_name}
 
--- a text of text characters alone, where there is one
+-- whether a text, if there is one, has text characters alone
 abbrev pub is_clean_text : Option (List ℕ) → Bool
 is_clean_text None = true
 is_clean_text (Some s) = all is_text_char s
@@ -28,7 +28,8 @@ are_clean_values = list_all (λ p. all is_text_char p.1)
 abbrev pub is_no_return : ℕ → Bool
 is_no_return c = not (c == 13)
 
--- directly under an element with the flag `pre_span` no carriage return may stand
+-- a text of text characters alone; directly under an element with the flag `pre_span`, it has no
+-- carriage return
 abbrev pub IsCleanText : (pre_span : Bool) → List ℕ → Type 0
 IsCleanText pre_span s =
     (all is_text_char s ≡ true) × (pre_span ≡ true → all is_no_return s ≡ true)
@@ -46,11 +47,11 @@ clean = record {
   frame = ⊥;
 }
 
--- at any depth
+-- nodes that are clean at any depth
 abbrev pub AreCleanNodes : (pre_span : Bool) → NodesView → Type 0
 AreCleanNodes = HoldsOfAll clean
 
--- they have no fault
+-- clean nodes have no fault
 abbrev pub CleanNodesAreWritten : Type 0
 CleanNodesAreWritten = (pre_span : Bool) (ns : NodesView) → AreCleanNodes pre_span ns →
     (frames : Frames) (pretty : Bool) → nodes_faults frames pre_span pretty ns ≡ []
@@ -59,7 +60,7 @@ CleanNodesAreWritten = (pre_span : Bool) (ns : NodesView) → AreCleanNodes pre_
 abbrev pub IsCleanValue : List ℕ → Type 0
 IsCleanValue value = all is_text_char value ≡ true
 
--- they stay clean with anchors and with an `href` of links
+-- clean nodes stay clean with anchors and with an `href` of links
 abbrev pub AnchorsKeepCleanNodes : Type 0
 AnchorsKeepCleanNodes = (pre_span : Bool) (ns ms : NodesView) →
     Anchored (λ a value. IsCleanValue value) ns ms → AreCleanNodes pre_span ns →

@@ -1,10 +1,10 @@
--- What holds of nodes at any depth: of each element, each text, each tag and each frame.
+-- Properties of nodes at any depth: of each element, each text, each tag and each frame.
 use Rattle.std.specs.Prelude.{ℕ, Bool, true, false, List}
 use Rattle.html_dom_tree.specs.Tags.{TagView}
 use Rattle.html_dom_tree.specs.Tree.{Head, NodeView, tag_node, text_node, element_node, frame_node, NodesView, none, node}
 
--- what is wanted of an element without children or with some, of a text directly under an element
--- with or without the flag `pre_span`, of a tag, and of a frame
+-- the properties required of an element without children or with some, of a text directly under an
+-- element with or without the flag `pre_span`, of a tag, and of a frame
 pub record Wanted : Type 1 where
   pub head : Head → (is_empty : Bool) → Type 0
   pub text : (pre_span : Bool) → List ℕ → Type 0
@@ -26,7 +26,7 @@ abbrev mutual
   HoldsOfAll w pre_span none = Unit {0}
   HoldsOfAll w pre_span (node n ns) = HoldsOf w pre_span n × HoldsOfAll w pre_span ns
 
--- of heads and of frames alone
+-- the properties required of heads and of frames alone
 abbrev pub of_heads : (OfHead : Head → Type 0) (OfFrame : Type 0) → Wanted
 of_heads OfHead OfFrame = record {
   head = λ h b. OfHead h;
@@ -35,6 +35,6 @@ of_heads OfHead OfFrame = record {
   frame = OfFrame;
 }
 
--- each head at any depth, where there is no frame
+-- each head at any depth has the property, and there is no frame
 abbrev pub HeadsAlone : (OfHead : Head → Type 0) → NodesView → Type 0
 HeadsAlone OfHead = HoldsOfAll (of_heads OfHead ⊥) false

@@ -1,4 +1,4 @@
--- The text of items: what they say, by this project's rules. It knows no nodes, spans or anchors.
+-- The text of items, by this project's rules. It does not depend on nodes, spans or anchors.
 use Rattle.std.specs.Prelude.{ℕ, Bool, true, false, ◌==◌, List, [], ◌∷◌, ◌++◌, map, if◌then◌else◌}
 use Rattle.html_names.specs.Displays.{default_display}
 use Rattle.html_names.specs.Kinds.{is_replaced, is_line_break, shows_border}
@@ -28,14 +28,16 @@ break_piece Pre = char 10
 abbrev pub between_edges : List Piece → List Piece
 between_edges ps = edge ∷ (ps ++ edge ∷ [])
 
--- an element by the text of its body; of a replaced element and of `br` that doesn't count
+-- the text of an element, from that of its body, which does not count for a replaced element and a
+-- `br`
 abbrev pub element_pieces : (name : List ℕ) (body : List Piece) → List Piece
 element_pieces name body =
     if is_replaced name then thing name ∷ []
     else (if is_line_break name then line ∷ []
     else (if shows_border (default_display name) then between_edges body else body))
 
--- boxes and frames are no plain flow: of a box this is the text of its body, and of a frame nothing
+-- the text of an item; boxes and frames are no plain flow: a box has the text of its body, and a
+-- frame none
 unfoldable mutual
   pub item_pieces : Whitespace → ItemView → List Piece
   item_pieces whitespace (tag_item t) = []

@@ -1,20 +1,20 @@
--- Which spaces may stay as they are, by one Boolean for what stands before and one for what stands
--- after: whether the thing right before is there and no border, and whether the thing right after is
--- visible.
+-- The spaces that may stay as they are, by one Boolean for what stands before and one for what
+-- stands after: whether a thing that is no border stands right before, and whether the thing right
+-- after is visible.
 use Rattle.std.specs.Prelude.{◌≡◌, Bool, true, false, ◌&&◌, List, [], ◌∷◌, if◌then◌else◌}
 use Rattle.html_dom_tree.specs.Tree.{NodeView, tag_node, text_node, element_node, frame_node, NodesView, none, node}
 use Rattle.html_flow_convert.specs.BareSpaces.{Thing, border, visible, space, is_entered, node_things, nodes_things}
 use Rattle.html_flow_convert.specs.Nodes.{is_one}
 use Rattle.html_flow_convert.specs.Protected.{text_by_answer, protected_nodes}
 
--- whether the first thing is visible, where that is known of what follows the list
+-- whether the first thing is visible, given whether the one right after the list is
 abbrev pub visible_at : List Thing → (after : Bool) → Bool
 visible_at [] after = after
 visible_at (border ∷ ts) after = false
 visible_at (visible ∷ ts) after = true
 visible_at (space ∷ ts) after = false
 
--- whether the last thing is no border, where it is known whether such a thing precedes the list
+-- whether the last thing is no border, given whether such a thing precedes the list
 abbrev pub line_past : (before : Bool) → List Thing → Bool
 line_past before [] = before
 line_past before (border ∷ ts) = line_past false ts
@@ -45,6 +45,6 @@ abbrev mutual
       node (node_between before (visible_at (nodes_things ns) after) n)
       (nodes_between (line_past before (node_things n)) after ns)
 
--- each lone space is judged by what stands before and after it
+-- what stands before and after a lone space determines whether it is protected
 abbrev pub ProtectsByContext : Type 0
 ProtectsByContext = (ns : NodesView) → protected_nodes ns ≡ nodes_between false false ns

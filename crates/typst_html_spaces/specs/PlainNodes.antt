@@ -13,7 +13,7 @@ use Rattle.html_flow_convert.specs.declared.convert.Whitespace.TheVariants.{Norm
 use Rattle.typst_html_spaces.specs.DeepNodes.{HeadsAlone}
 use Rattle.typst_html_spaces.specs.PlainFlow.{is_plain_name, is_plain_flow}
 
--- at any depth
+-- nodes that are plain at any depth
 abbrev pub ArePlainNodes : NodesView → Type 0
 ArePlainNodes = HeadsAlone (λ h. is_plain_name h.name ≡ true)
 

@@ -1,5 +1,5 @@
--- Readable nodes: without a raw element and without a frame, at any depth. So they can be read
--- back, and anchors leave them so.
+-- Readable nodes: nodes without a raw element and without a frame, at any depth. So they can be
+-- read back, and stay readable with anchors.
 use Rattle.std.specs.Prelude.{◌≡◌, ◌↔◌, Bool, false, Some}
 use Rattle.html_names.specs.Kinds.{is_raw}
 use Rattle.html_dom_tree.specs.Tree.{NodesView}
@@ -16,7 +16,7 @@ abbrev pub ReadableNodesCanBeRead : Type 0
 ReadableNodesCanBeRead = (ns : NodesView) → AreReadable ns →
     NodesAreFrameFree ns × ((pretty : Bool) → NodesEndWell pretty ns)
 
--- anchors bring no raw element, and no frame comes or goes
+-- anchors add no raw element, and neither add nor remove a frame
 abbrev pub AnchorsKeepReadable : Type 0
 AnchorsKeepReadable = (ns ms : NodesView) → Anchored IsAny ns ms → AreReadable ns → AreReadable ms
 

@@ -1,4 +1,4 @@
--- What is seen of the body of a document that is written and read.
+-- What is visible of the body of a document that is written and read.
 use Rattle.std.specs.Prelude.{◌≡◌, ℕ, true, false, List, [], Option, Some, None}
 use Rattle.html_names.specs.Kinds.{is_raw}
 use Rattle.html_dom_tree.specs.PlainTree.{Plain, words, branch, Plains, nodes_normal}
@@ -33,7 +33,7 @@ abbrev pub seen_body : Option Plains → Option (List Piece)
 seen_body None = None
 seen_body (Some body) = Some (seen_plains body)
 
--- what is seen of the body of the tree that a text reads as
+-- what is visible of the body of the tree that a text reads as
 abbrev pub seen_tree : Option Plain → Option (List Piece)
 seen_tree None = None
 seen_tree (Some tree) = seen_body (tree_body tree)
@@ -49,15 +49,15 @@ pub record CanBeRead (frames : Frames) (options : HtmlOptions) (e : ElementView)
   pub ends_well : ElementEndsWell true e
   pub clean : document_faults frames options e ≡ []
 
--- what is seen of the body of the text is what is seen of the body, if what has indents there is a
--- border
+-- what is visible of the body of the text is what is visible of the body, if what has indents there
+-- is a border
 abbrev pub BodyIsSeen : Type 0
 BodyIsSeen = (frames : Frames) (options : HtmlOptions) (e : ElementView) (body : NodesView) →
     CanBeRead frames options e → body_children e.1 ≡ Some body → NodesAreEdged body →
     seen_text (document_text frames options e) ≡ Some (seen_plains (nodes_normal body))
 
--- a document whose body is made of items in plain flow: in its text, plain or pretty, exactly their
--- text is seen
+-- exactly the text of items in plain flow is visible in the text, plain or pretty, of a document
+-- whose body is made of them
 abbrev pub ItemsAreSeen : Type 0
 ItemsAreSeen = (frames : Frames) (options : HtmlOptions) (e : ElementView) (role : RoleText)
     (items : ItemsView) → is_plain_flow items ≡ true → CanBeRead frames options e →

@@ -1,4 +1,4 @@
--- Rows of items with their text, and of items that are no plain flow.
+-- Examples of items with their text, and of items that are no plain flow.
 use Rattle.std.specs.Prelude.{◌≡◌, ℕ, Bool, true, false, List, [], ◌∷◌, ◌++◌, map, codes, None}
 use Rattle.html_dom_tree.specs.Tags.{starts, ends}
 use Rattle.typst_html_encode.specs.Collapsing.{Piece, char, thing, line, edge}
@@ -49,11 +49,11 @@ pieces_in_edges s = edge ∷ plain_pieces s ++ edge ∷ []
 abbrev pub SeenRow : Type 0
 SeenRow = List ItemView × List Piece
 
--- a space after a character that is not shown
+-- a space after an ignorable character
 abbrev ignorable_within : List ℕ
 ignorable_within = 97 ∷ 0x200b ∷ 32 ∷ 98 ∷ []
 
--- texts and spaces of paragraphs
+-- examples of texts and spaces of paragraphs
 abbrev pub lines : List SeenRow
 lines =
     (paragraph (words (codes "a<b & c>d") ∷ []) ∷ [], pieces_in_edges (codes "a<b & c>d"))
@@ -87,7 +87,7 @@ lines =
     )
     ∷ []
 
--- blocks
+-- examples of blocks
 abbrev pub blocks : List SeenRow
 blocks = (
   block (emphasis (words (codes "x") ∷ []) ∷ []) ∷ block (words (codes "x") ∷ [])
@@ -112,7 +112,7 @@ blocks = (
     ∷ (block (words (codes "\n\n") ∷ []) ∷ [], edge ∷ line ∷ line ∷ edge ∷ [])
     ∷ []
 
--- lists and tables
+-- examples of lists and tables
 abbrev pub lists_and_tables : List SeenRow
 lists_and_tables = (
   element (codes "ul") (element (codes "li") (words (codes "a ") ∷ [])
@@ -126,7 +126,7 @@ lists_and_tables = (
     )
     ∷ []
 
--- boxes, names that are no plain flow, and blocks of one line break by any spelling
+-- examples of boxes, names that are no plain flow, and blocks of one line break by any spelling
 abbrev pub others : List (List ItemView)
 others =
     (box_item (present (row_items (words (codes "y") ∷ []))) 0 ∷ [])
@@ -140,13 +140,14 @@ others =
     ∷ (block (element (codes "br") (words (codes "x") ∷ []) ∷ []) ∷ [])
     ∷ []
 
--- whether items are plain flow, their text, and what is seen of their nodes
+-- whether items are plain flow, their text, and what is visible of their nodes
 abbrev pub row_answer : SeenRow → Bool × List Piece × List Piece
 row_answer r =
     let items = row_items r.0 in
     (is_plain_flow items, items_text items, seen_pieces (converted_nodes Block Normal None items))
 
--- they are, with that text, and the nodes are seen as just that
+-- the expected result: the items are plain flow with that text, and exactly that is visible of the
+-- nodes
 abbrev pub expected_answer : SeenRow → Bool × List Piece × List Piece
 expected_answer r = (true, r.1, r.1)
 

@@ -1,5 +1,5 @@
--- Spaces stay: once white space has collapsed, what is seen of the nodes that items become is the
--- items' text.
+-- Spaces stay: once white space has collapsed, what is visible of the nodes that items become is
+-- the items' text.
 use Rattle.std.specs.Prelude.{◌≡◌, ℕ, true, false, List}
 use Rattle.html_dom_tree.specs.PlainTree.{nodes_normal}
 use Rattle.html_dom_tree.specs.Styled.{styled_nodes}
@@ -14,16 +14,17 @@ use Rattle.html_flow_convert.specs.declared.convert.Whitespace.TheVariants.{Norm
 use Rattle.typst_html_spaces.specs.ItemText.{items_text}
 use Rattle.typst_html_spaces.specs.PlainFlow.{is_plain_flow}
 
--- what is seen of nodes, with their css as `style` attributes
+-- what is visible of nodes, with their css as `style` attributes
 abbrev pub seen_pieces : NodesView → List Piece
 seen_pieces ns = collapsed_pieces (plains_atoms false (nodes_normal (styled_nodes ns)))
 
--- no space of items in plain flow goes, and none is added
+-- items in plain flow lose no space and get none
 abbrev pub SpacesStay : Type 0
 SpacesStay = (role : RoleText) (items : ItemsView) → is_plain_flow items ≡ true →
     seen_pieces (converted_nodes Block Normal role items) ≡ items_text items
 
--- nor of the nodes as pretty writing lays them out in an element that is no raw one, on any level
+-- the same holds of their nodes as pretty writing lays them out in an element that is no raw one,
+-- on any level
 abbrev pub PrettySpacesStay : Type 0
 PrettySpacesStay = (role : RoleText) (items : ItemsView) (level : ℕ) (h : Head) →
     is_plain_flow items ≡ true → is_raw h.name ≡ false →

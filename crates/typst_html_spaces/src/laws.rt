@@ -11,26 +11,27 @@ ghost use Rattle.typst_html_spaces.specs.ReadableNodes.{AnchorsKeepBody, Anchors
 ghost use Rattle.typst_html_spaces.specs.SeenBody.{BodyIsSeen, ItemsAreSeen};
 ghost use Rattle.typst_html_spaces.specs.SpacesStay.{PrettySpacesStay, SpacesStay};
 
-/// Collapsing judges each atom by what stands before and after it.
+/// What stands before and after an atom determines what collapsing makes of it.
 #[tactic(auto, using(crate::proofs::AtomContexts::collapses_by_context))]
 pub fn atoms_collapse_by_context()
     ensures { CollapsesByContext }
 {}
 
-/// What is seen of two lists, each with the other beside it, is what is seen of them together.
+/// What is visible of two lists, each with the other beside it, is what is visible of them
+/// together.
 #[tactic(auto, using(crate::proofs::AtomContexts::pieces_of_both))]
 pub fn atoms_in_contexts_append()
     ensures { PiecesOfBoth }
 {}
 
-/// Each lone space is kept or stays as it is by what stands before and after it.
+/// What stands before and after a lone space determines whether it is protected or stays as it is.
 #[tactic(auto, using(crate::proofs::LineContexts::protects_by_context))]
 pub fn lone_spaces_by_context()
     ensures { ProtectsByContext }
 {}
 
-/// Texts and spaces of paragraphs, blocks, lists and tables, as they are seen; and items that are no
-/// plain flow.
+/// Examples of texts and spaces of paragraphs, blocks, lists and tables, and what is visible of
+/// them; and of items that are no plain flow.
 pub fn rows_are_seen()
     ensures lines { AreSeen lines }
     ensures blocks { AreSeen blocks }
@@ -38,23 +39,23 @@ pub fn rows_are_seen()
     ensures others { AreNotPlain others }
 {}
 
-/// Spaces stay: what is seen of the nodes that items in plain flow become at block level, with
+/// Spaces stay: what is visible of the nodes that items in plain flow become at block level, with
 /// their css in `style`, once white space has collapsed, is exactly the items' text.
 #[tactic(auto, using(crate::proofs::SpacesStay::spaces_stay))]
 pub fn spaces_stay()
     ensures { SpacesStay }
 {}
 
-/// Spaces of items in plain flow stay as pretty writing lays their nodes out too, in an element
-/// that is no raw one: its indents are not seen.
+/// Spaces of items in plain flow also stay as pretty writing lays their nodes out, in an element
+/// that is no raw one: its indents are invisible.
 #[tactic(auto, using(crate::proofs::SpacesStay::pretty_spaces_stay))]
 pub fn pretty_spaces_stay()
     ensures { PrettySpacesStay }
 {}
 
-/// A root that can be read back: what is seen of the body of its text, plain or pretty, is what is
-/// seen of its body, if what has indents there is a border. If that is made of items in plain flow,
-/// it is exactly their text.
+/// If a root can be read back, what is visible of the body of its text, plain or pretty, is what is
+/// visible of its body, if what has indents there is a border. If the body is made of items in
+/// plain flow, that is exactly their text.
 #[tactic(auto, using(crate::proofs::SeenBody::body_is_seen, crate::proofs::SeenBody::items_are_seen))]
 pub fn documents_are_seen()
     ensures body { BodyIsSeen }
@@ -69,17 +70,17 @@ pub fn plain_flow_makes_plain_nodes()
     ensures inside { PlainNamesAreInside }
 {}
 
-/// Items in plain flow whose texts, values, roles and labels hold text characters alone, as does
-/// the role of their list, and of which no void element has a body, become nodes without a fault.
-/// They stay so with anchors and with an `href` of links, of text characters alone.
+/// Items in plain flow become nodes without a fault, if their texts, values, roles and labels and
+/// the role of their list hold text characters alone, and no void element has a body. They stay
+/// without a fault with anchors and with an `href` of links, of text characters alone.
 pub fn clean_items_are_written()
     ensures made { CleanItemsMakeCleanNodes }
     ensures written { CleanNodesAreWritten }
     ensures anchored { AnchorsKeepCleanNodes }
 {}
 
-/// Anchors are not seen, nor is where links lead: neither an `id` or an `href` in front of an
-/// element's attributes nor a `span` with nothing but an `id`, after a tag or around a text. What
+/// Anchors and the destinations of links are invisible: an `id` or an `href` in front of an
+/// element's attributes, and a `span` with nothing but an `id`, after a tag or around a text. What
 /// has indents stays a border, plain nodes stay plain, no frame comes or goes, there is no new raw
 /// element, and the first `body` stays the first. Nodes without a raw element and without a frame
 /// can be read back.

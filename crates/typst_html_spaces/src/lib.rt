@@ -1,5 +1,5 @@
-//! Spaces stay: what is seen of the nodes of items in plain flow, once white space has collapsed, is
-//! exactly the items' text.
+//! Spaces stay: what is visible of the nodes of items in plain flow, once white space has
+//! collapsed, is exactly the items' text.
 //!
 //! There is no code here: the functions of [`laws`] have laws as their contracts and do nothing.
 #![tactic(auto)]

@@ -1,13 +1,14 @@
-//! The static library for C and what calls C: each call of `typst_html_c`, under its name.
+//! The static library for C, and for languages that call C. It exports each call of `typst_html_c`
+//! under its name.
 #![tactic(auto)]
 
 ghost use Rattle.std.specs.Prelude.{◌≡◌};
 ghost use Rattle.typst_html_c.specs.CallReplies.{RepliesAt, RepliesWithAt, call_dead_links, document_call_answer, write_answer};
 ghost use Rattle.typst_html_c.specs.DeadLinks.{dead_links_answer};
 ghost use Rattle.typst_html_c.specs.Fragments.{fragment_call_answer};
-ghost use Rattle.typst_html_c.specs.PageFindings.{check_told};
-ghost use Rattle.typst_html_c.specs.PageLinks.{links_told};
-ghost use Rattle.typst_html_c.specs.PageTold.{Tells};
+ghost use Rattle.typst_html_c.specs.PageFindings.{check_report};
+ghost use Rattle.typst_html_c.specs.PageLinks.{links_report};
+ghost use Rattle.typst_html_c.specs.PageReports.{Reports};
 ghost use Rattle.typst_html_c.specs.Unused.{unused_call_answer};
 
 use std::alloc::Global;
@@ -105,7 +106,7 @@ pub extern "C" fn typst_html_check(
     page: &[u8],
     output: &mut [u8],
 ) -> Reply
-    ensures answered { Tells (check_told limit page.now) output.old result output.new }
+    ensures answered { Reports (check_report limit page.now) output.old result output.new }
     ensures kept { ¬ (result.status ≡ 0) → output.new ≡ output.old }
 {
     typst_html_c::typst_html_check(alloc, limit, page, output)
@@ -119,7 +120,7 @@ pub extern "C" fn typst_html_links(
     page: &[u8],
     output: &mut [u8],
 ) -> Reply
-    ensures answered { Tells (links_told limit page.now) output.old result output.new }
+    ensures answered { Reports (links_report limit page.now) output.old result output.new }
     ensures kept { ¬ (result.status ≡ 0) → output.new ≡ output.old }
 {
     typst_html_c::typst_html_links(alloc, limit, page, output)

@@ -1,4 +1,5 @@
-//! Each constant of an attribute is the name that its identifier spells, group by group.
+//! The law that each constant of an attribute is the name that its identifier spells. Each function
+//! states it for a group of constants.
 #![tactic(auto, unfolding(crate::specs::Tables::known_attrs))]
 
 ghost use Rattle.std.specs.Prelude.{IsTrue};
@@ -8,7 +9,7 @@ use crate::HtmlAttr;
 use crate::attr::mathml::*;
 use crate::attr::*;
 
-/// HTML's attributes from `abbr` to `aria-rowindex`, each after its identifier.
+/// Returns HTML's attributes from `abbr` to `aria-rowindex`, each paired with its identifier.
 #[rattlefmt::skip]
 pub fn html_1() -> [(&'static str, HtmlAttr); 47]
     ensures { IsTrue (are_spelled result) }
@@ -25,7 +26,7 @@ pub fn html_1() -> [(&'static str, HtmlAttr); 47]
     ]
 }
 
-/// HTML's attributes from `aria-rowspan` to `form`, each after its identifier.
+/// Returns HTML's attributes from `aria-rowspan` to `form`, each paired with its identifier.
 #[rattlefmt::skip]
 pub fn html_2() -> [(&'static str, HtmlAttr); 47]
     ensures { IsTrue (are_spelled result) }
@@ -40,7 +41,7 @@ pub fn html_2() -> [(&'static str, HtmlAttr); 47]
     ]
 }
 
-/// HTML's attributes from `formaction` to `pattern`, each after its identifier.
+/// Returns HTML's attributes from `formaction` to `pattern`, each paired with its identifier.
 #[rattlefmt::skip]
 pub fn html_3() -> [(&'static str, HtmlAttr); 47]
     ensures { IsTrue (are_spelled result) }
@@ -54,7 +55,7 @@ pub fn html_3() -> [(&'static str, HtmlAttr); 47]
     ]
 }
 
-/// HTML's attributes from `ping` to `writingsuggestions`, each after its identifier.
+/// Returns HTML's attributes from `ping` to `writingsuggestions`, each paired with its identifier.
 #[rattlefmt::skip]
 pub fn html_4() -> [(&'static str, HtmlAttr); 47]
     ensures { IsTrue (are_spelled result) }
@@ -69,7 +70,7 @@ pub fn html_4() -> [(&'static str, HtmlAttr); 47]
     ]
 }
 
-/// MathML's attributes, each after its identifier.
+/// Returns MathML's attributes, each paired with its identifier.
 #[rattlefmt::skip]
 pub fn of_mathml() -> [(&'static str, HtmlAttr); 22]
     ensures { IsTrue (are_spelled result) }

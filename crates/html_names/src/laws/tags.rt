@@ -1,4 +1,5 @@
-//! Each constant of a tag is the name that its identifier spells, group by group.
+//! The law that each constant of a tag is the name that its identifier spells. Each function states
+//! it for a group of constants.
 #![tactic(auto, unfolding(crate::specs::Tables::known_tags))]
 
 ghost use Rattle.std.specs.Prelude.{IsTrue};
@@ -8,7 +9,7 @@ use crate::HtmlTag;
 use crate::tag::mathml::*;
 use crate::tag::*;
 
-/// HTML's tags from `a` to `label`, each after its identifier.
+/// Returns HTML's tags from `a` to `label`, each paired with its identifier.
 #[rattlefmt::skip]
 pub fn html_1() -> [(&'static str, HtmlTag); 56]
     ensures { IsTrue (are_spelled result) }
@@ -21,7 +22,7 @@ pub fn html_1() -> [(&'static str, HtmlTag); 56]
     ]
 }
 
-/// HTML's tags from `legend` to `wbr`, each after its identifier.
+/// Returns HTML's tags from `legend` to `wbr`, each paired with its identifier.
 #[rattlefmt::skip]
 pub fn html_2() -> [(&'static str, HtmlTag); 56]
     ensures { IsTrue (are_spelled result) }
@@ -34,7 +35,7 @@ pub fn html_2() -> [(&'static str, HtmlTag); 56]
     ]
 }
 
-/// MathML's tags, each after its identifier.
+/// Returns MathML's tags, each paired with its identifier.
 #[rattlefmt::skip]
 pub fn of_mathml() -> [(&'static str, HtmlTag); 30]
     ensures { IsTrue (are_spelled result) }

@@ -6,7 +6,7 @@ use crate::name::Name;
 use std::alloc::{AllocError, Global};
 use std::collections::BTreeMap;
 
-/// The numbers of names, by how a name is held: a known one by its place, another by its text.
+/// The numbers of names. A known name is found by its index, another by its text.
 #[derive(Drop)]
 pub(crate) struct NumberMap {
     known: Vec<Option<usize>>,
@@ -33,7 +33,7 @@ impl NumberMap {
         }
     }
 
-    /// Gives the name that number. Where an allocation fails, each name has the number that it had.
+    /// Sets the number of a name. If an allocation fails, each name keeps its number.
     pub(crate) fn put(&mut self, name: &Name, number: usize) -> Result<(), AllocError>
         ensures { Puts result self.old self.new name.now number }
     {

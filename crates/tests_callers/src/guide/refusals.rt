@@ -21,8 +21,8 @@ fn page(alloc: Global, lines: &str) -> Result<String, ExportFault> {
     )
 }
 
-/// How a user is told of it. The span is 0 where there is no place, as for out of memory.
-fn told(alloc: Global, fault: &ExportFault) -> Result<String, ExportFault> {
+/// Returns the message for a user. The span is 0 if there is no place, as for out of memory.
+fn message(alloc: Global, fault: &ExportFault) -> Result<String, ExportFault> {
     let Span(line) = fault.span();
     Ok(format!(in alloc; "line {line}: {fault} ({})", fault.number())?)
 }
@@ -30,7 +30,7 @@ fn told(alloc: Global, fault: &ExportFault) -> Result<String, ExportFault> {
 #[test]
 fn a_refusal_with_its_line(rt: HostRuntime) {
     let fault = page(rt.alloc(), "salt\nvin\u{1}egar").expect_err(&rt, "a fault");
-    let text = told(rt.alloc(), &fault).expect(&rt, "a text");
+    let text = message(rt.alloc(), &fault).expect(&rt, "a text");
     assert_eq!(rt;
         text.as_str(),
         "line 2: a character cannot be encoded in HTML (11)"

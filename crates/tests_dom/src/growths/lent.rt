@@ -61,7 +61,7 @@ fn call(alloc: Global, lent: &mut Lent) -> Result<bool, AllocError> {
     }
 }
 
-/// Whether the arguments have what no text shows.
+/// Returns whether the arguments have the parts that no text shows.
 fn is_whole(lent: &Lent) -> bool {
     match lent {
         Lent::LinkTargets(known) | Lent::CopiedIntrospector(known) => knows(known),
@@ -90,7 +90,7 @@ fn link_of(alloc: Global, href: &str) -> Result<HtmlNode, AllocError> {
     Ok(HtmlNode::from(HtmlElement { attrs, ..link }))
 }
 
-/// A dead link between two elements, the second of which has the ids of the first.
+/// Returns a dead link between two elements, the second of which has the ids of the first.
 fn root_of(alloc: Global) -> Result<HtmlElement, AllocError> {
     let mut nodes = Vec::new(alloc);
     nodes.push(HtmlNode::from(element_of(alloc)?))?;
@@ -113,7 +113,7 @@ fn nodes_of(alloc: Global) -> Result<Vec<HtmlNode>, AllocError> {
     Ok(vec![in alloc; HtmlNode::from(element_of(alloc)?)]?)
 }
 
-/// Whether all nodes of `element_of`, at all depths, are there, with itself.
+/// Returns whether the tree has `element_of` itself, and all nodes in it at all depths.
 fn has_all(tree: &FlatTree) -> bool {
     tree.nodes().len() == 7
 }
@@ -124,7 +124,8 @@ fn tree_of(alloc: Global) -> Result<Lent, AllocError> {
     Ok(Lent::ToNodes(FlatTree::from_nodes(alloc, &nodes)?, shown))
 }
 
-/// Whether the position of the element in the nodes is known, and the target of their frame's link.
+/// Returns whether the position of the element in the nodes is known, and the target of their
+/// frame's link.
 fn knows(introspector: &HtmlIntrospector) -> bool {
     introspector.position(Location(1)).is_some()
         && introspector.frame_link_targets().contains(&Location(3))
@@ -145,12 +146,12 @@ fn nodes(rt: HostRuntime) -> TestResult {
     assert_lent(alloc, Lent::Introspected(nodes_of(alloc)?))
 }
 
-/// Whether the position of the element that starts in the document is known.
+/// Returns whether the position of the element that starts in the document is known.
 pub(crate) fn is_known(document: &HtmlDocument) -> bool {
     document.introspector().position(Location(1)).is_some()
 }
 
-/// Two locations, one of which starts in the document.
+/// Returns two locations, one of which starts in the document.
 pub(crate) fn targets_of(alloc: Global) -> Result<Targets, AllocError> {
     let mut targets = BTreeSet::new(alloc);
     targets.insert(Location(1))?;
@@ -162,7 +163,7 @@ pub(crate) fn has_anchor(anchors: &BTreeMap<Location, String>) -> bool {
     anchors.contains_key(&Location(1))
 }
 
-/// A document with a link that leads nowhere.
+/// Returns a document with a link that leads nowhere.
 fn dead_of(alloc: Global) -> Result<HtmlDocument, AllocError> {
     let link = HtmlElement::new(alloc, tag::a).spanned(Span(3));
     let children = vec![in alloc; HtmlNode::from(start(1, Some(9))), HtmlNode::from(link)]?;

@@ -1,4 +1,4 @@
-//! Texts that are read, and the visible text of a page that was read.
+//! Reading of texts, and the visible text of a page that was read.
 
 use html_dom_tree::HtmlElement;
 use std::alloc::{AllocError, Global};
@@ -38,7 +38,7 @@ fn texts(rt: HostRuntime) -> TestResult {
     refuses(alloc, || ends_at(alloc, wrong, 39))
 }
 
-/// Text with spaces and ignorable characters, objects and line breaks, in blocks.
+/// A text with spaces and ignorable characters, objects and line breaks, in blocks.
 const SHOWN: &str = concat!(
     "<!DOCTYPE html><html><body><p>a \u{200b} b<br><img></p><pre> c</pre>d</body></html>",
 );

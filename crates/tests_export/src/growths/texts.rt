@@ -34,7 +34,8 @@ fn sources_of(alloc: Global) -> Result<Content, AllocError> {
     })
 }
 
-/// Asserts that a call that makes a text is refused at first, and leaves what it borrows.
+/// Asserts that a call that makes a text is refused at first, and leaves its borrowed argument
+/// unchanged.
 fn assert_text<T: Debug + Drop, F: Fn(&mut T) -> Result<String, ExportFault>>(
     alloc: Global,
     lent: T,
@@ -48,14 +49,14 @@ fn assert_text<T: Debug + Drop, F: Fn(&mut T) -> Result<String, ExportFault>>(
     refuses_lent(alloc, lent, is_written)
 }
 
-/// The text of a document.
+/// Asserts that writing the text of a document is refused at first.
 fn assert_written(alloc: Global, options: &HtmlOptions, frames: &OneText) -> TestResult {
     assert_text(alloc, document_of(alloc)?, |document| {
         html(alloc, document, options, frames)
     })
 }
 
-/// Texts of the arguments of a document.
+/// Asserts that writing texts of the arguments of a document is refused at first.
 fn assert_exported(alloc: Global, options: &HtmlOptions, frames: &OneText) -> TestResult {
     assert_text(alloc, sources_of(alloc)?, |of: &mut Content| {
         let (items, info, notes) = (&of.items, &of.info, &of.footnotes);

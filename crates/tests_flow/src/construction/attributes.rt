@@ -14,8 +14,8 @@ fn link(alloc: Global) -> Result<ElementInfo, AllocError> {
     Ok(ElementInfo::new(tag::a, vec![in alloc; href, download, tabindex]?))
 }
 
-/// Arguments, and the link that they make, in words. Repeated names and arguments that are left
-/// stay in order, and all refused casts are reported.
+/// Arguments, and the link that is made from them, in words. Repeated names and arguments that are
+/// left stay in order, and all refused casts are reported.
 static LINKS: [(&[Row], &str); 6] = [
     (
         &[

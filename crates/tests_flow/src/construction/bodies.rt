@@ -5,9 +5,9 @@ use html_flow::ElementInfo;
 use html_names::HtmlTag;
 use tests_asserts::TestResult;
 
-/// An element without attributes, its only argument's span and value, and the result. Raw elements
-/// refuse items and none, and accept a text. Void elements take no body; others accept none, but no
-/// number.
+/// The name of an element without attributes, the span and the value of its only argument, and the
+/// result. Raw elements refuse items and none, and accept a text. Void elements accept no body.
+/// Others accept none, but no number.
 static BODIES: [(&str, u64, Sample, &str); 6] = [
     ("script", 7, Sample::Hole, "24 at 7 | 7"),
     ("script", 7, Sample::None, "24 at 7 | 7"),

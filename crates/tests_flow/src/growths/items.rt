@@ -115,7 +115,7 @@ fn added((way, mut element, name, value): Given) -> Result<bool, Refused<Given>>
     }
 }
 
-/// A value is added to elements.
+/// Adds a value to elements.
 #[test]
 fn changed_attributes(rt: HostRuntime) -> TestResult {
     let alloc = rt.alloc();
@@ -179,7 +179,7 @@ fn arg_of(alloc: Global, name: &str, value: Value) -> Result<Arg, AllocError> {
     })
 }
 
-/// The arguments `href`, `class`, one without a type, and a body.
+/// Returns the arguments `href`, `class`, one without a type, and a body.
 fn args_of(alloc: Global) -> Result<Args, AllocError> {
     let mut items = Vec::with_capacity(alloc, 4)?;
     let text = String::from_str(alloc, "x")?;

@@ -8,7 +8,7 @@ use tests_asserts::TestResult;
 use tests_growth::{refuses_given, refuses_lent};
 use tests_items::text_item_of;
 
-/// A text for which the room of another is not enough.
+/// A text that is too long for the room of another.
 const LONG: &str =
     " and vinegar, oil and pepper, bread and cheese, plums and pears, nuts and honey, \
     tea and milk, rice and beans, leeks and eggs, dill and thyme, and all that keeps through the winter";

@@ -35,12 +35,13 @@ fn adds_text(alloc: Global, mut nodes: Vec<HtmlNode>) -> Result<bool, AllocError
     Ok(nodes.len() == COUNT + 3)
 }
 
-/// Whether there are as many as before, and the node at that index is no longer a text.
+/// Returns whether there are as many nodes as before, and the one at that index is no longer a
+/// text.
 fn is_kept_at(nodes: &[HtmlNode], place: usize) -> bool {
     nodes.len() == COUNT && !matches!(nodes.get(place), None | Some(HtmlNode::Text(_, _)))
 }
 
-/// Nodes for each of the calls.
+/// Returns nodes for each of the calls.
 fn taken_of(alloc: Global) -> Result<Vec<Vec<HtmlNode>>, AllocError> {
     let mut values = Vec::new(alloc);
     for _ in 0..SPARES {
@@ -77,7 +78,7 @@ fn taken(rt: HostRuntime) -> TestResult {
     Ok(())
 }
 
-/// A space at the beginning, and one between two words.
+/// Returns a space at the beginning, and one between two words.
 fn spaced_of(alloc: Global) -> Result<Vec<HtmlNode>, AllocError> {
     let mut nodes = Vec::new(alloc);
     nodes.push(text_of(alloc, " ", 1)?)?;

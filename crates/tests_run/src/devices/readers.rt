@@ -6,7 +6,7 @@ use std::io;
 use std::io::{Error, ErrorKind, Read};
 use std::process::Abort;
 
-/// Reads one byte at a time. Only the read numbered `fails_at` fails.
+/// A reader of one byte at a time. Only the read numbered `fails_at` fails.
 #[derive(Drop)]
 struct Drip<'a> {
     rest: &'a [u8],
@@ -44,7 +44,7 @@ impl Read for Drip<'_> {
     }
 }
 
-/// Never ends.
+/// A reader that never ends.
 #[derive(Drop)]
 struct Endless;
 
@@ -54,7 +54,7 @@ impl Read for Endless {
     }
 }
 
-/// Reads as much as is requested, and records the lengths of requests.
+/// A reader of as much as is requested, which records the lengths of requests.
 #[derive(Drop)]
 struct Asked<'a> {
     rest: &'a [u8],
@@ -97,7 +97,7 @@ fn assert_each_failed(rt: &impl Abort, alloc: Global, case: &Case) {
     }
 }
 
-/// It makes no difference what the input spells, or whether it spells anything.
+/// A failing read ends the run whatever the input spells, and even if it spells nothing.
 #[test]
 fn each_read_fails(rt: HostRuntime) {
     for case in &CASES {

@@ -6,8 +6,8 @@ use std::io;
 use std::io::{Error, ErrorKind, Write};
 use std::process::Abort;
 
-/// Writes at most `most` bytes at a time. Only the write numbered `fails_at` fails, and each flush
-/// if `flush_fails`.
+/// A writer of at most `most` bytes at a time. Only the write numbered `fails_at` fails, and each
+/// flush if `flush_fails`.
 #[derive(Drop)]
 struct Slow {
     taken: Vec<u8>,
@@ -57,7 +57,7 @@ impl Write for Slow {
     }
 }
 
-/// Returns the status of the run. Asserts that the writer has got that much of the output.
+/// Returns the status of the run. Asserts that the writer got that much of the output.
 fn status_of(
     rt: &impl Abort,
     alloc: Global,

@@ -35,14 +35,14 @@ mod tests {
         HtmlOptions, Span, html_in_bundle, tag,
     };
 
-    /// A frame of span 2.
+    /// Returns a frame with span 2.
     fn frame(alloc: Global) -> HtmlFrame {
         let (picture, items) = (1, Vec::new(alloc));
         let size = Abs::from_millionths(11_000_000);
         HtmlFrame::new(alloc, Frame { picture, items }, size, Span(2))
     }
 
-    /// The text of a `div` with such a frame.
+    /// Returns the text of a `div` with such a frame.
     fn written<W: FrameWriter>(alloc: Global, writer: &W) -> Result<String, ExportFault> {
         let root = HtmlElement::new(alloc, tag::div).with_child(HtmlNode::from(frame(alloc)))?;
         html_in_bundle(alloc, &root, &HtmlOptions::default(), writer)

@@ -26,11 +26,11 @@ add_nodes-loop-child-preserved t c =
       node_view child ∷ held.0,
       record {
         behind = c.dest_past-dest.ensures held.0 held.1.behind;
-        told = one_more_dead (hrefs_view c.args.targets) _ held.0 (node_view child)
+        agrees = one_more_dead (hrefs_view c.args.targets) _ held.0 (node_view child)
             _ _ _ _ _ held.1.behind c.in_ok-add_node.ensures
             (nodes_view-drop c.args.nodes.now c.loop-child.child-index child
             c.loop-child-test.true c.child-item.is)
-            held.1.told;
+            held.1.agrees;
       },
     )
 
@@ -43,4 +43,4 @@ add_nodes-returns t c =
     (length-drop c.loop-child.child-index c.args.nodes.now ∙ omega arith) in
     no_more_dead hrefs held.0 (dead_links_view c.loop-child.dead.items) _
     (ap (λ ns. dead_links_view c.loop-child.dead.items
-    ++ nodes_dead_links hrefs held.0 (nodes_view ns)) (sym none) ∙ held.1.told)
+    ++ nodes_dead_links hrefs held.0 (nodes_view ns)) (sym none) ∙ held.1.agrees)

@@ -12,7 +12,7 @@ invariant-add_nodes-loop-child l =
     let hrefs = hrefs_view l.targets in
     (before : List NodeView) × record {
       behind : option_map (λ d. d.0) l.dest ≡ dest_before before;
-      told : dead_links_view l.dead.items
+      agrees : dead_links_view l.dead.items
           ++ nodes_dead_links hrefs before (nodes_view (drop l.child-index l.nodes))
           ≡ dead_links_view l.fn.dead.items ++ nodes_dead_links hrefs [] (nodes_view l.nodes);
     }

@@ -38,11 +38,11 @@ anchor_in_place-loop-child-preserved t c =
     let h : at.child-index < length at.nodes = grind (arith, common_steps) in
     let step = node_kept x at.nodes _ at.child-index c.child-item.result c.anchor_node.new.child
     (span_before (optional_text_view c.in_ok-anchor_node.field-0) none) st _ _ h refl
-    at.invariant.no_end at.invariant.told
+    at.invariant.no_end at.invariant.agrees
     c.in_ok-anchor_node.ensures in
     record {
       unvisited = (grind (arith, common_steps), λ k d le. grind (arith, common_steps));
-      told = step.0;
+      agrees = step.0;
       no_end = step.1;
     }
 
@@ -53,10 +53,10 @@ anchor_in_place-loop-child-preserved-then-passes t c =
     let st = state_view at.state in
     let h : at.child-index < length at.nodes = grind (arith, common_steps) in
     let step = node_kept x at.nodes _ at.child-index c.child-item.result _ none st st _ h refl
-    at.invariant.no_end at.invariant.told (sym (c.passes.ensures c.if-passes.true x)) in
+    at.invariant.no_end at.invariant.agrees (sym (c.passes.ensures c.if-passes.true x)) in
     record {
       unvisited = (grind (arith, common_steps), λ k d le. grind (arith, common_steps));
-      told = step.0;
+      agrees = step.0;
       no_end = step.1;
     }
 
@@ -65,14 +65,14 @@ anchor_in_place-returns t c =
     let at = c.loop-child in
     let h : length at.nodes ≤ at.child-index = grind (arith, common_steps) in
     nodes_kept (targets_view c.args.sought) at.nodes at.child-index (state_view at.state) _ h
-    at.invariant.told
+    at.invariant.agrees
 
 pub with_spans-loop-child-init : goal.with_spans-loop-child-init
 with_spans-loop-child-init t c =
     let all = c.args.nodes.items in
     let again = ap reverse c.reverse.ensures.items ∙ reverse-reverse all in
     let same = ap (most the_size) c.reverse.ensures.items ∙ most_reversed the_size all in
-    record { told = rw (c.in_ok-made.ensures.items, again) refl; deep = omega (arith, same) }
+    record { agrees = rw (c.in_ok-made.ensures.items, again) refl; deep = omega (arith, same) }
 
 pub with_spans-loop-child-preserved : goal.with_spans-loop-child-preserved
 with_spans-loop-child-preserved t c =
@@ -90,8 +90,8 @@ with_spans-loop-child-preserved t c =
     ∙ (ap (λ l. nodes_view l then more) c.in_ok-push.ensures.items
     ∙ span_placed old n more) in
     record {
-      told = node_walked x (reverse at.nodes.items) (reverse nodes) c.in-Some.child (nodes_view old) _
-          (state_view at.state) _ _ first at.invariant.told
+      agrees = node_walked x (reverse at.nodes.items) (reverse nodes) c.in-Some.child (nodes_view old) _
+          (state_view at.state) _ _ first at.invariant.agrees
           (node_placed x (node_view c.in-Some.child) (node_view n) more (nodes_view old) _
           (state_view at.state) _ c.in_ok-name.ensures placed);
       deep = omega (arith, at.invariant.deep, parts, ap (most the_size) c.give_back.ensures);
@@ -102,4 +102,4 @@ with_spans-returns t c =
     let at = c.loop-child in
     let empty = nil_from_length at.nodes.items (sym at.nodes.ok.0 ∙ c.in_default.ensures.cases.0) in
     nodes_walked (targets_view c.args.sought) (reverse at.nodes.items) (nodes_view at.made.items)
-    (state_view at.state) _ (ap reverse empty) at.invariant.told
+    (state_view at.state) _ (ap reverse empty) at.invariant.agrees

@@ -14,7 +14,7 @@ invariant-anchor_in_place-loop-child l =
     let i = l.child-index in
     record {
       unvisited : goal.unvisited-anchor_in_place-loop-child l;
-      told : walked_behind (nodes_view (take i l.nodes))
+      agrees : walked_behind (nodes_view (take i l.nodes))
           (walk x (nodes_view (drop i l.nodes)) (state_view l.state))
           ≡ walk x (nodes_view l.initial.nodes) (state_view l.initial.state);
       no_end : has_end (drop i l.nodes) ≡ false;
@@ -26,7 +26,7 @@ invariant-with_spans-loop-child l =
     let x = targets_view l.sought in
     let left = reverse l.nodes.items in
     record {
-      told : walked_behind (nodes_view l.made.items) (walk x (nodes_view left) (state_view l.state))
+      agrees : walked_behind (nodes_view l.made.items) (walk x (nodes_view left) (state_view l.state))
           ≡ walk x (nodes_view l.fn.nodes.items) (state_view l.fn.state);
       deep : most the_size l.nodes.items ≤ most the_size l.fn.nodes.items;
     }

@@ -13,7 +13,7 @@ returns-then-c-eq35 c =
     let is : (c.in-Some.c == 35) ≡ true = search rules in
     ap (λ bs. Some (chars bs)) c.as_str.ensures
     ∙ (sym (at_hash (chars_rest at.left) later c.in-Some.c at.invariant.utf8 c.in-Some.ensures.steps.0 is)
-    ∙ at.invariant.told)
+    ∙ at.invariant.agrees)
 
 pub returns-then-not-is_control_or_space : goal.returns-then-not-is_control_or_space
 returns-then-not-is_control_or_space c =
@@ -22,7 +22,7 @@ returns-then-not-is_control_or_space c =
     let shown : is_control_or_space c.in-Some.c ≡ false = search rules in
     sym (at_other (chars_rest at.left) (chars_rest c.next.new.self) c.in-Some.c at.invariant.utf8
     c.in-Some.ensures.steps.0 other shown)
-    ∙ at.invariant.told
+    ∙ at.invariant.agrees
 
 pub loop-c-preserved : goal.loop-c-preserved
 loop-c-preserved c =
@@ -33,11 +33,11 @@ loop-c-preserved c =
     let blank : is_control_or_space c.in-Some.c ≡ true = search rules in
     record {
       utf8 = IsUtf8-past_char rest later c.in-Some.c at.invariant.utf8 c.in-Some.ensures.steps.0;
-      told = sym (at_blank rest later c.in-Some.c at.invariant.utf8 c.in-Some.ensures.steps.0 other blank)
-          ∙ at.invariant.told;
+      agrees = sym (at_blank rest later c.in-Some.c at.invariant.utf8 c.in-Some.ensures.steps.0 other blank)
+          ∙ at.invariant.agrees;
     }
 
 pub returns : goal.returns
 returns c =
     let at = c.loop-c in
-    sym (at_no_hash (chars_rest at.left) (nil_from_length _ c.in_default.ensures.steps.0.0)) ∙ at.invariant.told
+    sym (at_no_hash (chars_rest at.left) (nil_from_length _ c.in_default.ensures.steps.0.0)) ∙ at.invariant.agrees

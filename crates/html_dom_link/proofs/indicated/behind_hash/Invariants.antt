@@ -7,5 +7,5 @@ use Rattle.html_dom_link.proofs.indicated.behind_hash.Given as goal
 abbrev pub invariant-loop-c : goal.invariant-loop-c
 invariant-loop-c l = record {
   utf8 : IsUtf8 (chars_rest l.left);
-  told : behind_hash (chars (chars_rest l.left)) ≡ behind_hash (chars l.fn.href);
+  agrees : behind_hash (chars (chars_rest l.left)) ≡ behind_hash (chars l.fn.href);
 }

@@ -30,7 +30,7 @@ nodes_with_links-loop-child-init t c =
       [],
       record {
         behind = refl;
-        told = rw (c.in_ok-made.ensures.items, again) refl;
+        agrees = rw (c.in_ok-made.ensures.items, again) refl;
         deep = omega (arith, same);
       },
     )
@@ -53,11 +53,11 @@ nodes_with_links-loop-child-preserved t c =
       n ∷ held.0,
       record {
         behind = c.dest_past-past.ensures held.0 held.1.behind;
-        told =
+        agrees =
             ap (λ l. l ++ list_with_links hrefs (n ∷ held.0)
             (map node_view (reverse nodes))) pushed
             ∙ one_more_with_links hrefs _ held.0 made n m _ _ _ held.1.behind c.in_ok-node_with_links.ensures
-            (ap (map node_view) next) held.1.told;
+            (ap (map node_view) next) held.1.agrees;
         deep = omega (arith, held.1.deep, parts, ap (most the_size) c.give_back.ensures);
       },
     )
@@ -72,6 +72,6 @@ nodes_with_links-returns t c =
     let whole =
     sym (append-nil made)
     ∙ (ap (λ ns. made ++ list_with_links hrefs held.0 (map node_view (reverse ns))) (sym empty)
-    ∙ held.1.told) in
+    ∙ held.1.agrees) in
     ap nodes_of whole
     ∙ sym (nodes_with_links-nodes_of hrefs [] (map node_view c.args.nodes.items))

@@ -16,7 +16,7 @@ invariant-nodes_with_links-loop-child l =
     let left = reverse l.nodes.items in
     (before : List NodeView) × record {
       behind : option_map (λ d. d.0) l.dest ≡ dest_before before;
-      told : map node_view l.made.items ++ list_with_links hrefs before (map node_view left)
+      agrees : map node_view l.made.items ++ list_with_links hrefs before (map node_view left)
           ≡ list_with_links hrefs [] (map node_view l.fn.nodes.items);
       deep : most the_size l.nodes.items ≤ most the_size l.fn.nodes.items;
     }

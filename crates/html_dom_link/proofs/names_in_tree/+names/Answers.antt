@@ -2,7 +2,7 @@ use Rattle.std.proofs.Common.{◌++◌, refl, ap, ◌∙◌, rules}
 use Rattle.html_dom_tree.specs.Tree.{node, none}
 use Rattle.html_dom_tree.specs.Views.{head_of, node_view, nodes_view}
 use Rattle.html_dom_link.specs.Distinct.{names_view}
-use Rattle.html_dom_link.specs.NewNames.{nodes_names}
+use Rattle.html_dom_link.specs.NewNames.{nodes_names, gathered_names}
 use Rattle.html_dom_link.proofs.Gathering.{element_listed, gathered, gathered_all, nodes_split, tag_passed, text_passed}
 use Rattle.html_dom_link.proofs.names_in_tree.+names.Goals as goal
 
@@ -34,7 +34,7 @@ add_nodes-loop-node-preserved t c =
     ∙ ap (λ x. old ++ nodes_names (node (node_view x) none)) c.node-item.is)
 
 pub add_nodes-returns : goal.add_nodes-returns
-unfolding nodes_names
+unfolding gathered_names
 add_nodes-returns t c =
     gathered_all (λ ns. nodes_names (nodes_view ns))
     (λ x xs. nodes_split (node_view x) (nodes_view xs)) refl c.args.nodes.now

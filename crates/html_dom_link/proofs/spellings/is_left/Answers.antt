@@ -15,7 +15,7 @@ returns-then-is_in_fragment_set c =
     ap not (ap (λ b. b || list_any is_in_fragment_set (chars later)) (sym is)
     ∙ (ap (list_any is_in_fragment_set)
     (sym (chars_past_char rest later c.in-Some.c at.invariant.utf8 c.in-Some.ensures.steps.0))
-    ∙ at.invariant.told))
+    ∙ at.invariant.agrees))
 
 pub loop-c-preserved : goal.loop-c-preserved
 loop-c-preserved c =
@@ -25,10 +25,10 @@ loop-c-preserved c =
     let is : is_in_fragment_set c.in-Some.c ≡ false = search rules in
     record {
       utf8 = IsUtf8-past_char rest later c.in-Some.c at.invariant.utf8 c.in-Some.ensures.steps.0;
-      told = ap (λ b. b || list_any is_in_fragment_set (chars later)) (sym is)
+      agrees = ap (λ b. b || list_any is_in_fragment_set (chars later)) (sym is)
           ∙ (ap (list_any is_in_fragment_set)
           (sym (chars_past_char rest later c.in-Some.c at.invariant.utf8 c.in-Some.ensures.steps.0))
-          ∙ at.invariant.told);
+          ∙ at.invariant.agrees);
     }
 
 pub returns : goal.returns
@@ -36,4 +36,4 @@ returns c =
     let at = c.loop-c in
     ap not (sym (ap (λ l. list_any is_in_fragment_set (chars l)) (nil_from_length _ c.in-None.ensures.steps.0.0)
     ∙ ap (list_any is_in_fragment_set) chars-nil)
-    ∙ at.invariant.told)
+    ∙ at.invariant.agrees)

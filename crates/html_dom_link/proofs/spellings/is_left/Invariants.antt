@@ -8,6 +8,6 @@ use Rattle.html_dom_link.proofs.spellings.is_left.Given as goal
 abbrev pub invariant-loop-c : goal.invariant-loop-c
 invariant-loop-c l = record {
   utf8 : IsUtf8 (chars_rest l.c-iterator);
-  told : list_any is_in_fragment_set (chars (chars_rest l.c-iterator))
+  agrees : list_any is_in_fragment_set (chars (chars_rest l.c-iterator))
       ≡ list_any is_in_fragment_set (chars l.fn.name);
 }

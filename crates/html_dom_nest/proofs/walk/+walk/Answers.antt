@@ -10,10 +10,10 @@ pub pass_element-returns-then-around-gt-MOST_ANCESTORS-clause-found :
     goal.pass_element-returns-then-around-gt-MOST_ANCESTORS-clause-found
 pass_element-returns-then-around-gt-MOST_ANCESTORS-clause-found t c =
     let e = element_view c.args.element.now in
-    on_ok_weaker c.tell.result
-    (λ told. told ∙ ap (λ fs. findings_view c.args.walk.now.found.items ++ fs)
+    on_ok_weaker c.report.result
+    (λ agrees. agrees ∙ ap (λ fs. findings_view c.args.walk.now.found.items ++ fs)
     (too_deep_found c.args.walk.now.path.items c.args.around.now e.0 e.1
-    c.if-around-gt-MOST_ANCESTORS.true)) c.tell.ensures.found
+    c.if-around-gt-MOST_ANCESTORS.true)) c.report.ensures.found
 
 pub pass_element-returns-clause-found : goal.pass_element-returns-clause-found
 pass_element-returns-clause-found t c =

@@ -7,6 +7,6 @@ abbrev pub invariant-style_nodes-loop-node : goal.invariant-style_nodes-loop-nod
 invariant-style_nodes-loop-node l =
     record {
       unvisited : goal.unvisited-style_nodes-loop-node l;
-      told : map node_view (take l.node-index l.nodes)
+      agrees : map node_view (take l.node-index l.nodes)
           ≡ map styled_node (map node_view (take l.node-index l.initial.nodes));
     }

@@ -30,8 +30,8 @@ convert_list-loop-pair-preserved t c =
     let short = ap length steps in
     let long = at.invariant.long in
     record {
-      told = nodes_added items later c.in-Some.pair steps _ _ _ _ _ _ _ c.with_role.ensures.whitespace
-          c.with_role.ensures.role at.invariant.told c.in_ok-push_item.ensures.appended;
+      agrees = nodes_added items later c.in-Some.pair steps _ _ _ _ _ _ _ c.with_role.ensures.whitespace
+          c.with_role.ensures.role at.invariant.agrees c.in_ok-push_item.ensures.appended;
       clean = none_passed items later c.in-Some.pair steps _ _ _ _ _ c.with_role.ensures.depth
           c.with_role.ensures.limit at.invariant.clean c.in_ok-push_item.ensures.clean;
       long = omega (arith, gone, short, long);

@@ -12,7 +12,7 @@ invariant-convert_list-loop-pair l =
     let left = items_view (into_iter_items l.pair-iterator) in
     let all = items_view l.fn.items.items in
     record {
-      told : map node_view l.nodes.items ++ items_nodes l.setting.whitespace role left
+      agrees : map node_view l.nodes.items ++ items_nodes l.setting.whitespace role left
           ≡ items_nodes l.setting.whitespace role all;
       clean : items_too_deep l.setting.depth l.setting.limit left
           ≡ items_too_deep l.setting.depth l.setting.limit all;

@@ -7,7 +7,7 @@ use lib.Utf8.{encode}
 pub loop-c-init : goal.loop-c-init
 loop-c-init c = record {
   utf8 = rw c.chars-left.ensures.rest c.past_words.utf8;
-  told = rw c.chars-left.ensures.rest c.past_words.ensures.rest;
+  agrees = rw c.chars-left.ensures.rest c.past_words.ensures.rest;
 }
 
 pub loop-c-preserved : goal.loop-c-preserved
@@ -20,14 +20,14 @@ loop-c-preserved c =
     c.in-Some.ensures.steps.0 ∙ ap (λ l. encode char ++ l) (sym c.as_str.ensures) in
     let on = stretch_goes_on at.ends_normal c.is_normal-is_normal.result rest later char _
     at.invariant.utf8 parts c.is_normal-is_normal.ensures
-    (sym c.goes_on.ensures ∙ c.if-not-goes_on.false) at.invariant.told in
+    (sym c.goes_on.ensures ∙ c.if-not-goes_on.false) at.invariant.agrees in
     record {
       utf8 = rw c.chars-left-in-Some.ensures.rest c.past_words-in-Some.utf8;
-      told = rw c.chars-left-in-Some.ensures.rest (c.past_words-in-Some.ensures.rest ∙ on);
+      agrees = rw c.chars-left-in-Some.ensures.rest (c.past_words-in-Some.ensures.rest ∙ on);
     }
 
 pub returns : goal.returns
 returns c =
     let at = c.loop-c in
     stretch_ends at.ends_normal (chars_rest at.left) c.args.text.now
-    c.in_default.ensures.steps.0.0 at.invariant.told
+    c.in_default.ensures.steps.0.0 at.invariant.agrees

@@ -6,5 +6,5 @@ use Rattle.html_flow_convert.proofs.pieces.is_stretch.Given as goal
 abbrev pub invariant-loop-c : goal.invariant-loop-c
 invariant-loop-c l = record {
   utf8 : IsUtf8 (chars_rest l.left);
-  told : is_stretch l.ends_normal (chars (chars_rest l.left)) ≡ is_stretch false (chars l.fn.text);
+  agrees : is_stretch l.ends_normal (chars (chars_rest l.left)) ≡ is_stretch false (chars l.fn.text);
 }

@@ -1,4 +1,5 @@
-use Rattle.std.proofs.Common.{[], ◌∷◌, ◌++◌, string_bytes, sym, ap, ◌∙◌, append-nil}
+use Rattle.std.proofs.Common.{[], ◌∷◌, string_bytes, sym, ap, ◌∙◌, append-nil}
+use Rattle.std.proofs.lemmas.Result.{IfOk-weaker}
 use Rattle.std.proofs.lemmas.Str.{IsUtf8-string_bytes, chars_past_char, chars-nil}
 use Rattle.html_flow_convert.proofs.pieces.one_char.Goals as goal
 use lib.Utf8.{encode}
@@ -6,8 +7,8 @@ use lib.Utf8.{encode}
 pub returns : goal.returns
 returns c =
     let char = c.args.c in
-    let text = c.push.new.self in
-    chars_past_char (string_bytes text) [] char (IsUtf8-string_bytes text)
-    (c.in_ok-push.ensures.bytes
-    ∙ (ap (λ l. l ++ encode char) c.new-text.ensures.bytes ∙ sym (append-nil (encode char))))
-    ∙ ap (λ cs. char ∷ cs) chars-nil
+    IfOk-weaker c.from_str.result _ _
+    (λ text bytes. chars_past_char (string_bytes text) [] char (IsUtf8-string_bytes text)
+    (bytes ∙ (c.encode_utf8.ensures.value ∙ sym (append-nil (encode char))))
+    ∙ ap (λ cs. char ∷ cs) chars-nil)
+    c.from_str.ensures.ok

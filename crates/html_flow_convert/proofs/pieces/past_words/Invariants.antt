@@ -7,7 +7,7 @@ abbrev pub invariant-loop-at : goal.invariant-loop-at
 invariant-loop-at l =
     record {
       cut : IsCharBoundary l.text l.at;
-      told : is_stretch l.ends (chars (drop l.at l.text))
+      agrees : is_stretch l.ends (chars (drop l.at l.text))
           ≡ is_stretch l.initial.ends_normal (chars l.text);
     }
 

@@ -90,7 +90,7 @@ returns-in_err-push_stretch-clause-begun c =
     let all = text_nodes c.args.span.0 (chars c.args.text.now) in
     on_err c.from_residual.result (AddsBeginning old new all)
     (begins_as old made new all (ap (map node_view) c.in_err-push_stretch.ensures.kept)
-    (begins old made _ all at.invariant.grown at.invariant.held.told))
+    (begins old made _ all at.invariant.grown at.invariant.held.agrees))
 
 pub returns-in_err-push_outside-clause-begun : goal.returns-in_err-push_outside-clause-begun
 returns-in_err-push_outside-clause-begun c =
@@ -119,7 +119,7 @@ returns-in_err-push_outside-clause-begun c =
     on_err c.from_residual-in_err-push_outside.result (AddsBeginning old new all)
     (begins_as old (made ++ own) new all
     (ap (map node_view) c.in_err-push_outside.ensures.kept ∙ stretched)
-    (begins_between old made own between _ all at.invariant.grown whole.told))
+    (begins_between old made own between _ all at.invariant.grown whole.agrees))
 
 pub returns : goal.returns
 returns c =
@@ -136,6 +136,6 @@ returns c =
           c.push_stretch-2.ensures.added;
       begun = on_err_weaker c.push_stretch-2.result
           (λ kept. begins_as old made new all (ap (map node_view) kept)
-          (begins old made _ all at.invariant.grown at.invariant.held.told))
+          (begins old made _ all at.invariant.grown at.invariant.held.agrees))
           c.push_stretch-2.ensures.kept;
     }

@@ -57,10 +57,10 @@ protect_nodes-loop-node-preserved t c =
     let on = protect_in_place at.nodes _ at.node-index c.node-item.result c.protect_node.new.node
     (answers_view at.answers) (answers_view c.protect_node.new.answers) _ _ h refl
     c.in_ok-protect_node.ensures.made c.in_ok-protect_node.ensures.rest
-    at.invariant.told at.invariant.rest in
+    at.invariant.agrees at.invariant.rest in
     record {
       unvisited = (grind (arith, common_steps), λ k d le. grind (arith, common_steps));
-      told = on.0;
+      agrees = on.0;
       rest = on.1;
     }
 
@@ -71,7 +71,7 @@ protect_nodes-returns-clause-made t c =
     let h : length at.nodes ≤ i = grind (arith, common_steps) in
     ap nodes_view (sym (take_all i at.nodes h))
     ∙ (protect_end (take i at.nodes) (drop i at.nodes) (answers_view at.answers) _ _
-    (drop_all i at.nodes h) at.invariant.told at.invariant.rest).0
+    (drop_all i at.nodes h) at.invariant.agrees at.invariant.rest).0
 
 pub protect_nodes-returns-clause-rest : goal.protect_nodes-returns-clause-rest
 protect_nodes-returns-clause-rest t c =
@@ -79,4 +79,4 @@ protect_nodes-returns-clause-rest t c =
     let i = at.node-index in
     let h : length at.nodes ≤ i = grind (arith, common_steps) in
     (protect_end (take i at.nodes) (drop i at.nodes) (answers_view at.answers) _ _
-    (drop_all i at.nodes h) at.invariant.told at.invariant.rest).1
+    (drop_all i at.nodes h) at.invariant.agrees at.invariant.rest).1

@@ -13,7 +13,7 @@ invariant-protect_nodes-loop-node l =
     let all = nodes_view l.initial.nodes in
     record {
       unvisited : goal.unvisited-protect_nodes-loop-node l;
-      told : joined (nodes_view (take i l.nodes)) (nodes_by_answers (answers_view l.answers) left)
+      agrees : joined (nodes_view (take i l.nodes)) (nodes_by_answers (answers_view l.answers) left)
           ≡ nodes_by_answers (answers_view l.initial.answers) all;
       rest : drop (space_count (nodes_things left)) (answers_view l.answers)
           ≡ drop (space_count (nodes_things all)) (answers_view l.initial.answers);

@@ -11,9 +11,9 @@ pub returns-then-are_bare : goal.returns-then-are_bare
 returns-then-are_bare c =
     let asked = c.in_ok-answer_for.ensures
     ∙ ap (λ ns. bare_spaces (nodes_view ns)) c.deref.ensures.value in
-    let told = sym c.are_bare.ensures ∙ c.if-are_bare.true in
+    let agrees = sym c.are_bare.ensures ∙ c.if-are_bare.true in
     kept_all (nodes_view c.args.nodes.items) (ap (list_all (λ b. b)) (sym asked)
-    ∙ (ap (list_all (λ b. b)) (sym c.deref-2.ensures.value) ∙ told))
+    ∙ (ap (list_all (λ b. b)) (sym c.deref-2.ensures.value) ∙ agrees))
 
 pub returns : goal.returns
 returns c =

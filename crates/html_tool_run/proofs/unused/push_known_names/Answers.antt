@@ -12,7 +12,7 @@ seen_some : {A B : Type 0} (f : A → B) (o : Option A) → is_some o ≡ is_som
 seen_some f None = refl
 seen_some f (Some a) = refl
 
--- the names by what tells something
+-- the names by what holds something
 abbrev names_by : (title description authors keywords lang region : Bool) → List (List ℕ)
 names_by title description authors keywords lang region = name_if title (codes "title")
     ++ name_if description (codes "description") ++ name_if authors (codes "authors")
@@ -23,8 +23,8 @@ same_names : {a b c d e f a' b' c' d' e' f' : Bool} → a ≡ a' → b ≡ b' �
     → f ≡ f' → names_by a b c d e f ≡ names_by a' b' c' d' e' f'
 same_names h i j k l m = rw (h, i, j, k, l, m) refl
 
-abbrev told_of : List (String Global) → Bool
-told_of texts = not (length (texts_view texts) == 0)
+abbrev holds_some : List (String Global) → Bool
+holds_some texts = not (length (texts_view texts) == 0)
 
 pub returns : goal.returns
 returns c =
@@ -37,7 +37,7 @@ returns c =
     all ∙ ap (λ names. old ++ map string names) (same_names
     (c.is_some.ensures ∙ seen_some text_view info.title)
     (c.is_some-2.ensures ∙ seen_some text_view info.description)
-    (c.are_told.ensures ∙ ap told_of c.deref.ensures.value)
-    (c.are_told-2.ensures ∙ ap told_of c.deref-2.ensures.value)
+    (c.has_texts.ensures ∙ ap holds_some c.deref.ensures.value)
+    (c.has_texts-2.ensures ∙ ap holds_some c.deref-2.ensures.value)
     (c.is_some-3.ensures ∙ seen_some locale_view info.locale)
     c.has_region.ensures)

@@ -32,9 +32,9 @@ returns c =
     (one_more_member false (codes "dead_fragments") dead later _ _ _ _
     (no_member_yet (member (codes "dead_fragments") dead later) [] _ start)
     c.in_ok-push_key.ensures (c.in_ok-text.ensures
-    ∙ (c.in_ok-tell_dead_fragments.ensures ∙ c.in_ok-list.ensures (dead_fragments e))))
+    ∙ (c.in_ok-report_dead_fragments.ensures ∙ c.in_ok-list.ensures (dead_fragments e))))
     c.in_ok-push_key-2.ensures (c.in_ok-text-2.ensures
-    ∙ (c.in_ok-tell_repeated_ids.ensures ∙ c.in_ok-list-2.ensures (repeated_ids e))))
+    ∙ (c.in_ok-report_repeated_ids.ensures ∙ c.in_ok-list-2.ensures (repeated_ids e))))
     c.in_ok-push_key-3.ensures (c.in_ok-push_misnested.ensures
     ∙ ap (λ fs. mid ++ compact_text (misnested_data page fs))
     (ap findings_view c.deref.ensures.value ∙ c.in_ok-nodes.ensures))

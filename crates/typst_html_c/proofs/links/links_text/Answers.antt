@@ -25,8 +25,8 @@ returns c =
     (one_more_member false (codes "ids") ids later _ _ _ _
     (no_member_yet (member (codes "ids") ids later) [] _ start)
     c.in_ok-push_key.ensures (c.in_ok-text.ensures
-    ∙ (c.in_ok-tell_texts.ensures ∙ c.in_ok-list.ensures (element_placed linked_ids e))))
+    ∙ (c.in_ok-report_texts.ensures ∙ c.in_ok-list.ensures (element_placed linked_ids e))))
     c.in_ok-push_key-2.ensures (c.in_ok-text-2.ensures
-    ∙ (c.in_ok-tell_texts-2.ensures ∙ c.in_ok-list-2.ensures (element_placed linked_names e))))
+    ∙ (c.in_ok-report_texts-2.ensures ∙ c.in_ok-list-2.ensures (element_placed linked_names e))))
     c.in_ok-push_key-3.ensures (c.in_ok-text-3.ensures
-    ∙ (c.in_ok-tell_texts-3.ensures ∙ c.in_ok-list-3.ensures (element_placed hrefs e)))
+    ∙ (c.in_ok-report_texts-3.ensures ∙ c.in_ok-list-3.ensures (element_placed hrefs e)))

@@ -6,9 +6,9 @@ use Rattle.typst_html_c.proofs.lists.push_finding.Goals as goal
 
 pub returns : goal.returns
 returns c =
-    let told = string c.args.told.now in
+    let found = string c.args.found.now in
     let behind = where_behind c.args.previous.now c.args.path.now c.args.place in
     c.in_ok-push_where.ensures
-    ∙ one_more_member false c.args.name.now told behind _ _ _ _
-    (no_member_yet (member c.args.name.now told behind) _ _ c.in_ok-push_str.ensures.bytes)
+    ∙ one_more_member false c.args.name.now found behind _ _ _ _
+    (no_member_yet (member c.args.name.now found behind) _ _ c.in_ok-push_str.ensures.bytes)
     c.in_ok-push_key.ensures c.in_ok-push_string.ensures

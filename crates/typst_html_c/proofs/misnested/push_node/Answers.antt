@@ -20,12 +20,12 @@ returns-clause-text c =
     let later = member (codes "why") why behind in
     let named = string_bytes c.push_key.new.text in
     let worded = string_bytes c.push_key-2.new.text in
-    let told = string_bytes c.push_string-2.new.text in
+    let written = string_bytes c.push_string-2.new.text in
     c.in_ok-push_where.ensures
-    ∙ (ap (λ path. told ++ members_text true (where_behind previous path c.at-place.result))
+    ∙ (ap (λ path. written ++ members_text true (where_behind previous path c.at-place.result))
     c.deref.ensures.value
-    ∙ (ap (λ place. told ++ members_text true (where_behind previous f.path place))
-    c.at-place.ensures.told
+    ∙ (ap (λ place. written ++ members_text true (where_behind previous f.path place))
+    c.at-place.ensures.place
     ∙ one_more_member true (codes "why") why behind _ _ _ _
     (one_more_member false (codes "rule") rule later _ _ _ _
     (no_member_yet (member (codes "rule") rule later) _ _ c.in_ok-push_str.ensures.bytes)

@@ -28,7 +28,7 @@ returns c =
     let pushed : c.range.result.now ≡ front =
     (simp unary_clauses at c.range.ensures.value) ∙ front_taken text front rest passed.split in
     record {
-      told = rw (
+      agrees = rw (
         c.in_ok-push_str.ensures.added,
         pushed,
         all,

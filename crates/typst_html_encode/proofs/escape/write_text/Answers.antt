@@ -15,11 +15,11 @@ loop-left-preserved c =
     let start = c.chars-left.ensures.rest in
     let char = c.in-Some.c in
     let step = chars_past_char _ _ char wrote.rest_utf8 (sym start ∙ c.in-Some.ensures.steps.0) in
-    let told = rw step at wrote.told in
+    let agrees = rw step at wrote.agrees in
     let clean = rw (step, c.in_ok-write_char.ensures.clean) at (wrote.clean c.args.span.0) in
     record {
       is_text = c.as_str-rest.utf8;
-      told = rw (c.as_str-rest.ensures, c.in_ok-write_char.ensures.appended, append_assoc) (told ∙ held.told);
+      agrees = rw (c.as_str-rest.ensures, c.in_ok-write_char.ensures.appended, append_assoc) (agrees ∙ held.agrees);
       clean = rw c.as_str-rest.ensures (clean ∙ held.clean);
     }
 
@@ -51,7 +51,7 @@ returns-in_default c =
     let empty = ap chars (sym c.chars-left.ensures.rest)
     ∙ chars_of_empty _ c.in_default.ensures.steps.0.0 in
     record {
-      appended = sym (append-nil _) ∙ (rw empty at wrote.told ∙ held.told);
+      appended = sym (append-nil _) ∙ (rw empty at wrote.agrees ∙ held.agrees);
       clean = sym (rw empty at (wrote.clean c.args.span.0) ∙ held.clean);
       fault = tt;
     }

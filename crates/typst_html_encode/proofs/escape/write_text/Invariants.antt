@@ -11,7 +11,7 @@ invariant-loop-left l =
     let all = chars l.fn.text in
     record {
       is_text : shadow (Utf8 l.rest);
-      told : l.out ++ escaped_text l.escaping left ≡ l.fn.out ++ escaped_text l.escaping all;
+      agrees : l.out ++ escaped_text l.escaping left ≡ l.fn.out ++ escaped_text l.escaping all;
       clean : text_faults l.escaping l.span.0 left ≡ text_faults l.escaping l.span.0 all;
     }
 

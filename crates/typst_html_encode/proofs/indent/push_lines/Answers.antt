@@ -21,9 +21,9 @@ loop-line-preserved c =
     map-append (λ x. chars x.now) c.loop-line.yielded (c.in-Some.line ∷ []) in
     let w = indent_where (b || begun ls) c.args.level in
     record {
-      told = c.in_ok-push_str.ensures.added
+      agrees = c.in_ok-push_str.ensures.added
           ∙ (ap (λ s. s ++ l) (c.in_ok-push_indent_if.ensures
-          ∙ (ap (λ s. s ++ indent_where c.loop-line.indented c.args.level) held.told
+          ∙ (ap (λ s. s ++ indent_where c.loop-line.indented c.args.level) held.agrees
           ∙ ap (λ d. (before ++ by_lines b i ls) ++ indent_where d c.args.level) held.later))
           ∙ (append_assoc (before ++ by_lines b i ls) w l
           ∙ (append_assoc before (by_lines b i ls) (w ++ l)
@@ -41,4 +41,4 @@ returns c =
     let all : map (λ x. chars x.now) c.loop-line.yielded ≡ lines (chars text) =
     sym (map-map chars (λ x. x.now) c.loop-line.yielded)
     ∙ (ap (map chars) end.0 ∙ chars_of_lines text c.utf8.text) in
-    c.loop-line.invariant.told ∙ ap (λ ls. c.args.out.now ++ by_lines b i ls) all
+    c.loop-line.invariant.agrees ∙ ap (λ ls. c.args.out.now ++ by_lines b i ls) all

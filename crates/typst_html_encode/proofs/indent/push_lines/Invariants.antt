@@ -7,6 +7,6 @@ abbrev pub invariant-loop-line : goal.invariant-loop-line
 invariant-loop-line l =
     let ls = map (λ b. chars b.now) l.yielded in
     record {
-      told : l.out ≡ l.fn.out ++ by_lines l.before_first (indent l.level) ls;
+      agrees : l.out ≡ l.fn.out ++ by_lines l.before_first (indent l.level) ls;
       later : l.indented ≡ (l.before_first || begun ls);
     }

@@ -12,7 +12,7 @@ invariant-loop-number l =
     let left = map (flat_pair names) (drop l.number-index l.number-items) in
     let all = map (flat_pair names) l.number-items in
     record {
-      told : l.out ++ attrs_text left ≡ l.initial.out ++ attrs_text all;
+      agrees : l.out ++ attrs_text left ≡ l.initial.out ++ attrs_text all;
       clean : attrs_faults span left ≡ attrs_faults span all;
       named : PairsAreNamed left → PairsAreNamed all;
     }

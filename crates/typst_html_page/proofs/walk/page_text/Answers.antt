@@ -38,11 +38,11 @@ returns c =
           let here : u ≡ nothing_seen = cc (start, w.seen-is) in
           nothing_in ns u is here
     ] in
-    let told : IfOk c.into_page_text.result (λ t. page_text_view t ≡ page_parts (element_view root)) =
+    let agrees : IfOk c.into_page_text.result (λ t. page_text_view t ≡ page_parts (element_view root)) =
     subst (λ x. IfOk c.into_page_text.result (λ t. page_text_view t ≡ x)) whole
     c.into_page_text.ensures in
     record {
-      parts = told;
+      parts = agrees;
       apart = IfOk-weaker c.into_page_text.result _ _
-          (λ t is. ap stand_apart is ∙ parts_stand_apart (element_view root)) told;
+          (λ t is. ap stand_apart is ∙ parts_stand_apart (element_view root)) agrees;
     }

@@ -16,11 +16,11 @@ loop-c-preserved-then-is_space c =
     let is : is_space c.in-Some.c ≡ true = search rules in
     record {
       utf8 = IsUtf8-past_char rest later c.in-Some.c at.invariant.utf8 c.in-Some.ensures.steps.0;
-      told = ap (λ l. text_view at.made ++ l)
+      agrees = ap (λ l. text_view at.made ++ l)
           (sym (ap (spaced at.behind_space)
           (chars_past_char rest later c.in-Some.c at.invariant.utf8 c.in-Some.ensures.steps.0)
           ∙ space_spaced at.behind_space c.in-Some.c (chars later) is))
-          ∙ at.invariant.told;
+          ∙ at.invariant.agrees;
     }
 
 pub loop-c-preserved : goal.loop-c-preserved
@@ -31,13 +31,13 @@ loop-c-preserved c =
     let is : is_space c.in-Some.c ≡ false = search rules in
     record {
       utf8 = IsUtf8-past_char rest later c.in-Some.c at.invariant.utf8 c.in-Some.ensures.steps.0;
-      told = ap (λ l. l ++ spaced false (chars later)) c.in_ok-add_spaced.ensures
+      agrees = ap (λ l. l ++ spaced false (chars later)) c.in_ok-add_spaced.ensures
           ∙ (append_assoc (text_view at.made) _ (spaced false (chars later))
           ∙ (ap (λ l. text_view at.made ++ l)
           (sym (ap (spaced at.behind_space)
           (chars_past_char rest later c.in-Some.c at.invariant.utf8 c.in-Some.ensures.steps.0)
           ∙ char_spaced at.behind_space c.in-Some.c (chars later) is))
-          ∙ at.invariant.told));
+          ∙ at.invariant.agrees));
     }
 
 pub returns : goal.returns
@@ -46,4 +46,4 @@ returns c =
     sym (append-nil (text_view at.made))
     ∙ (ap (λ l. text_view at.made ++ spaced at.behind_space l)
     (sym (ap chars (nil_from_length _ c.in-None.ensures.steps.0.0) ∙ chars-nil))
-    ∙ at.invariant.told)
+    ∙ at.invariant.agrees)

@@ -8,6 +8,6 @@ use Rattle.typst_html_parse.proofs.doctype.spaced.Given as goal
 abbrev pub invariant-loop-c : goal.invariant-loop-c
 invariant-loop-c l = record {
   utf8 : IsUtf8 (chars_rest l.c-iterator);
-  told : text_view l.made ++ spaced l.behind_space (chars (chars_rest l.c-iterator))
+  agrees : text_view l.made ++ spaced l.behind_space (chars (chars_rest l.c-iterator))
       ≡ spaced true (chars l.fn.inner);
 }

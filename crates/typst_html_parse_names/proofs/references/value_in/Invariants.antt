@@ -6,6 +6,6 @@ use Rattle.typst_html_parse_names.proofs.references.value_in.Given as goal
 abbrev pub invariant-loop-reference : goal.invariant-loop-reference
 invariant-loop-reference l = record {
   long : are_as_long l.names (drop l.reference-index l.references) ≡ true;
-  told : value_in (rows_view l.names (drop l.reference-index l.references)) l.name
+  agrees : value_in (rows_view l.names (drop l.reference-index l.references)) l.name
       ≡ value_in (rows_view l.initial.names l.references) l.name;
 }

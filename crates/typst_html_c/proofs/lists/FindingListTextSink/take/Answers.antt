@@ -17,14 +17,14 @@ returns c rest =
     let here : Placed = (path, text_view c.args.text) in
     let mid = string_bytes c.push_comma_if.new.text in
     let new = string_bytes c.push_finding.new.text in
-    let told : finding_data c.deref.result.now c.deref-2.result.now
+    let found : finding_data c.deref.result.now c.deref-2.result.now
     (where_behind c.deref-3.result.now path c.place_of-place.result)
     ≡ finding place_of name list.previous.items here =
     rw (
       c.deref.ensures,
       c.deref-2.ensures,
       c.deref-3.ensures.value,
-      c.place_of-place.ensures.told,
+      c.place_of-place.ensures.place,
       text_written c.args.text,
     ) refl in
     let after = place_in c.place_of-place.new.self in
@@ -35,4 +35,4 @@ returns c rest =
     ∙ one_more_item list.later (finding place_of name list.previous.items here)
     (findings_behind place_of name path rest)
     (text_with list (here ∷ rest)) (string_bytes list.text) mid new refl c.in_ok-push_comma_if.ensures
-    (c.in_ok-push_finding.ensures ∙ ap (λ d. mid ++ compact_text d) told))
+    (c.in_ok-push_finding.ensures ∙ ap (λ d. mid ++ compact_text d) found))

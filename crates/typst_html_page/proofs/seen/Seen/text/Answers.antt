@@ -20,9 +20,9 @@ loop-c-preserved c =
     let left = chars_past_char rest later d held.utf8 parts in
     record {
       utf8 = IsUtf8-past_char rest later d held.utf8 parts;
-      told = ap (λ s. run s (text_atoms c.args.preserved (chars later))) c.in_ok-character.ensures
+      agrees = ap (λ s. run s (text_atoms c.args.preserved (chars later))) c.in_ok-character.ensures
           ∙ (ap (λ l. run (seen_view at.self) (text_atoms c.args.preserved l)) (sym left)
-          ∙ held.told);
+          ∙ held.agrees);
     }
 
 pub returns : goal.returns
@@ -31,4 +31,4 @@ returns c =
     let at = c.loop-c in
     let empty = chars_of_empty (chars_rest at.c-iterator) c.in-None.ensures.steps.0.0 in
     ap (λ l. run (seen_view at.self) (text_atoms c.args.preserved l)) (sym empty)
-    ∙ at.invariant.told
+    ∙ at.invariant.agrees

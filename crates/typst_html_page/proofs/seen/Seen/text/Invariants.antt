@@ -9,6 +9,6 @@ abbrev pub invariant-loop-c : goal.invariant-loop-c
 invariant-loop-c l =
     record {
       utf8 : IsUtf8 (chars_rest l.c-iterator);
-      told : run (seen_view l.self) (text_atoms l.preserved (chars (chars_rest l.c-iterator)))
+      agrees : run (seen_view l.self) (text_atoms l.preserved (chars (chars_rest l.c-iterator)))
           ≡ run (seen_view l.fn.self) (text_atoms l.preserved (chars l.fn.text));
     }

@@ -26,16 +26,16 @@ loop-place-preserved c =
           ∙ held.same));
     }
 
-pub returns-in_default-clause-told : goal.returns-in_default-clause-told
-returns-in_default-clause-told c =
+pub returns-in_default-clause-place : goal.returns-in_default-clause-place
+returns-in_default-clause-place c =
     let at = c.loop-place in
     let empty = ap chars (sym c.chars-left.ensures.rest)
     ∙ chars_of_empty _ c.in_default.ensures.steps.0.0 in
     ap (λ cs. place_from at.after_return at.place cs c.args.offset) (sym empty)
     ∙ at.invariant.same
 
-pub returns-clause-told : goal.returns-clause-told
-returns-clause-told c =
+pub returns-clause-place : goal.returns-clause-place
+returns-clause-place c =
     let at = c.loop-place in
     sym (none_more at.after_return at.place (chars at.rest.now) c.args.offset
     (omega (arith, c.loop-place-test.false)))

@@ -15,13 +15,13 @@ returns c =
     let found = resolved_of c.args.found in
     let s = holder_at self.holder self in
     let mid = reader_of c.add_reference.new.self in
-    let told : reading_of c.note_some-2.new.self ≡ reference_erring found start =
+    let agrees : reading_of c.note_some-2.new.self ≡ reference_erring found start =
     c.in_ok-note_some-2.ensures ∙ ap (erring_some found.error) c.in_ok-note_some.ensures in
     let text : text_view c.args.found.text ≡ chars c.as_str.result.now =
     ap chars (sym c.as_str.ensures.value) in
     let made : reference_read found.chars s (reference_erring found start) ≡ Ok mid =
     ap (λ cs. reference_read cs s (reference_erring found start)) text
-    ∙ (ap (reference_read (chars c.as_str.result.now) s) (sym told)
+    ∙ (ap (reference_read (chars c.as_str.result.now) s) (sym agrees)
     ∙ c.in_ok-add_reference.ensures.made) in
     let expected : resolved_read found s d start ≡ text_read d mid =
     ap (λ x. x next (λ q. if found.takes_end then Ok q else text_read d q)) made

@@ -4,8 +4,8 @@ use Rattle.serde_json.specs.Written.{compact_text}
 use Rattle.html_dom_tree.specs.Views.{element_view}
 use Rattle.typst_html_parse.specs.PageAnswers.{GivesBytes}
 use Rattle.typst_html_c.specs.PageSteps.{asked_data}
-use Rattle.typst_html_c.proofs.Pages.{fault_told, given_unless, read_is_text, read_told}
-use Rattle.typst_html_c.proofs.told.told_of.Goals as goal
+use Rattle.typst_html_c.proofs.Pages.{fault_reported, given_unless, read_is_text, read_reported}
+use Rattle.typst_html_c.proofs.report.report_of.Goals as goal
 
 pub unwrap-requires : goal.unwrap-requires
 unwrap-requires c =
@@ -23,7 +23,7 @@ returns-in-Ok c =
     let limit = c.args.limit in
     let e = element_view c.in-Ok.root in
     let text = rw c.unwrap.ensures at c.from_utf8.ensures.cases in
-    read_told data_of limit page c.in-Ok.root c.in-Ok.field-0-1
+    read_reported data_of limit page c.in-Ok.root c.in-Ok.field-0-1
     (subst (λ r. GivesBytes r page limit) c.in-Ok.is c.read_page_bytes.ensures)
     ∙ ap Ok (sym (c.in_ok-asked_text-in-Ok.ensures
     ∙ ap (λ t. compact_text (data_of t e)) (c.new-places.ensures.text ∙ ap chars text.0)))
@@ -32,5 +32,5 @@ pub returns : goal.returns
 returns c =
     let page = c.args.page.now in
     let limit = c.args.limit in
-    fault_told (asked_data c.args.asked) limit page c.in-Err.fault
+    fault_reported (asked_data c.args.asked) limit page c.in-Err.fault
     (subst (λ r. GivesBytes r page limit) c.in-Err.is c.read_page_bytes.ensures)

@@ -1,11 +1,11 @@
-//! What is told of a page, or why it is not read.
+//! The report on a page, or why the page is not read.
 
 ghost use Rattle.std.specs.Prelude.{◌≡◌, ◌≤◌, string_bytes, IfOk};
 ghost use Rattle.serde_json.specs.Written.{compact_text};
 ghost use Rattle.html_dom_tree.specs.Views.{element_view};
 ghost use Rattle.typst_html_parse.specs.PlaceViews.{text_of};
-ghost use Rattle.typst_html_c.specs.PageSteps.{GivesTold, asked_data, unread_reply};
-ghost use Rattle.typst_html_c.specs.PageTold.{Told, Tells, page_told, told_by};
+ghost use Rattle.typst_html_c.specs.PageSteps.{GivesReport, asked_data, unread_reply};
+ghost use Rattle.typst_html_c.specs.PageReports.{Report, Reports, page_report, report_by};
 
 use crate::findings::findings_text;
 use crate::links::links_text;
@@ -16,10 +16,10 @@ use std::alloc::{AllocError, Global};
 use std::str;
 use typst_html_parse::{PageFault, Places, read_page_bytes};
 
-/// What a call tells of a page.
+/// What a call reports of a page.
 #[derive(Clone, Copy)]
 pub(crate) enum Asked {
-    /// What is wrong.
+    /// What is wrong in it.
     Findings,
     /// Its ids, names and links.
     Links,
@@ -32,20 +32,20 @@ pub(crate) fn reply_to_page(
     page: &[u8],
     output: &mut [u8],
 ) -> Reply
-    ensures answered { Tells (told_by (asked_data asked) limit page.now)
+    ensures answered { Reports (report_by (asked_data asked) limit page.now)
         output.old result output.new }
     ensures kept { ¬ (result.status ≡ 0) → output.new ≡ output.old }
 {
     match page_limit_of(limit) {
-        Some(limit) => reply_with_told(told_of(alloc, asked, page, limit), output),
+        Some(limit) => reply_with_report(report_of(alloc, asked, page, limit), output),
         None => without_text(BAD_INPUT, 0, 0),
     }
 }
 
-/// The reply of a call that tells this text, or has none.
-fn reply_with_told(text: Result<String, PageFault>, output: &mut [u8]) -> Reply
-    ensures answered { (told : Told) → GivesTold text told →
-        Tells told output.old result output.new }
+/// Returns the reply for a fault, or for a report, which it copies into the buffer if it fits.
+fn reply_with_report(text: Result<String, PageFault>, output: &mut [u8]) -> Reply
+    ensures answered { (report : Report) → GivesReport text report →
+        Reports report output.old result output.new }
     ensures kept { ¬ (result.status ≡ 0) → output.new ≡ output.old }
 {
     match text {
@@ -64,15 +64,15 @@ fn unread_reply(fault: PageFault) -> Reply
     }
 }
 
-/// What is told of a page of these bytes.
-fn told_of(alloc: Global, asked: Asked, page: &[u8], limit: usize) -> Result<String, PageFault>
+/// Reads a page and returns the report on it.
+fn report_of(alloc: Global, asked: Asked, page: &[u8], limit: usize) -> Result<String, PageFault>
     requires some_limit { 1 ≤ limit }
     requires low_limit { limit ≤ 10000 }
-    ensures { GivesTold result (page_told (asked_data asked) page.now limit) }
+    ensures { GivesReport result (page_report (asked_data asked) page.now limit) }
 {
     match read_page_bytes(alloc, page, limit) {
         Ok((root, _)) => {
-            // A page that is read is a text.
+            // Only a page that is UTF-8 is read.
             let places = Places::new(str::from_utf8(page).unwrap());
             let root = &root;
             Ok(asked_text(alloc, asked, Page { root, places })?)

@@ -3,7 +3,7 @@ use html_dom_tree::Location;
 
 /// A start tag and its position.
 #[derive(Drop)]
-pub(crate) struct Place {
+pub(crate) struct PlacedTag {
     /// The element that starts there.
     pub(crate) location: Location,
     /// The location to which that element links.

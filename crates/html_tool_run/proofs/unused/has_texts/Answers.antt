@@ -1,7 +1,7 @@
 use Rattle.std.proofs.Common.{◌==◌, not, ap, sym, ◌∙◌}
 use Rattle.std.proofs.lemmas.List.{length-map}
 use Rattle.html_names.specs.Texts.{text_view}
-use Rattle.html_tool_run.proofs.unused.are_told.Goals as goal
+use Rattle.html_tool_run.proofs.unused.has_texts.Goals as goal
 
 pub returns : goal.returns
 returns c = ap not (c.is_empty.ensures

@@ -1,7 +1,7 @@
 use Rattle.std.proofs.Common.{ap, ◌∙◌}
 use Rattle.html_dom_tree.specs.Views.{element_view}
 use Rattle.html_dom_findings.specs.Fragments.{dead_among, fragment_links}
-use Rattle.html_dom_findings.proofs.fragments.tell_dead_fragments.Goals as goal
+use Rattle.html_dom_findings.proofs.fragments.report_dead_fragments.Goals as goal
 
 pub returns : goal.returns
 returns g c =

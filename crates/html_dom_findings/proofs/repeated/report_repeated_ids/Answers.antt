@@ -3,7 +3,7 @@ use Rattle.html_names.specs.Names.{stands_in}
 use Rattle.html_names.specs.Texts.{text_view}
 use Rattle.html_dom_tree.specs.Views.{element_view}
 use Rattle.html_dom_findings.specs.RepeatedIds.{placed_ids, repeated}
-use Rattle.html_dom_findings.proofs.repeated.tell_repeated_ids.Goals as goal
+use Rattle.html_dom_findings.proofs.repeated.report_repeated_ids.Goals as goal
 
 pub returns : goal.returns
 unfolding repeated

@@ -13,21 +13,21 @@ use Rattle.html_tool_spell.specs.Refusals.{IsFirst}
 use Rattle.html_tool_spell.specs.Spelled as tree
 use Rattle.html_tool_spell.specs.SpelledDocuments.{Spelling, DocumentPartsView, spelling_from, names_refusals}
 use Rattle.html_tool_spell.specs.SpelledItems.{list_at}
-use Rattle.html_tool_spell.specs.Spelling.{IsTold}
+use Rattle.html_tool_spell.specs.Spelling.{IsSpellingFault}
 use Rattle.html_tool_spell.specs.declared.fault.Fault.{Fault}
 use Rattle.html_tool_spell.specs.declared.fault.Fault.TheVariants.{OutOfMemory, BadInput, Refused}
 use Rattle.html_tool_spell.specs.declared.input_forms.Forms.TheVariants.{Document}
 use Rattle.html_tool_spell.specs.declared.reader.Reader.{Reader}
 
 -- the items, the footnotes and the head were read, and a name in them was refused
-pub told_bodies : (parts : DocumentPartsView) (made others : ItemsView) (nodes : NodesView)
+pub refused_bodies : (parts : DocumentPartsView) (made others : ItemsView) (nodes : NodesView)
     (s t u v : Reader) (code : ℕ) (span : Span)
     → mark s ≡ at_start → s.refused ≡ None → v.refused ≡ Some (code, span)
     → IsRead items_refusals made (list_at Document parts.items (mark s)) s t
     → IsRead items_refusals others (list_at Document parts.footnotes (mark t)) t u
     → IsRead all_name_refusals nodes (tree.list_at parts.head (mark u)) u v
     → IsOkAnd (spelling_from parts) (λ b. IsFirst (Refused code span) (names_refusals b))
-told_bodies parts made others nodes s t u v code span first clear is a b c =
+refused_bodies parts made others nodes s t u v code span first clear is a b c =
     let whole : Spelling = record {
       info = parts.info;
       items = a.whole;
@@ -50,9 +50,9 @@ told_bodies parts made others nodes s t u v code span first clear is a b c =
     rw (spelled, b.spelled, c.spelled)
     (refused_whole names_refusals whole (Ok (whole, mark v)) s v code span clear is r)
 
-pub missing_told : {A B : Type 0} (refusals : B → List Refusal) (made : A → Left B)
+pub missing_refused : {A B : Type 0} (refusals : B → List Refusal) (made : A → Left B)
     (wanted : Option A) (f : Fault) → IsMissing wanted f
-    → IsTold refusals (from_part 0 made wanted) f
-missing_told refusals made wanted OutOfMemory h = tt
-missing_told refusals made wanted (BadInput place) h = rw (h.0, h.1) refl
-missing_told refusals made wanted (Refused number span) h = absurd h
+    → IsSpellingFault refusals (from_part 0 made wanted) f
+missing_refused refusals made wanted OutOfMemory h = tt
+missing_refused refusals made wanted (BadInput place) h = rw (h.0, h.1) refl
+missing_refused refusals made wanted (Refused number span) h = absurd h

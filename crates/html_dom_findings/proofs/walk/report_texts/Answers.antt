@@ -3,7 +3,7 @@ use Rattle.std.proofs.lemmas.List.{append-nil}
 use Rattle.html_dom_tree.specs.Views.{element_view}
 use Rattle.html_dom_findings.specs.PlacedTexts.{element_placed}
 use Rattle.html_dom_findings.specs.WantedTexts.{kind_of}
-use Rattle.html_dom_findings.proofs.walk.tell_texts.Goals as goal
+use Rattle.html_dom_findings.proofs.walk.report_texts.Goals as goal
 
 pub returns : goal.returns
 returns g c =
