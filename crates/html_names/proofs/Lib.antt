@@ -10,7 +10,9 @@ pub mod Held
 pub mod Known
 pub mod Lists
 pub mod NameTables
+pub mod Numberings
 pub mod NumberMaps
+pub mod OwnNumbers
 pub mod Same
 pub mod Starts
 pub mod Texts

@@ -1,11 +1,13 @@
 -- Numbers of names, over lists of texts.
-use Rattle.std.proofs.Common.{◌≡◌, ℕ, zero, suc, ◌+◌, ◌<◌, ◌≤◌, Bool, true, false, ◌||◌, if◌then◌else◌, List, [], ◌∷◌, ◌++◌, refl, sym, ap, ◌∙◌, length, arith, bytes_eq, add-one, append-nil, length-append, Some, None, Ok, unwrap_or}
+use Rattle.std.proofs.Common.{◌≡◌, ℕ, zero, suc, ◌+◌, ◌<◌, ◌≤◌, Bool, true, false, ◌||◌, if◌then◌else◌, List, [], ◌∷◌, ◌++◌, refl, sym, ap, ◌∙◌, length, get_or, arith, bytes_eq, add-one, append-nil, length-append, Some, None, Ok, unwrap_or}
 use Rattle.std.proofs.lemmas.Bool.{eq-eqb}
+use Rattle.std.proofs.lemmas.List.{get_or_read_under}
 use Rattle.std.proofs.lemmas.Slice.Eq.{bytes_eq-Decides}
 use Rattle.std.proofs.Math.Bool.{or-true}
 use Rattle.html_names.specs.Names.{stands_in}
-use Rattle.html_names.specs.NameTables.{NamesView, Numbers, number_in, with_name, name_at}
+use Rattle.html_names.specs.NameTables.{NamesView, Numbers, IsNumbered, number_in, with_name, name_at}
 use Rattle.html_names.specs.NumberMaps.{number_where}
+use Rattle.html_names.proofs.Ascending.{stands}
 
 pub same : (name : List ℕ) → bytes_eq name name ≡ true
 same name = (bytes_eq-Decides name name).1 refl
@@ -163,6 +165,16 @@ added_again names name other =
 -- for a number that is asked for twice
 pub ruleset stays = (number_later, stands_in-both, added_again, eq-eqb)
 
+-- a name that is equal to the one with a number has that number
+pub guessed : (now names : List (List ℕ)) (name kept : List ℕ) (number count : ℕ) → now ≡ names →
+    IsNumbered now → kept ≡ get_or now number kept → number < count → count ≡ length now →
+    bytes_eq kept name ≡ true → Some number ≡ number_where names name
+guessed now names name kept number count is all read below counted e =
+    let at : kept ≡ name_at now number = get_or_read_under now number count kept [] read below counted in
+    let named : name_at now number ≡ name = sym at ∙ (bytes_eq-Decides kept name).0 e in
+    let within : number < length now = omega arith in
+    rw (sym is, sym named, stands now number within) (ap Some (sym (all number within)))
+
 found_where : (names : List (List ℕ)) (name : List ℕ) (number : ℕ) →
     Some number ≡ number_where names name →
     (number ≡ number_in names name) × (number < length names) × (with_name names name ≡ names)
@@ -176,19 +188,19 @@ last_below names after name number counted added =
 
 -- in a table, of which the names that have a number are one part: a name that is found, and one that
 -- is not
-module _ (part : List (List ℕ) → NamesView) (names now : List (List ℕ)) (text held : List ℕ)
-    (number : ℕ) (is : now ≡ names) (named : held ≡ text) where
-  pub finds : Some number ≡ number_where now held →
+module _ (part : List (List ℕ) → NamesView) (names : List (List ℕ)) (text : List ℕ)
+    (number : ℕ) where
+  pub finds : Some number ≡ number_where names text →
       Numbers (Ok number) names names text (part names) (part names) (part (with_name names text))
-  finds found =
-      let there : Some number ≡ number_where names text = rw (sym is, sym named) found in
+  finds there =
       let grown = found_where names text number there in
       record { number = grown.0; below = grown.1; names = rw grown.2 refl; absent = tt; kept = tt }
 
-  pub adds : (after : List (List ℕ)) (table : NamesView) → table ≡ part after →
+  pub adds : (now : List (List ℕ)) (held : List ℕ) → now ≡ names → held ≡ text →
+      (after : List (List ℕ)) (table : NamesView) → table ≡ part after →
       after ≡ now ++ held ∷ [] → number ≡ length now → stands_in names text ≡ false →
       Numbers (Ok number) names after text (part names) table (part (with_name names text))
-  adds after table grown added counted new =
+  adds now held is named after table grown added counted new =
       record {
         number = rw (number_next names text new, counted, is) refl;
         below = last_below now after held number counted added;

@@ -11,6 +11,7 @@ pub mod Kinds
 pub mod NameTables
 pub mod Names
 pub mod NumberMaps
+pub mod OwnNumbers
 pub mod Starts
 pub mod Tables
 pub mod Texts

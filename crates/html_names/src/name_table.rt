@@ -1,20 +1,28 @@
-ghost use Rattle.std.specs.Prelude.{◌≡◌, ◌<◌, length, false};
+ghost use Rattle.std.specs.Prelude.{◌≡◌, ◌<◌, ◌∷◌, ◌++◌, [], length, false, chars, OnOk, OnErr};
 ghost use Rattle.html_names.specs.Names.{stands_in};
+ghost use Rattle.html_names.specs.Characters.{is_tag_char, is_attr_char};
+ghost use Rattle.html_names.specs.Held.{held_text, IsHeld};
+ghost use Rattle.html_names.specs.Tables.{known_tags, is_known_tag, tag_count, known_attrs, is_known_attr, attr_count};
 ghost use Rattle.html_names.specs.Kinds as kinds;
 ghost use Rattle.html_names.specs.Displays.{default_display};
+ghost use Rattle.html_names.specs.NumberMaps.{number_where, IsNumbering};
+ghost use Rattle.html_names.specs.OwnNumbers.{IsOwnNumbering};
 ghost use Rattle.html_names.specs.NameTables.{Numbers, IsNumbered, no_names, name_at, with_tag, with_attr};
 
 use crate::html_attr::HtmlAttr;
 use crate::html_tag::HtmlTag;
 use crate::kind;
+use crate::name::Name;
 use crate::property::Display;
 use std::alloc::{AllocError, Global};
 use std::fmt;
 use std::marker::Model;
 
 mod number_map;
+mod own_numbers;
 
 use number_map::NumberMap;
+use own_numbers::OwnNumbers;
 
 /// A table that numbers names. Each tag and each attribute gets the next number, from 0 on, at its
 /// first lookup, and keeps it. Tags and attributes are numbered separately.
@@ -51,12 +59,11 @@ impl Model for NameTable {
 
     ghost use Rattle.html_names.specs.NumberMaps.{IsNumbering};
     ghost use Rattle.html_names.specs.Tables.{known_tags, tag_count, known_attrs, attr_count};
-    ghost use Rattle.html_names.specs.Characters.{is_tag_char, is_attr_char};
 
     ghost view = { λ t. record { tags = t.kept_tags.items; attrs = t.kept_attrs.items } };
 
-    ghost invariant = { λ t. IsNumbering tag_count known_tags is_tag_char t.tag_numbers t.kept_tags.items
-        × IsNumbering attr_count known_attrs is_attr_char t.attr_numbers t.kept_attrs.items };
+    ghost invariant = { λ t. IsNumbering tag_count known_tags t.tag_numbers t.kept_tags.items
+        × IsNumbering attr_count known_attrs t.attr_numbers t.kept_attrs.items };
 }
 
 impl NameTable {
@@ -77,12 +84,13 @@ impl NameTable {
     /// If an allocation fails, the table is unchanged. A tag that has a number takes no
     /// memory.
     ///
-    /// Indexes a table for a known name, and searches an ordered map for another.
+    /// Indexes a table for a known name. Another name is found in the slot that its hash selects,
+    /// or in an ordered map if another took that slot first.
     pub fn tag(&mut self, tag: &HtmlTag) -> Result<usize, AllocError>
         ensures { Numbers result self.old.tags self.new.tags tag.now self.old self.new
             (with_tag self.old tag.now) }
     {
-        if let Some(number) = self.tag_numbers.number_of(&tag.name) {
+        if let Some(number) = self.number_of_tag(tag) {
             return Ok(number);
         }
         self.add_tag(tag.try_clone()?)
@@ -94,10 +102,35 @@ impl NameTable {
         ensures { Numbers result self.old.tags self.new.tags tag self.old self.new
             (with_tag self.old tag) }
     {
-        if let Some(number) = self.tag_numbers.number_of(&tag.name) {
+        if let Some(number) = self.number_of_tag(&tag) {
             return Ok(number);
         }
         self.add_tag(tag)
+    }
+
+    #[inline(always)]
+    fn number_of_tag(&self, tag: &HtmlTag) -> Option<usize>
+        ensures { result ≡ number_where self.now.tags tag.now }
+    {
+        match &tag.name {
+            Name::Known(place) => self.tag_numbers.known_number(*place),
+            Name::Own(text) => self.find_tag(text.as_str()),
+        }
+    }
+
+    #[inline(never)]
+    fn find_tag(&self, text: &str) -> Option<usize>
+        requires { is_known_tag (chars text.now) ≡ false }
+        ensures { result ≡ number_where self.now.tags (chars text.now) }
+    {
+        let number = self.tag_numbers.own.slot_number(text);
+        if number >= self.kept_tags.len() {
+            return None;
+        }
+        if self.kept_tags[number].resolve() == text {
+            return Some(number);
+        }
+        self.tag_numbers.own.rest_number(text)
     }
 
     fn add_tag(&mut self, tag: HtmlTag) -> Result<usize, AllocError>
@@ -107,7 +140,7 @@ impl NameTable {
     {
         let number = self.kept_tags.len();
         self.kept_tags.reserve(1)?;
-        self.tag_numbers.put(&tag.name, number)?;
+        number_tag(&mut self.tag_numbers, &self.kept_tags, &tag.name)?;
         self.kept_tags.push_reserved(tag);
         Ok(number)
     }
@@ -117,12 +150,13 @@ impl NameTable {
     /// If an allocation fails, the table is unchanged. An attribute that has a number takes no
     /// memory.
     ///
-    /// Indexes a table for a known name, and searches an ordered map for another.
+    /// Indexes a table for a known name. Another name is found in the slot that its hash selects,
+    /// or in an ordered map if another took that slot first.
     pub fn attr(&mut self, attr: &HtmlAttr) -> Result<usize, AllocError>
         ensures { Numbers result self.old.attrs self.new.attrs attr.now self.old self.new
             (with_attr self.old attr.now) }
     {
-        if let Some(number) = self.attr_numbers.number_of(&attr.name) {
+        if let Some(number) = self.number_of_attr(attr) {
             return Ok(number);
         }
         self.add_attr(attr.try_clone()?)
@@ -134,10 +168,35 @@ impl NameTable {
         ensures { Numbers result self.old.attrs self.new.attrs attr self.old self.new
             (with_attr self.old attr) }
     {
-        if let Some(number) = self.attr_numbers.number_of(&attr.name) {
+        if let Some(number) = self.number_of_attr(&attr) {
             return Ok(number);
         }
         self.add_attr(attr)
+    }
+
+    #[inline(always)]
+    fn number_of_attr(&self, attr: &HtmlAttr) -> Option<usize>
+        ensures { result ≡ number_where self.now.attrs attr.now }
+    {
+        match &attr.name {
+            Name::Known(place) => self.attr_numbers.known_number(*place),
+            Name::Own(text) => self.find_attr(text.as_str()),
+        }
+    }
+
+    #[inline(never)]
+    fn find_attr(&self, text: &str) -> Option<usize>
+        requires { is_known_attr (chars text.now) ≡ false }
+        ensures { result ≡ number_where self.now.attrs (chars text.now) }
+    {
+        let number = self.attr_numbers.own.slot_number(text);
+        if number >= self.kept_attrs.len() {
+            return None;
+        }
+        if self.kept_attrs[number].resolve() == text {
+            return Some(number);
+        }
+        self.attr_numbers.own.rest_number(text)
     }
 
     fn add_attr(&mut self, attr: HtmlAttr) -> Result<usize, AllocError>
@@ -147,7 +206,7 @@ impl NameTable {
     {
         let number = self.kept_attrs.len();
         self.kept_attrs.reserve(1)?;
-        self.attr_numbers.put(&attr.name, number)?;
+        number_attr(&mut self.attr_numbers, &self.kept_attrs, &attr.name)?;
         self.kept_attrs.push_reserved(attr);
         Ok(number)
     }
@@ -225,6 +284,82 @@ impl NameTable {
     {
         Display::default_for(&self.kept_tags[number])
     }
+}
+
+/// Sets the number of a new tag, which is the next.
+fn number_tag(numbers: &mut NumberMap, kept: &[HtmlTag], name: &Name) -> Result<(), AllocError>
+    requires held { IsHeld tag_count known_tags is_tag_char name.now }
+    requires new { stands_in kept.now (held_text known_tags name.now) ≡ false }
+    requires was { IsNumbering tag_count known_tags numbers.old kept.now }
+    ensures next { OnOk result (IsNumbering tag_count known_tags numbers.new
+        (kept.now ++ held_text known_tags name.now ∷ [])) }
+    ensures kept { OnErr result (IsNumbering tag_count known_tags numbers.new kept.now) }
+{
+    match name {
+        Name::Known(place) => numbers.put_known(*place, kept.len()),
+        Name::Own(text) => {
+            if numbers.own.are_few(kept.len()) {
+                widen_tags(&mut numbers.own, kept)?;
+            }
+            numbers.own.put(text.as_str(), kept.len())
+        }
+    }
+}
+
+/// Finds a slot for each of the tags anew, among twice as many. If an allocation fails, nothing
+/// changes.
+fn widen_tags(own: &mut OwnNumbers, kept: &[HtmlTag]) -> Result<(), AllocError>
+    requires all { IsNumbered kept.now }
+    requires was { IsOwnNumbering known_tags own.old kept.now }
+    ensures { IsOwnNumbering known_tags own.new kept.now }
+{
+    let mut wider = own.wider()?;
+    for (number, tag) in kept.iter().enumerate() {
+        match &tag.name {
+            Name::Known(_) => {}
+            Name::Own(text) => wider.put(text.as_str(), number)?,
+        }
+    }
+    *own = wider;
+    Ok(())
+}
+
+/// Sets the number of a new attribute, which is the next.
+fn number_attr(numbers: &mut NumberMap, kept: &[HtmlAttr], name: &Name) -> Result<(), AllocError>
+    requires held { IsHeld attr_count known_attrs is_attr_char name.now }
+    requires new { stands_in kept.now (held_text known_attrs name.now) ≡ false }
+    requires was { IsNumbering attr_count known_attrs numbers.old kept.now }
+    ensures next { OnOk result (IsNumbering attr_count known_attrs numbers.new
+        (kept.now ++ held_text known_attrs name.now ∷ [])) }
+    ensures kept { OnErr result (IsNumbering attr_count known_attrs numbers.new kept.now) }
+{
+    match name {
+        Name::Known(place) => numbers.put_known(*place, kept.len()),
+        Name::Own(text) => {
+            if numbers.own.are_few(kept.len()) {
+                widen_attrs(&mut numbers.own, kept)?;
+            }
+            numbers.own.put(text.as_str(), kept.len())
+        }
+    }
+}
+
+/// Finds a slot for each of the attributes anew, among twice as many. If an allocation fails,
+/// nothing changes.
+fn widen_attrs(own: &mut OwnNumbers, kept: &[HtmlAttr]) -> Result<(), AllocError>
+    requires all { IsNumbered kept.now }
+    requires was { IsOwnNumbering known_attrs own.old kept.now }
+    ensures { IsOwnNumbering known_attrs own.new kept.now }
+{
+    let mut wider = own.wider()?;
+    for (number, attr) in kept.iter().enumerate() {
+        match &attr.name {
+            Name::Known(_) => {}
+            Name::Own(text) => wider.put(text.as_str(), number)?,
+        }
+    }
+    *own = wider;
+    Ok(())
 }
 
 /// Writes `NameTable`.
