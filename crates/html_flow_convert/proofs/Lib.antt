@@ -6,6 +6,7 @@ pub mod Lines
 pub mod LoneNodes
 pub mod Looks
 pub mod OneProperty
+pub mod Passing
 pub mod Protecting
 pub mod SingleChars
 pub mod Stretching

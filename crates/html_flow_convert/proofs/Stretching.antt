@@ -1,12 +1,12 @@
 -- Stretches of a text where white space collapses, as they grow.
-use Rattle.std.proofs.Common.{◌≡◌, ℕ, ◌-◌, ◌<◌, Bool, true, false, ◌&&◌, ◌||◌, ◌==◌, List, [], ◌∷◌, ◌++◌, IsTrue, Option, None, Some, chars, length, map, take, drop, get_or, ◌+◌, refl, sym, ap, ◌∙◌, arith, append-nil, append_assoc}
+use Rattle.std.proofs.Common.{◌≡◌, ℕ, ◌-◌, ◌<◌, Bool, true, false, ◌&&◌, ◌||◌, ◌==◌, List, [], ◌∷◌, ◌++◌, IsTrue, Option, None, Some, chars, length, map, take, refl, sym, ap, ◌∙◌, arith, append-nil, append_assoc}
 use Rattle.std.proofs.lemmas.Bool.{agree_below_at, false≢true, true≢false, and_parts, and_from}
 use Rattle.std.proofs.lemmas.Bool.Decides.{nat_tests}
-use Rattle.std.proofs.lemmas.List.{drop_more, map-append, nil_from_length}
-use Rattle.std.proofs.lemmas.Str.{IsCharBoundary-after_ascii, IsUtf8-nil, IsUtf8-append, IsUtf8-drop, IsUtf8-encode, encode_ascii, chars-append, chars-nil, chars_past_char, encodes-chars}
-use Rattle.std.specs.Str.{IsUtf8, IsCharBoundary}
+use Rattle.std.proofs.lemmas.List.{map-append, nil_from_length}
+use Rattle.std.proofs.lemmas.Str.{IsUtf8-nil, chars-nil, chars_past_char, encodes-chars}
+use Rattle.std.specs.Str.{IsUtf8}
 use Rattle.html_names.specs.Characters.{is_ignorable}
-use Rattle.html_names.proofs.Basics.{chars-encode, first_scalar, front_taken}
+use Rattle.html_names.proofs.Basics.{front_taken}
 use Rattle.html_dom_tree.specs.Tree.{NodeView}
 use Rattle.html_flow_convert.specs.Pieces.{PieceView, stretch, alone, line_break, first_char, is_normal, is_normal_there, is_in_stretch, in_stretch, is_carriage_return, outside_stretch, pieces_after, pieces, piece_node, text_nodes}
 use Rattle.html_flow_convert.specs.TextStretches.{is_above_space, is_stretch, with_stretch}
@@ -98,40 +98,16 @@ stretch_ends ends rest text none held h =
     let empty = nil_from_length rest none in
     one_stretch (chars text) (sym (rw (empty, chars-nil) at held) ∙ h)
 
--- a byte more, if it is a character of ASCII above the space, or a space behind a normal character
-shown_small : (b : ℕ) → is_above_space b ≡ true → b < 128
+-- a character of ASCII above the space is normal
+pub shown_small : (b : ℕ) → is_above_space b ≡ true → b < 128
 unfolding is_above_space
 shown_small b h = grind (arith, nat_tests)
 
-shown_normal : (b : ℕ) → is_above_space b ≡ true → is_normal b ≡ true
+pub shown_normal : (b : ℕ) → is_above_space b ≡ true → is_normal b ≡ true
 unfolding is_above_space is_ignorable
 shown_normal b h =
     let both = agree_below_at (λ d. is_above_space d && is_normal d) is_above_space 128 b refl (shown_small b h) in
     (and_parts (is_above_space b) (is_normal b) (both ∙ h)).1
-
-byte_kind : (b : ℕ) (shown ends : Bool) → shown ≡ is_above_space b →
-    (shown || ((b == 32) && ends)) ≡ true → (b < 128) × (shown ≡ is_normal b)
-byte_kind b true ends is on = (shown_small b (sym is), sym (shown_normal b (sym is)))
-byte_kind b false ends is on =
-    let space = (and_parts (b == 32) ends on).0 in
-    let same : b ≡ 32 = grind (arith, nat_tests) in
-    rw same (omega arith, refl)
-
-pub byte_goes_on : (ends shown : Bool) (text : List ℕ) (at : ℕ) (all : Bool) → IsUtf8 text →
-    IsCharBoundary text at → at < length text → shown ≡ is_above_space (get_or text at 0) →
-    (shown || ((get_or text at 0 == 32) && ends)) ≡ true →
-    is_stretch ends (chars (drop at text)) ≡ all →
-    IsCharBoundary text (at + 1) × (is_stretch shown (chars (drop (at + 1) text)) ≡ all)
-byte_goes_on ends shown text at all u cut within is on held =
-    let b = get_or text at 0 in
-    let kind = byte_kind b shown ends is on in
-    let parts : drop at text ≡ encode b ++ drop (at + 1) text =
-    drop_more text at 0 within
-    ∙ ap (λ l. l ++ drop (at + 1) text) (sym (encode_ascii b kind.0)) in (
-      IsCharBoundary-after_ascii text at u within kind.0,
-      stretch_goes_on ends shown (drop at text) (drop (at + 1) text) b all (IsUtf8-drop text at u cut)
-          parts kind.1 on held,
-    )
 
 before_alone : (cs : List ℕ) (d : ℕ) (ps : List PieceView) →
     with_stretch cs (alone d ∷ ps) ≡ with_stretch cs [] ++ alone d ∷ ps
@@ -168,7 +144,7 @@ stretch_more : (cs : List ℕ) (c : ℕ) (ps : List PieceView) →
 stretch_more [] c ps = refl
 stretch_more (d ∷ cs) c ps = ap (in_stretch d) (stretch_more cs c ps)
 
-return_apart : (before : Option ℕ) (c : ℕ) (after : List ℕ) →
+pub return_apart : (before : Option ℕ) (c : ℕ) (after : List ℕ) →
     is_in_stretch before c after ≡ true → (c == 13) ≡ true → ⊥
 return_apart before c after h e =
     let is : c ≡ 13 = grind (arith, nat_tests) in
@@ -196,27 +172,6 @@ nothing_passed span text made u = record {
   after_return = λ h. refl;
   agrees = rw chars-nil refl;
 }
-
-pub char_inside : (span : ℕ) (before : Option ℕ) (text rest after : List ℕ) (made all : List NodeView)
-    (c : ℕ) → Stretching span before text rest made all → rest ≡ encode c ++ after →
-    IsUtf8 after → is_in_stretch before c (chars after) ≡ true →
-    Stretching span (Some c) text after made all
-unfolding pieces_after
-char_inside span before text rest after made all c held parts u inside =
-    let valid = first_scalar rest after c held.rest_utf8 parts in
-    let grown : chars (held.front ++ encode c) ≡ chars held.front ++ c ∷ [] =
-    chars-append held.front (encode c) held.front_utf8
-    ∙ ap (λ cs. chars held.front ++ cs) (chars-encode c valid) in
-    record {
-      front = held.front ++ encode c;
-      split = held.split
-          ∙ (ap (λ l. held.front ++ l) parts ∙ sym (append_assoc held.front (encode c) after));
-      front_utf8 = IsUtf8-append held.front (encode c) held.front_utf8 (IsUtf8-encode c valid);
-      rest_utf8 = u;
-      after_return = λ h. absurd (return_apart before c (chars after) inside h);
-      agrees = rw (grown, stretch_more (chars held.front) c (pieces_after (Some c) (chars after)))
-          (rw (chars_past_char rest after c held.rest_utf8 parts, inside) at held.agrees);
-    }
 
 pub char_outside : (span : ℕ) (before : Option ℕ) (text rest after : List ℕ) (made new all : List NodeView)
     (c : ℕ) → Stretching span before text rest made all → rest ≡ encode c ++ after →

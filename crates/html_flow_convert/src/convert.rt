@@ -177,6 +177,7 @@ fn convert_list(
 
 /// Converts a body, if there is one, as a list in the same setting, but deeper.
 #[cycle(convert)]
+#[inline(always)]
 fn convert_body(
     alloc: Global,
     body: Option<Vec<Pair>>,
@@ -405,6 +406,7 @@ fn finish(
     }
 }
 
+#[inline(never)]
 fn finish_list(
     alloc: Global,
     nodes: Vec<HtmlNode>,

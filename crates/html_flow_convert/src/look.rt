@@ -10,8 +10,8 @@ ghost use Rattle.html_names.specs.Characters.{is_ignorable};
 ghost use Rattle.std.specs.List.{list_any, list_all};
 
 use crate::one::is_one;
+use crate::pieces::is_ignorable;
 use html_dom_tree::HtmlElement;
-use html_names::charsets::is_default_ignorable;
 use html_names::{HtmlTag, tag};
 use html_values_css::{Properties, Property};
 
@@ -86,7 +86,7 @@ pub(crate) fn is_entered(element: &HtmlElement) -> bool
 fn is_hidden_char(c: char) -> bool
     ensures { result ≡ is_ignorable c }
 {
-    !c.is_ascii() && is_default_ignorable(c)
+    !c.is_ascii() && is_ignorable(c)
 }
 
 fn is_hidden(text: &str) -> bool

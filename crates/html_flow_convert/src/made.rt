@@ -27,26 +27,41 @@ pub(crate) fn pre_wrap_css(alloc: Global) -> Result<Properties, AllocError>
     Ok(css.with("white-space", kept)?)
 }
 
-/// Creates a `span` in which each character of the texts is written as a character reference.
+/// Creates a `span` around these nodes, in which each character of the texts is written as a
+/// character reference.
 #[tactic(auto, unfolding(html_names::specs::Tables::known_tags))]
-pub(crate) fn pre_wrap_span(
+fn pre_wrap_span(
     alloc: Global,
     reused: &Reused,
+    children: Vec<HtmlNode>,
     span: Span,
 ) -> Result<HtmlElement, AllocError>
-    ensures { IfOk result (λ element. head_of element ≡ pre_wrap_head span.0) }
+    ensures head { IfOk result (λ element. head_of element ≡ pre_wrap_head span.0) }
+    ensures children { IfOk result (λ element. element.children ≡ children) }
 {
-    let mut element = HtmlElement::new(alloc, tag::span)
-        .with_css(reused.css.try_clone()?)
-        .spanned(span);
-    element.attrs = HtmlAttrs(Vec::with_capacity(alloc, 1)?); // the css becomes a `style`
-    element.pre_span = true;
-    Ok(element)
+    let attrs = HtmlAttrs(Vec::with_capacity(alloc, 1)?); // the css becomes a `style`
+    let css = reused.css.try_clone()?;
+    Ok(HtmlElement {
+        tag: tag::span,
+        attrs,
+        css,
+        children,
+        parent: None,
+        span,
+        pre_span: true,
+    })
 }
 
-pub(crate) fn element_of(mut element: HtmlElement, children: Vec<HtmlNode>) -> HtmlNode
-    ensures { node_view result ≡ element_node (head_of element) (nodes_view children.items) }
+/// Creates the node of a `span` around these nodes, in which each character of the texts is written
+/// as a character reference.
+pub(crate) fn pre_wrap_node(
+    alloc: Global,
+    reused: &Reused,
+    children: Vec<HtmlNode>,
+    span: Span,
+) -> Result<HtmlNode, AllocError>
+    ensures { IfOk result (λ node. node_view node
+        ≡ element_node (pre_wrap_head span.0) (nodes_view children.items)) }
 {
-    element.children = children;
-    HtmlNode::from(element)
+    Ok(HtmlNode::from(pre_wrap_span(alloc, reused, children, span)?))
 }

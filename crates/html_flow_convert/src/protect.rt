@@ -9,7 +9,7 @@ ghost use Rattle.html_flow_convert.specs.Protected.{space_count, is_bare, node_b
 
 use crate::answers::{answer_for, are_bare};
 use crate::look::is_entered;
-use crate::made::{element_of, pre_wrap_span};
+use crate::made::pre_wrap_node;
 use crate::one::is_one;
 use crate::reused::Reused;
 use html_dom_tree::{HtmlElement, HtmlNode};
@@ -46,7 +46,7 @@ fn keep_text(alloc: Global, reused: &Reused, node: &mut HtmlNode) -> Result<(), 
         let text = mem::replace(text, String::new(alloc));
         let mut children = Vec::with_capacity(alloc, 1)?;
         children.push(HtmlNode::text(text, *span))?;
-        *node = element_of(pre_wrap_span(alloc, reused, *span)?, children);
+        *node = pre_wrap_node(alloc, reused, children, *span)?;
     }
     Ok(())
 }

@@ -6,7 +6,7 @@ ghost use Rattle.html_dom_tree.specs.Views.{node_view};
 ghost use Rattle.html_flow_convert.specs.OpenRuns.{goes_on, has_kept_run};
 ghost use Rattle.html_flow_convert.specs.Runs.{is_space, is_tab, is_blank_node, are_kept, first_node_span, run_nodes, nodes_with_runs};
 
-use crate::made::{element_of, pre_wrap_span};
+use crate::made::pre_wrap_node;
 use crate::one::is_one;
 use crate::reused::Reused;
 use html_dom_flat::give_back;
@@ -88,7 +88,7 @@ fn end_run(
     let mut kept = mem::replace(run, Vec::new(alloc));
     kept.shrink_to_fit();
     let span = first_node_span(&kept);
-    made.push(element_of(pre_wrap_span(alloc, reused, span)?, kept))?;
+    made.push(pre_wrap_node(alloc, reused, kept, span)?)?;
     Ok(())
 }
 

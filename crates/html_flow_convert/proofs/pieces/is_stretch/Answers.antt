@@ -1,5 +1,6 @@
 use Rattle.std.proofs.Common.{◌≡◌, ◌++◌, ap, sym, ◌∙◌}
 use Rattle.std.specs.Str.Iter.{chars_rest}
+use Rattle.html_flow_convert.proofs.Passing.{stretch_left}
 use Rattle.html_flow_convert.proofs.Stretching.{stretch_goes_on, stretch_ends}
 use Rattle.html_flow_convert.proofs.pieces.is_stretch.Goals as goal
 use lib.Utf8.{encode}
@@ -7,7 +8,7 @@ use lib.Utf8.{encode}
 pub loop-c-init : goal.loop-c-init
 loop-c-init c = record {
   utf8 = rw c.chars-left.ensures.rest c.past_words.utf8;
-  agrees = rw c.chars-left.ensures.rest c.past_words.ensures.rest;
+  agrees = rw c.chars-left.ensures.rest (stretch_left _ _ _ _ c.past_words.ensures.passed);
 }
 
 pub loop-c-preserved : goal.loop-c-preserved
@@ -23,7 +24,8 @@ loop-c-preserved c =
     (sym c.goes_on.ensures ∙ c.if-not-goes_on.false) at.invariant.agrees in
     record {
       utf8 = rw c.chars-left-in-Some.ensures.rest c.past_words-in-Some.utf8;
-      agrees = rw c.chars-left-in-Some.ensures.rest (c.past_words-in-Some.ensures.rest ∙ on);
+      agrees = rw c.chars-left-in-Some.ensures.rest
+          (stretch_left _ _ _ _ c.past_words-in-Some.ensures.passed ∙ on);
     }
 
 pub returns : goal.returns

@@ -5,7 +5,7 @@ use Rattle.std.specs.Str.Iter.{chars_rest}
 use Rattle.html_dom_tree.specs.Views.{node_view}
 use Rattle.html_flow_convert.specs.Pieces.{text_nodes}
 use Rattle.html_flow_convert.proofs.Beginnings.{Grows}
-use Rattle.html_flow_convert.proofs.Stretching.{Stretching}
+use Rattle.html_flow_convert.proofs.Passing.{Pending}
 use Rattle.html_flow_convert.proofs.pieces.push_pieces.Given as goal
 
 abbrev pub invariant-loop-c : goal.invariant-loop-c
@@ -17,6 +17,6 @@ invariant-loop-c l =
       pending_is_text : shadow (Utf8 l.pending);
       rest_is_text : shadow (Utf8 l.rest);
       at : chars_rest l.left ≡ l.rest;
-      held : Stretching l.span.0 l.before l.pending l.rest made all;
+      held : Pending l.span.0 l.returned l.ends_normal l.pending l.rest made all;
       grown : Grows old made;
     }
