@@ -12,6 +12,7 @@ pub mod LinesEnd
 pub mod Named
 pub mod NodeAtoms
 pub mod Normals
+pub mod PassedBytes
 pub mod Plainly
 pub mod RawBack
 pub mod RawChildren

@@ -1,33 +1,22 @@
 -- Stretches of a text that are written as they are.
 use Rattle.std.proofs.Common.{◌≡◌, ℕ, zero, suc, ◌+◌, ◌<◌, ◌≤◌, length, take, drop, get_or, subst, Bool, true, false, not, ◌&&◌, List, [], ◌∷◌, ◌++◌, arith, refl, ap, ◌∙◌, sym, chars, append_assoc}
-use Rattle.std.proofs.lemmas.Bool.{agree_below_at, and_from, and_parts, not-true}
+use Rattle.std.proofs.lemmas.Bool.{and_from, and_parts, not-true}
 use Rattle.std.proofs.lemmas.Bool.Decides.{nat_tests}
 use Rattle.std.proofs.lemmas.List.{take_more}
-use Rattle.std.proofs.lemmas.Str.{IsCharBoundary-after_ascii, IsUtf8-nil, IsUtf8-append, IsUtf8-encode, IsUtf8-from_ascii, chars-IsAscii, chars-append, chars-nil}
+use Rattle.std.proofs.lemmas.Str.{chars-IsAscii, IsCharBoundary-after_ascii, IsUtf8-append, IsUtf8-encode, chars-append}
 use Rattle.std.proofs.lemmas.Str.Ascii.{IsAscii-nil, IsAscii-cons}
 use Rattle.std.specs.Str.{IsUtf8, IsAscii, IsCharBoundary}
 use Rattle.html_names.specs.Characters.{all}
 use Rattle.html_names.proofs.Basics.{all_append, chars-encode, first_scalar}
-use Rattle.typst_html_encode.specs.ExportFaults.{is_bad, is_reference, text_faults}
-use Rattle.typst_html_encode.specs.PlainStretches.{begins_common, is_common, is_plain, PassesCommon, PassesPlain}
+use Rattle.typst_html_encode.specs.ExportFaults.{is_bad, text_faults}
+use Rattle.typst_html_encode.specs.PlainStretches.{begins_common, is_common, is_plain, PassesPlain}
 use Rattle.typst_html_encode.specs.Text.{stands_as_is, escaped_text}
 use Rattle.typst_html_encode.specs.declared.escape.Escaping.{Escaping}
-use Rattle.typst_html_encode.specs.declared.escape.Escaping.TheVariants as escaping
 use lib.Utf8.{encode}
 
 pub common_small : (c : ℕ) → is_common c ≡ true → c < 128
 unfolding is_common
 common_small c h = grind (arith, nat_tests)
-
-by_table : (p : ℕ → Bool) (c : ℕ) → is_common c ≡ true →
-    (is_common c && p c) ≡ is_common c → p c ≡ true
-by_table p c h e = (and_parts (is_common c) (p c) (e ∙ h)).1
-
-common_plain : (e : Escaping) (c : ℕ) → is_common c ≡ true → is_plain e c ≡ not (is_reference e)
-unfolding is_common
-common_plain escaping.Reference c h = refl
-common_plain e c h = by_table (is_plain e) c h
-    (agree_below_at (λ d. is_common d && is_plain e d) is_common 128 c refl (common_small c h))
 
 -- a character that is plain, and one that is not
 pub plain_stands : (e : Escaping) (c : ℕ) → is_plain e c ≡ true → stands_as_is e c ≡ true
@@ -59,28 +48,26 @@ faults_plain e span (c ∷ cs) ds h =
     let both = and_parts (is_plain e c) (all (is_plain e) cs) h in
     rw (plain_good e c both.0, faults_plain e span cs ds both.1) refl
 
+-- a text of one byte, which is ASCII
+pub lone_char : (text bytes : List ℕ) → bytes ≡ text → 1 ≤ length bytes → length bytes < 2 →
+    get_or bytes 0 0 < 128 → chars text ≡ get_or bytes 0 0 ∷ []
+lone_char text [] same some few small = absurd (omega (arith, some))
+lone_char text (b ∷ []) same some few small =
+    ap chars (sym same) ∙ chars-IsAscii (b ∷ []) (IsAscii-cons b [] small IsAscii-nil)
+lone_char text (b ∷ c ∷ bs) same some few small = absurd (omega (arith, few))
+
+pub lone_text : (e : Escaping) (c : ℕ) → is_plain e c ≡ true → escaped_text e (c ∷ []) ≡ c ∷ []
+lone_text e c h = escaped_plain e (c ∷ []) [] (and_from (is_plain e c) true h refl)
+
+pub lone_faults : (e : Escaping) (span c : ℕ) → is_plain e c ≡ true →
+    text_faults e span (c ∷ []) ≡ []
+lone_faults e span c h = faults_plain e span (c ∷ []) [] (and_from (is_plain e c) true h refl)
+
 pub common_ascii : (bs : List ℕ) → all is_common bs ≡ true → IsAscii bs
 common_ascii [] h = IsAscii-nil
 common_ascii (b ∷ bs) h =
     let both = and_parts (is_common b) (all is_common bs) h in
     IsAscii-cons b bs (common_small b both.0) (common_ascii bs both.1)
-
-common_all : (e : Escaping) → is_reference e ≡ false → (bs : List ℕ) → all is_common bs ≡ true →
-    all (is_plain e) bs ≡ true
-common_all e o [] h = refl
-common_all e o (b ∷ bs) h =
-    let both = and_parts (is_common b) (all is_common bs) h in
-    and_from (is_plain e b) (all (is_plain e) bs) (common_plain e b both.0 ∙ ap not o)
-    (common_all e o bs both.1)
-
-pub passes_none : (e : Escaping) (text : List ℕ) → IsUtf8 text → PassesPlain e text text
-passes_none e text u = record {
-  front = [];
-  split = refl;
-  front_utf8 = IsUtf8-nil;
-  rest_utf8 = u;
-  plain = ap (all (is_plain e)) chars-nil;
-}
 
 passes_more : (e : Escaping) (text rest front left : List ℕ) → PassesPlain e text rest →
     rest ≡ front ++ left → IsUtf8 front → IsUtf8 left → all (is_plain e) (chars front) ≡ true →
@@ -101,12 +88,10 @@ passes_char e text rest left c h split plain u =
     passes_more e text rest (encode c) left h split (IsUtf8-encode c valid) u
     (ap (all (is_plain e)) (chars-encode c valid) ∙ and_from (is_plain e c) true plain refl)
 
-pub passes_common : (e : Escaping) (text rest left : List ℕ) → is_reference e ≡ false →
-    PassesPlain e text rest → PassesCommon rest left → IsUtf8 left → PassesPlain e text left
-passes_common e text rest left o h more u =
-    let ascii = common_ascii more.front more.common in
-    passes_more e text rest more.front left h more.split (IsUtf8-from_ascii more.front ascii) u
-    (ap (all (is_plain e)) (chars-IsAscii more.front ascii) ∙ common_all e o more.front more.common)
+pub passes_on : (e : Escaping) (text rest left : List ℕ) → PassesPlain e text rest →
+    PassesPlain e rest left → PassesPlain e text left
+passes_on e text rest left h more = passes_more e text rest more.front left h more.split
+    more.front_utf8 more.rest_utf8 more.plain
 
 -- the bytes up to a place are common characters
 pub record Passed (text : List ℕ) (at : ℕ) : Type 0 where

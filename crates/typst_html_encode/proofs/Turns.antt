@@ -7,12 +7,13 @@ use Rattle.typst_html_encode.proofs.Firsts.{first_of_more}
 use Rattle.typst_html_encode.proofs.Walk.{entered_text, entered_faults, skipped_text, skipped_faults, skipped_named, first_in_node, rest_text, rest_faults, RestIsNamed, rest_size, rest_text_first, rest_faults_first, rest_named_first}
 use Rattle.typst_html_encode.specs.ExportFaults.{IsFirst, nodes_faults}
 use Rattle.typst_html_encode.specs.FrameWriters.{Frames}
-use Rattle.typst_html_encode.specs.Layout.{indent_where, due_after, margin_inside}
+use Rattle.typst_html_encode.specs.Layout.{indent_where, has_indent, due_after, margin_inside}
 use Rattle.typst_html_encode.specs.ReadingBack.{NodeIsNamed, NodesAreNamed}
 use Rattle.typst_html_encode.specs.Text.{end_tag_text, nodes_text}
-use Rattle.typst_html_encode.specs.WriterWalk.{first_text, first_faults, FirstIsNamed, is_element_entered, node_is_entered, OpenElementView, open_element, outside_text, next_pre_span, next_margin, next_has_indent}
+use Rattle.typst_html_encode.specs.WriterWalk.{first_text, turn_text, turn_faults, FirstIsNamed, is_element_entered, node_is_entered, OpenElementView, open_element, outside_text, next_place}
 use Rattle.typst_html_encode.specs.declared.fault.ExportFault.{ExportFault}
 use Rattle.typst_html_encode.specs.declared.layout.Margin.{Margin}
+use Rattle.typst_html_encode.specs.declared.place.Place.{Place}
 
 -- a walk over nodes has written a text: with the text of what is left it is the text of the nodes
 pub record IsAt (frames : Frames) (outer : Margin) (whole : NodesView) (start : List ℕ)
@@ -23,26 +24,11 @@ pub record IsAt (frames : Frames) (outer : Margin) (whole : NodesView) (start : 
   pub named : RestIsNamed left opened → NodesAreNamed whole
 
 -- what is written in a turn that comes to a node, and its faults
-pub record WritesNode (frames : Frames) (outer : Margin) (opened : List OpenElementView)
-    (due : Bool) (n : NodeView) (text new_text : List ℕ) : Type 0 where
-  pub agrees : new_text ≡ text
-      ++ (indent_where (next_has_indent opened due n) (next_margin outer opened).level
-      ++ first_text frames (next_pre_span opened) (next_margin outer opened) n)
-  pub clean : first_faults frames (next_pre_span opened) (next_margin outer opened).pretty n ≡ []
+pub record WritesNode (frames : Frames) (place : Place) (due : Bool) (n : NodeView)
+    (text new_text : List ℕ) : Type 0 where
+  pub agrees : new_text ≡ text ++ turn_text frames place due n
+  pub clean : turn_faults frames place n ≡ []
   pub named : FirstIsNamed n
-
-pub wrote : {frames : Frames} {outer : Margin} {opened : List OpenElementView} {due : Bool}
-    {n : NodeView} {text pushed new_text : List ℕ} {indented pre_span : Bool} {m : Margin} →
-    indented ≡ next_has_indent opened due n → pre_span ≡ next_pre_span opened →
-    m ≡ next_margin outer opened → pushed ≡ text ++ indent_where indented m.level →
-    new_text ≡ pushed ++ first_text frames pre_span m n →
-    first_faults frames pre_span m.pretty n ≡ [] → FirstIsNamed n →
-    WritesNode frames outer opened due n text new_text
-wrote {text = text} is_indented is_pre_span is_margin began went clean named = record {
-  agrees = rw (← is_indented, ← is_pre_span, ← is_margin, went, began) (append_assoc text _ _);
-  clean = rw (← is_pre_span, ← is_margin) clean;
-  named = named;
-}
 
 begun : (text indent first inner end left new_text all : List ℕ) →
     new_text ≡ text ++ (indent ++ first) →
@@ -112,61 +98,53 @@ module _ {frames : Frames} {outer : Margin} {whole : NodesView} {start : List �
   module _ {left others : NodesView} {n : NodeView} {opened : List OpenElementView}
       {text : List ℕ} (stands : IsAt frames outer whole start due left opened text)
       (is : left ≡ node n others) where
-    abbrev margin : Margin
-    margin = next_margin outer opened
-
     here : IsAt frames outer whole start due (node n others) opened text
     here = subst (λ ns. IsAt frames outer whole start due ns opened text) is stands
 
-    pub passes : {m : Margin} {next_due : Bool} {new_text : List ℕ} →
-        node_is_entered n ≡ false → WritesNode frames outer opened due n text new_text →
-        m ≡ margin → next_due ≡ (m.pretty && due_after due n) →
+    pub passes : {place : Place} {next_due : Bool} {new_text : List ℕ} →
+        place ≡ next_place outer opened → WritesNode frames place due n text new_text →
+        node_is_entered n ≡ false → next_due ≡ (place.margin.pretty && due_after due n) →
         IsAt frames outer whole start next_due others opened new_text
-    passes skipped w is_margin is_due =
-        let pre_span = next_pre_span opened in
-        let one_text = skipped_text frames pre_span margin n skipped in
-        let one_faults = skipped_faults frames pre_span margin.pretty n skipped in
-        let texts = rw (rest_text_first frames outer n others opened due) at here.agrees in
-        let faults = rw (rest_faults_first frames outer n others opened) at here.clean in
-        rw (is_due, is_margin) (record {
+    passes {place} is_place w skipped is_due =
+        let one_text = skipped_text frames place.pre_span place.margin n skipped in
+        let one_faults = skipped_faults frames place.pre_span place.margin.pretty n skipped in
+        let texts = rw (rest_text_first frames outer n others opened due, ← is_place) at here.agrees in
+        let faults = rw (rest_faults_first frames outer n others opened, ← is_place) at here.clean in
+        rw is_due (record {
           agrees = rw (w.agrees, append_assoc, append_assoc) (rw one_text at texts);
           clean = rw (one_faults, w.clean) at faults;
           named = λ r. here.named (rest_named_first frames outer n others opened
-              (skipped_named frames pre_span margin.pretty n skipped w.named w.clean) r);
+              (skipped_named frames place.pre_span place.margin.pretty n skipped w.named w.clean) r);
         })
 
-    pub refused : {m : Margin} {pre_span : Bool} (e : ExportFault) →
-        pre_span ≡ next_pre_span opened → m ≡ margin →
-        IsFirst e (first_faults frames pre_span m.pretty n) →
+    pub refused : {place : Place} (e : ExportFault) → place ≡ next_place outer opened →
+        IsFirst e (turn_faults frames place n) →
         IsFirst e (nodes_faults frames false outer.pretty whole)
-    refused e is_pre_span is_margin first =
-        let at = next_pre_span opened in
-        let faults = rw (rest_faults_first frames outer n others opened) at here.clean in
+    refused {place} e is_place first =
+        let faults = rw (rest_faults_first frames outer n others opened, ← is_place) at here.clean in
         subst (IsFirst e) faults (first_of_more e _ _
-        (first_in_node frames at margin.pretty n e (rw (← is_pre_span, ← is_margin) first)))
+        (first_in_node frames place.pre_span place.margin.pretty n e first))
 
   -- the walk enters an element
   enters_here : {inside others : NodesView} {h : Head} {opened : List OpenElementView}
-      {text new_text : List ℕ} →
+      {place : Place} {text new_text : List ℕ} → place ≡ next_place outer opened →
       IsAt frames outer whole start due (node (element_node h inside) others) opened text →
-      is_element_entered h ≡ true →
-      WritesNode frames outer opened due (element_node h inside) text new_text →
-      let m = next_margin outer opened in
-      let next_due = m.pretty && due_after due (element_node h inside) in
+      is_element_entered h inside ≡ true →
+      WritesNode frames place due (element_node h inside) text new_text →
+      let next_due = place.margin.pretty && due_after due (element_node h inside) in
       IsAt frames outer whole start true inside
-      (open_element h (margin_inside m h inside) next_due others ∷ opened) new_text
+      (open_element h (margin_inside place.margin h inside) next_due others ∷ opened) new_text
   unfolding NodeIsNamed
-  enters_here {inside} {others} {h} {opened} {text} {new_text} here entered w =
+  enters_here {inside} {others} {h} {opened} {place} {text} {new_text} is_place here entered w =
       let element = element_node h inside in
-      let m = next_margin outer opened in
-      let pre_span = next_pre_span opened in
-      let one_text = entered_text frames pre_span m h inside entered in
-      let one_faults = entered_faults frames pre_span m.pretty h inside entered in
-      let texts = rw (rest_text_first frames outer element others opened due) at here.agrees in
-      let faults = rw (rest_faults_first frames outer element others opened) at here.clean in
+      let m = place.margin in
+      let one_text = entered_text frames place.pre_span m h inside entered in
+      let one_faults = entered_faults frames place.pre_span m.pretty h inside entered in
+      let texts = rw (rest_text_first frames outer element others opened due, ← is_place) at here.agrees in
+      let faults = rw (rest_faults_first frames outer element others opened, ← is_place) at here.clean in
       record {
-        agrees = begun text (indent_where (next_has_indent opened due element) m.level)
-            (first_text frames pre_span m element)
+        agrees = begun text (indent_where (place.has_indents && has_indent due element) m.level)
+            (first_text frames place.pre_span m element)
             (nodes_text frames h.pre_span true (margin_inside m h inside) inside)
             (end_tag_text h.name)
             (rest_text frames outer (m.pretty && due_after due element) others opened)
@@ -177,19 +155,21 @@ module _ {frames : Frames} {outer : Margin} {whole : NodesView} {start : List �
             (w.named, r.0) r.1);
       }
 
-  pub enters : {left inside others : NodesView} {n : NodeView} {h : Head} {m : Margin}
+  pub enters : {left inside others : NodesView} {n : NodeView} {h : Head} {place : Place}
       {next_due : Bool} {o : OpenElementView} {opened new_opened : List OpenElementView}
       {text new_text : List ℕ} → IsAt frames outer whole start due left opened text →
-      left ≡ node n others → n ≡ element_node h inside → is_element_entered h ≡ true →
-      WritesNode frames outer opened due n text new_text → m ≡ next_margin outer opened →
-      next_due ≡ (m.pretty && due_after due n) →
-      o ≡ open_element h (margin_inside m h inside) next_due others →
+      left ≡ node n others → place ≡ next_place outer opened →
+      WritesNode frames place due n text new_text →
+      (n ≡ element_node h inside) × (is_element_entered h inside ≡ true) →
+      next_due ≡ (place.margin.pretty && due_after due n) →
+      o ≡ open_element h (margin_inside place.margin h inside) next_due others →
       new_opened ≡ o ∷ opened →
       IsAt frames outer whole start true inside new_opened new_text
-  enters {left} {inside} {others} {n} {h} {opened = opened} {text = text} {new_text} stands is
-      element entered w is_margin is_due opening opened_are =
+  enters {left} {inside} {others} {n} {h} {place} {opened = opened} {text = text} {new_text} stands is
+      is_place w entered is_due opening opened_are =
+      let element = entered.0 in
       let first : left ≡ node (element_node h inside) others
       = is ∙ ap (λ x. node x others) element in
-      rw (opened_are, opening, is_due, is_margin, element) (enters_here
-      (subst (λ ns. IsAt frames outer whole start due ns opened text) first stands) entered
-      (subst (λ x. WritesNode frames outer opened due x text new_text) element w))
+      rw (opened_are, opening, is_due, element) (enters_here is_place
+      (subst (λ ns. IsAt frames outer whole start due ns opened text) first stands) entered.1
+      (subst (λ x. WritesNode frames place due x text new_text) element w))

@@ -10,53 +10,67 @@ use Rattle.typst_html_encode.specs.declared.content.ContentKind.{ContentKind}
 use Rattle.typst_html_encode.specs.declared.content.ContentKind.TheVariants.{Raw, EscapableRaw, Nodes}
 use Rattle.typst_html_encode.specs.ExportFaults.{IsFirst, element_faults, attrs_faults, void_faults, raw_content_faults, nodes_raw_faults, node_faults, nodes_faults}
 use Rattle.typst_html_encode.specs.FrameWriters.{Frames}
-use Rattle.typst_html_encode.specs.Layout.{raw_text, due_after, indent_where, margin_inside, is_pretty_inside}
+use Rattle.typst_html_encode.specs.Layout.{raw_text, has_indent, due_after, indent_where, margin_inside, allows_pretty_inside, is_pretty_inside}
 use Rattle.typst_html_encode.specs.ReadingBack.{NodeIsNamed, NodesAreNamed, ElementIsNamed}
 use Rattle.typst_html_encode.specs.Text.{element_text, start_tag_text, end_tag_text, ends_at_once, feed_text, escaped_text, nodes_raw_text, node_text, nodes_text}
-use Rattle.typst_html_encode.specs.WriterWalk.{is_element_entered, first_text, first_faults, FirstIsNamed, node_is_entered, OpenElementView, outside_text, next_pre_span, next_margin, next_has_indent}
+use Rattle.typst_html_encode.specs.WriterWalk.{has_nodes, is_element_entered, first_text, first_faults, FirstIsNamed, node_is_entered, OpenElementView, outside_text, next_place}
 use Rattle.typst_html_encode.specs.Endings.{Adds}
 use Rattle.typst_html_encode.specs.declared.escape.Escaping.TheVariants as escaping
 use Rattle.typst_html_encode.specs.declared.fault.ExportFault.{ExportFault}
 use Rattle.typst_html_encode.specs.declared.layout.Margin.{Margin}
 use Rattle.html_dom_flat.specs.Flat.{nodes_count}
 
+and_false : (b : Bool) → (b && false) ≡ false
+and_false true = refl
+and_false false = refl
+
 -- a node that the walk enters, and one that it does not
 
-entered_is : (once : Bool) (kind : ContentKind) →
-    (not once && by_kind kind false false true) ≡ true → (once ≡ false) × (kind ≡ Nodes)
-entered_is true kind e = cc
-entered_is false Raw e = cc
-entered_is false EscapableRaw e = cc
-entered_is false Nodes e = (refl, refl)
+entered_is : (once : Bool) (kind : ContentKind) (some : Bool) →
+    (not once && by_kind kind false false some) ≡ true →
+    (once ≡ false) × (kind ≡ Nodes) × (some ≡ true)
+entered_is true kind some e = cc
+entered_is false Raw some e = cc
+entered_is false EscapableRaw some e = cc
+entered_is false Nodes some e = (refl, refl, e)
 
 -- what holds of all elements that it does not enter
 when_skipped : (P : Bool → ContentKind → Type 0) → ((kind : ContentKind) → P true kind) →
-    P false Raw → P false EscapableRaw → (once : Bool) (kind : ContentKind) →
-    (not once && by_kind kind false false true) ≡ false → P once kind
-when_skipped P at_once raw escapable true kind e = at_once kind
-when_skipped P at_once raw escapable false Raw e = raw
-when_skipped P at_once raw escapable false EscapableRaw e = escapable
-when_skipped P at_once raw escapable false Nodes e = cc
+    P false Raw → P false EscapableRaw → (some : Bool) → (some ≡ false → P false Nodes) →
+    (once : Bool) (kind : ContentKind) →
+    (not once && by_kind kind false false some) ≡ false → P once kind
+when_skipped P at_once raw escapable some nodes true kind e = at_once kind
+when_skipped P at_once raw escapable some nodes false Raw e = raw
+when_skipped P at_once raw escapable some nodes false EscapableRaw e = escapable
+when_skipped P at_once raw escapable some nodes false Nodes e = nodes e
+
+-- an element without children has no indent before its end tag
+none_inside : (frames : Frames) (margin : Margin) (h : Head) (ns : NodesView) →
+    has_nodes ns ≡ false →
+    nodes_text frames h.pre_span true (margin_inside margin h ns) ns ≡ []
+unfolding nodes_text is_pretty_inside
+none_inside frames margin h none e = rw (and_false (allows_pretty_inside h.name), and_false margin.pretty) refl
+none_inside frames margin h (node n ns) e = cc
 
 pub entered_text : (frames : Frames) (pre_span : Bool) (margin : Margin) (h : Head)
-    (ns : NodesView) → is_element_entered h ≡ true →
+    (ns : NodesView) → is_element_entered h ns ≡ true →
     node_text frames pre_span margin (element_node h ns)
     ≡ first_text frames pre_span margin (element_node h ns)
     ++ (nodes_text frames h.pre_span true (margin_inside margin h ns) ns ++ end_tag_text h.name)
 unfolding node_text
 entered_text frames pre_span margin h ns e =
-    let is = entered_is (ends_at_once h) (content_kind h.name) e in
-    rw (is.0, is.1, append-nil (feed_text h ns))
+    let is = entered_is (ends_at_once h) (content_kind h.name) (has_nodes ns) e in
+    rw (is.0, is.1, is.2, append-nil (feed_text h ns))
     (sym (append_assoc (start_tag_text h) (feed_text h ns) _))
 
 pub entered_faults : (frames : Frames) (pre_span pretty : Bool) (h : Head) (ns : NodesView) →
-    is_element_entered h ≡ true →
+    is_element_entered h ns ≡ true →
     node_faults frames pre_span pretty (element_node h ns)
     ≡ first_faults frames pre_span pretty (element_node h ns)
     ++ nodes_faults frames h.pre_span (pretty && is_pretty_inside h ns) ns
 unfolding node_faults
 entered_faults frames pre_span pretty h ns e =
-    let is = entered_is (ends_at_once h) (content_kind h.name) e in
+    let is = entered_is (ends_at_once h) (content_kind h.name) (has_nodes ns) e in
     rw (is.0, is.1, append-nil) refl
 
 pub skipped_text : (frames : Frames) (pre_span : Bool) (margin : Margin) (n : NodeView) →
@@ -70,12 +84,26 @@ skipped_text frames pre_span margin (element_node h ns) e =
     let escapable = escaped_text escaping.Text (nodes_raw_text ns) in
     let inner = nodes_text frames h.pre_span true (margin_inside margin h ns) ns in
     let end = end_tag_text h.name in
+    let childless = if has_nodes ns then [] else end in
     when_skipped (λ once kind. start_tag_text h
     ++ (if once then [] else (feed_text h ns ++ (by_kind kind raw escapable inner ++ end)))
-    ≡ start_tag_text h
-    ++ (if once then [] else (feed_text h ns ++ by_kind kind (raw ++ end) (escapable ++ end) [])))
-    (λ kind. refl) refl refl (ends_at_once h) (content_kind h.name) e
+    ≡ start_tag_text h ++ (if once then [] else (feed_text h ns
+    ++ by_kind kind (raw ++ end) (escapable ++ end) childless)))
+    (λ kind. refl) refl refl (has_nodes ns)
+    (λ empty. rw (none_inside frames margin h ns empty, empty) refl)
+    (ends_at_once h) (content_kind h.name) e
 skipped_text frames pre_span margin (frame_node f) e = refl
+
+no_faults_inside : (frames : Frames) (pre_span pretty : Bool) (ns : NodesView) →
+    has_nodes ns ≡ false → nodes_faults frames pre_span pretty ns ≡ []
+unfolding nodes_faults
+no_faults_inside frames pre_span pretty none e = refl
+no_faults_inside frames pre_span pretty (node n ns) e = cc
+
+none_is_named : (ns : NodesView) → has_nodes ns ≡ false → NodesAreNamed ns
+unfolding NodesAreNamed
+none_is_named none e = tt
+none_is_named (node n ns) e = cc
 
 pub skipped_faults : (frames : Frames) (pre_span pretty : Bool) (n : NodeView) →
     node_is_entered n ≡ false →
@@ -91,7 +119,10 @@ skipped_faults frames pre_span pretty (element_node h ns) e =
     when_skipped (λ once kind.
     attrs_faults h.span h.attrs ++ (if once then empty else by_kind kind raw escapable inner)
     ≡ attrs_faults h.span h.attrs ++ (if once then empty else by_kind kind raw escapable []))
-    (λ kind. refl) refl refl (ends_at_once h) (content_kind h.name) e
+    (λ kind. refl) refl refl (has_nodes ns)
+    (λ childless. ap (λ fs. attrs_faults h.span h.attrs ++ fs)
+    (no_faults_inside frames h.pre_span (pretty && is_pretty_inside h ns) ns childless))
+    (ends_at_once h) (content_kind h.name) e
 skipped_faults frames pre_span pretty (frame_node f) e = refl
 
 pub skipped_named : (frames : Frames) (pre_span pretty : Bool) (n : NodeView) →
@@ -105,13 +136,14 @@ skipped_named frames pre_span pretty (element_node h ns) e named clean = (
   when_skipped (λ once kind. (if once then void_faults h.span ns
       else by_kind kind (raw_content_faults h ns) (nodes_raw_faults escaping.Text ns) []) ≡ [] →
       NodesAreNamed ns) (λ kind. childless_named h.span ns) (raw_content_named h ns)
-      (texts_named escaping.Text ns) (ends_at_once h) (content_kind h.name) e
+      (texts_named escaping.Text ns) (has_nodes ns) (λ childless _. none_is_named ns childless)
+      (ends_at_once h) (content_kind h.name) e
       (right_empty (attrs_faults h.span h.attrs) _ clean),
 )
 skipped_named frames pre_span pretty (frame_node f) e named clean = tt
 
 first_in_element : (frames : Frames) (pre_span pretty : Bool) (h : Head) (ns : NodesView)
-    (e : ExportFault) (b : Bool) → is_element_entered h ≡ b →
+    (e : ExportFault) (b : Bool) → is_element_entered h ns ≡ b →
     IsFirst e (first_faults frames pre_span pretty (element_node h ns)) →
     IsFirst e (node_faults frames pre_span pretty (element_node h ns))
 first_in_element frames pre_span pretty h ns e true entered is =
@@ -126,7 +158,7 @@ pub first_in_node : (frames : Frames) (pre_span pretty : Bool) (n : NodeView) (e
     IsFirst e (node_faults frames pre_span pretty n)
 unfolding node_faults
 first_in_node frames pre_span pretty (element_node h ns) e is =
-    first_in_element frames pre_span pretty h ns e (is_element_entered h) refl is
+    first_in_element frames pre_span pretty h ns e (is_element_entered h ns) refl is
 first_in_node frames pre_span pretty x e is = is
 
 -- what a walk has left to write: nodes in the innermost open element, and what is after each
@@ -173,11 +205,11 @@ due_if_pretty frames pre_span margin ns due false is =
 
 module _ (frames : Frames) (outer : Margin) (n : NodeView) (ns : NodesView) where
   pub rest_text_first : (os : List OpenElementView) (due : Bool) →
-      let margin = next_margin outer os in
+      let place = next_place outer os in
       rest_text frames outer due (node n ns) os
-      ≡ indent_where (next_has_indent os due n) margin.level
-      ++ (node_text frames (next_pre_span os) margin n
-      ++ rest_text frames outer (margin.pretty && due_after due n) ns os)
+      ≡ indent_where (place.has_indents && has_indent due n) place.margin.level
+      ++ (node_text frames place.pre_span place.margin n
+      ++ rest_text frames outer (place.margin.pretty && due_after due n) ns os)
   unfolding nodes_text
   rest_text_first [] due = refl
   rest_text_first (o ∷ os) due =
@@ -188,8 +220,9 @@ module _ (frames : Frames) (outer : Margin) (n : NodeView) (ns : NodesView) wher
       ) refl
 
   pub rest_faults_first : (os : List OpenElementView) →
+      let place = next_place outer os in
       rest_faults frames outer (node n ns) os
-      ≡ node_faults frames (next_pre_span os) (next_margin outer os).pretty n
+      ≡ node_faults frames place.pre_span place.margin.pretty n
       ++ rest_faults frames outer ns os
   unfolding nodes_faults
   rest_faults_first [] = refl

@@ -1,6 +1,6 @@
 -- The results of calls that may fail with an `ExportFault`: the expected result if there is no
 -- fault, or the first fault; memory may run out before either.
-use Rattle.std.specs.Prelude.{ℕ, List, [], Result, String}
+use Rattle.std.specs.Prelude.{◌≡◌, ℕ, List, [], ◌++◌, Result, String, OnOk, IfOk, IfErr}
 use Rattle.std.specs.declared.alloc.Global.{Global}
 use Rattle.html_names.specs.Endings.{GivesBy, AddsBy}
 use Rattle.html_names.specs.Texts.{text_view}
@@ -14,6 +14,14 @@ Gives = GivesBy IsFirst text_view
 -- the call appends the text
 abbrev pub Adds : Result (Unit {0}) ExportFault → (old new text : List ℕ) → List ExportFault → Type 0
 Adds = AddsBy IsFirst
+
+-- the call appends the text and returns a value of which something holds
+pub record AddsAnd {A : Type 0} (r : Result A ExportFault) (old new text : List ℕ)
+    (faults : List ExportFault) (Holds : A → Type 0) : Type 0 where
+  pub appended : OnOk r (new ≡ old ++ text)
+  pub clean : OnOk r (faults ≡ [])
+  pub fault : IfErr r (λ e. IsFirst e faults)
+  pub returned : IfOk r Holds
 
 -- the call writes nothing
 abbrev pub Passes : Result (Unit {0}) ExportFault → List ExportFault → Type 0

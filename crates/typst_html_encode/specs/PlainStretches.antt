@@ -1,10 +1,11 @@
 -- Stretches of a text that are written as they are, in one piece.
-use Rattle.std.specs.Prelude.{◌≡◌, ℕ, Bool, true, false, not, ◌||◌, ◌&&◌, nat_le, List, [], ◌∷◌, ◌++◌, chars, length, ◌≤◌}
+use Rattle.std.specs.Prelude.{◌≡◌, ℕ, Bool, true, false, not, ◌||◌, ◌&&◌, ◌==◌, if◌then◌else◌, nat_le, nat_lt, bit_and, get_or, List, [], ◌∷◌, ◌++◌, chars, length, ◌≤◌}
 use Rattle.std.specs.Str.{IsUtf8}
 use Rattle.html_names.specs.Characters.{all}
-use Rattle.typst_html_encode.specs.ExportFaults.{is_bad, text_faults}
+use Rattle.typst_html_encode.specs.ExportFaults.{is_bad, is_reference, text_faults}
 use Rattle.typst_html_encode.specs.Text.{stands_as_is, escaped_text}
 use Rattle.typst_html_encode.specs.declared.escape.Escaping.{Escaping}
+use Rattle.typst_html_encode.specs.declared.stretch.TheConstants.{PASSED}
 
 -- visible ASCII and the space, without `"`, `&` and `<`
 unfoldable pub is_common : ℕ → Bool
@@ -14,6 +15,23 @@ is_common c = (nat_le 61 c && nat_le c 126) || (nat_le 39 c && nat_le c 59)
 -- the character can be written, and is written as it is
 abbrev pub is_plain : Escaping → ℕ → Bool
 is_plain e c = stands_as_is e c && not (is_bad e c)
+
+-- a text of that escaping is passed as far as it has such bytes: plain ASCII, bytes after the first
+-- of a character, and first bytes of the characters U+00C0 to U+EFFF
+unfoldable pub is_passed_high : ℕ → Bool
+is_passed_high b = nat_le b 191 || (nat_le 195 b && nat_le b 238)
+
+unfoldable pub is_passed : Escaping → ℕ → Bool
+is_passed e b =
+    not (is_reference e) && (if nat_lt b 128 then is_plain e b else is_passed_high b)
+
+-- the table has the byte, under the number of an escaping
+abbrev pub is_selected : (way : ℕ) → ℕ → Bool
+is_selected way b = not (bit_and (get_or PASSED b 0) way == 0)
+
+-- the number is that of the escaping
+abbrev pub Selects : Escaping → (way : ℕ) → Type 0
+Selects e way = (b : ℕ) → is_selected way b ≡ is_passed e b
 
 -- the first byte is a common character
 abbrev pub begins_common : List ℕ → Bool

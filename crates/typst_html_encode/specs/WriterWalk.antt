@@ -4,16 +4,25 @@ use Rattle.html_dom_tree.specs.Tree.{Head, NodeView, tag_node, text_node, elemen
 use Rattle.typst_html_encode.specs.Content.{content_kind, by_kind}
 use Rattle.typst_html_encode.specs.ExportFaults.{text_faults, frame_faults, attrs_faults, void_faults, raw_content_faults, nodes_raw_faults}
 use Rattle.typst_html_encode.specs.FrameWriters.{Frames}
-use Rattle.typst_html_encode.specs.Layout.{raw_text, frame_text, deeper, has_indent}
+use Rattle.typst_html_encode.specs.Layout.{raw_text, frame_text, indent_where, deeper, has_indent}
 use Rattle.typst_html_encode.specs.ReadingBack.{HeadIsNamed}
 use Rattle.typst_html_encode.specs.Text.{escaping_of, start_tag_text, end_tag_text, ends_at_once, feed_text, escaped_text, nodes_raw_text, node_text}
 use Rattle.typst_html_encode.specs.declared.escape.Escaping.TheVariants as escaping
 use Rattle.typst_html_encode.specs.declared.fault.ExportFault.{ExportFault}
 use Rattle.typst_html_encode.specs.declared.layout.Margin.{Margin}
+use Rattle.typst_html_encode.specs.declared.place.Place.{Place}
 
--- the walk enters an element with that head: its children are written one by one
-abbrev pub is_element_entered : Head → Bool
-is_element_entered h = not (ends_at_once h) && by_kind (content_kind h.name) false false true
+abbrev pub has_nodes : NodesView → Bool
+has_nodes none = false
+has_nodes (node n ns) = true
+
+-- the walk enters an element with that head and those children, and writes them one by one
+abbrev pub is_element_entered : Head → NodesView → Bool
+is_element_entered h ns =
+    not (ends_at_once h) && by_kind (content_kind h.name) false false (has_nodes ns)
+
+abbrev pub node_of : ElementView → NodeView
+node_of e = element_node e.0 e.1
 
 -- the text that the walk writes when it reaches an element: the text before the children if it
 -- enters the element, and otherwise the whole element
@@ -23,7 +32,7 @@ element_first_text margin e =
     ++ by_kind (content_kind e.0.name)
     (raw_text margin e.0 (nodes_raw_text e.1) ++ end_tag_text e.0.name)
     (escaped_text escaping.Text (nodes_raw_text e.1) ++ end_tag_text e.0.name)
-    []))
+    (if has_nodes e.1 then [] else end_tag_text e.0.name)))
 
 -- the faults of that text
 abbrev pub element_first_faults : ElementView → List ExportFault
@@ -59,7 +68,7 @@ FirstIsNamed (frame_node f) = Unit {0}
 abbrev pub node_is_entered : NodeView → Bool
 node_is_entered (tag_node t) = false
 node_is_entered (text_node s span) = false
-node_is_entered (element_node h ns) = is_element_entered h
+node_is_entered (element_node h ns) = is_element_entered h ns
 node_is_entered (frame_node f) = false
 
 -- an element that the walk has entered and not left: the margin of what is inside it, whether an
@@ -86,16 +95,20 @@ outside_text frames margin none = []
 outside_text frames margin (node n ns) =
     node_text frames false margin n ++ outside_text frames margin ns
 
--- how a node in the innermost open element is written: the flag of that element, the margin, and
--- whether an indent stands before the node
-abbrev pub next_pre_span : List OpenElementView → Bool
-next_pre_span [] = false
-next_pre_span (o ∷ os) = o.pre_span
+-- the place of a node in the innermost open element
+abbrev pub next_place : (outer : Margin) → List OpenElementView → Place
+next_place outer [] = record { margin = outer; pre_span = false; has_indents = false }
+next_place outer (o ∷ os) = record {
+  margin = deeper o.margin;
+  pre_span = o.pre_span;
+  has_indents = o.margin.pretty;
+}
 
-abbrev pub next_margin : (outer : Margin) → List OpenElementView → Margin
-next_margin outer [] = outer
-next_margin outer (o ∷ os) = deeper o.margin
+-- what the walk writes when it reaches a node of that place: the indent before the node too
+abbrev pub turn_text : Frames → Place → (due : Bool) → NodeView → List ℕ
+turn_text frames place due n =
+    indent_where (place.has_indents && has_indent due n) place.margin.level
+    ++ first_text frames place.pre_span place.margin n
 
-abbrev pub next_has_indent : List OpenElementView → (due : Bool) → NodeView → Bool
-next_has_indent [] due n = false
-next_has_indent (o ∷ os) due n = o.margin.pretty && has_indent due n
+abbrev pub turn_faults : Frames → Place → NodeView → List ExportFault
+turn_faults frames place n = first_faults frames place.pre_span place.margin.pretty n

@@ -1,6 +1,6 @@
 //! The escaping of texts and values.
 
-ghost use Rattle.std.specs.Prelude.{◌≡◌, ◌<◌, ◌++◌, false, OnOk, IfOk, chars};
+ghost use Rattle.std.specs.Prelude.{◌≡◌, ◌<◌, ◌++◌, ◌∷◌, [], true, false, OnOk, IfOk, IfSome, chars};
 ghost use Rattle.html_names.specs.Characters.{is_text_char};
 ghost use Rattle.typst_html_encode.specs.ExportFaults.{is_bad, is_reference, char_faults, text_faults};
 ghost use Rattle.typst_html_encode.specs.References.{reference_to};
@@ -8,8 +8,8 @@ ghost use Rattle.typst_html_encode.specs.PlainStretches.{is_plain, PassesPlain, 
 ghost use Rattle.typst_html_encode.specs.Text.{stands_as_is, char_text, escaped_text};
 ghost use Rattle.typst_html_encode.specs.Endings.{Adds};
 
-use crate::common::past_common;
 use crate::fault::ExportFault;
+use crate::stretch::past_passed;
 use html_dom_tree::Span;
 use html_names::charsets::{
     is_valid_in_attribute_value, is_valid_in_normal_element_text, is_w3c_text_char,
@@ -140,23 +140,27 @@ fn write_char(
 }
 
 /// Returns the rest of the text from its first character on that cannot be written, or is not
-/// written as it is. Passes many common characters at a time.
+/// written as it is. Passes many bytes at a time.
+#[inline(never)]
 fn past_plain(escaping: Escaping, text: &str) -> &str
     requires { is_reference escaping ≡ false }
     ensures { PassesPlain escaping text.now result.now }
 {
-    let mut rest = past_common(text);
+    let mut rest = past_passed(escaping, text);
     let mut left = rest.chars();
     while let Some(c) = left.next() {
         if !is_plain(escaping, c) {
             return rest;
         }
-        rest = past_common(left.as_str());
+        rest = past_passed(escaping, left.as_str());
         left = rest.chars();
     }
     rest
 }
 
+/// Writes the characters up to the first that cannot be written, or is not written as it is, and
+/// returns the rest of the text from that one on.
+#[inline(always)]
 fn write_plain<'a>(
     out: &mut TextWriter,
     escaping: Escaping,
@@ -167,18 +171,76 @@ fn write_plain<'a>(
     if matches!(escaping, Escaping::Reference) {
         return Ok(text);
     }
-    let Some(first) = text.as_bytes().first() else {
-        return Ok(text);
-    };
-    if *first < 128 && !is_plain_byte(escaping, *first) {
-        return Ok(text);
-    }
     let rest = past_plain(escaping, text);
     out.push_str(&text[..text.len() - rest.len()])?;
     Ok(rest)
 }
 
+/// Returns whether the text begins with an ASCII character that cannot be written, or is not written
+/// as it is.
+fn begins_with_other(escaping: Escaping, text: &str) -> bool {
+    match text.as_bytes().first() {
+        Some(byte) => *byte < 128 && !is_plain_byte(escaping, *byte),
+        None => false,
+    }
+}
+
+/// Does what [`write_plain`] does, but looks at one byte first, since such characters often follow
+/// one another.
+#[inline(always)]
+fn write_next_plain<'a>(
+    out: &mut TextWriter,
+    escaping: Escaping,
+    text: &'a str,
+) -> Result<&'a str, AllocError>
+    ensures { IfOk result (λ rest. WritesUpTo escaping out.old out.new text.now rest.now) }
+{
+    if begins_with_other(escaping, text) {
+        return Ok(text);
+    }
+    write_plain(out, escaping, text)
+}
+
+/// Returns the ASCII character that is the whole text, if it can be written, and is written as it
+/// is.
+#[inline(always)]
+fn lone_plain(escaping: Escaping, text: &str) -> Option<u8>
+    ensures { IfSome result (λ byte.
+        (chars text.now ≡ byte ∷ []) × (is_plain escaping byte ≡ true)) }
+{
+    match text.as_bytes() {
+        [byte] if *byte < 128 && is_plain_byte(escaping, *byte) => Some(*byte),
+        _ => None,
+    }
+}
+
+/// Writes a text. Most texts have no character that is written as a reference, and are written in
+/// one piece.
+#[inline(always)]
 pub(crate) fn write_text(
+    out: &mut TextWriter,
+    escaping: Escaping,
+    text: &str,
+    span: Span,
+) -> Result<(), ExportFault>
+    ensures { Adds result out.old out.new
+        (escaped_text escaping (chars text.now))
+        (text_faults escaping span.0 (chars text.now)) }
+{
+    if let Some(byte) = lone_plain(escaping, text) {
+        out.push(byte as char)?;
+        return Ok(());
+    }
+    let rest = write_plain(out, escaping, text)?;
+    if rest.is_empty() {
+        return Ok(());
+    }
+    write_rest(out, escaping, rest, span)
+}
+
+/// Writes a text, one by one the characters that cannot be written or are not written as they are.
+#[inline(never)]
+fn write_rest(
     out: &mut TextWriter,
     escaping: Escaping,
     text: &str,
@@ -190,11 +252,11 @@ pub(crate) fn write_text(
 {
     let mut rest = text;
     loop {
-        let mut left = write_plain(out, escaping, rest)?.chars();
+        let mut left = rest.chars();
         let Some(c) = left.next() else {
             return Ok(());
         };
         write_char(out, escaping, c, span)?;
-        rest = left.as_str();
+        rest = write_next_plain(out, escaping, left.as_str())?;
     }
 }

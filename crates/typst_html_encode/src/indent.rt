@@ -54,8 +54,22 @@ fn push_spaces(out: &mut TextWriter, level: usize) -> Result<(), AllocError>
 }
 
 /// Appends a line feed and two spaces per level, in one piece up to `MOST_LEVELS` levels.
+#[inline(never)]
 #[tactic(auto, using(crate::proofs::Indents::indent_ascii))]
 pub(crate) fn push_indent(out: &mut TextWriter, level: usize) -> Result<(), AllocError>
+    ensures { OnOk result (out.new ≡ out.old ++ indent level) }
+{
+    if level <= MOST_LEVELS {
+        out.push_ascii(short_indent(level))
+    } else {
+        push_long_indent(out, level)
+    }
+}
+
+/// Appends a line feed and two spaces per level.
+#[inline(never)]
+#[tactic(auto, using(crate::proofs::Indents::indent_ascii))]
+fn push_long_indent(out: &mut TextWriter, level: usize) -> Result<(), AllocError>
     ensures { OnOk result (out.new ≡ out.old ++ indent level) }
 {
     let levels = first_levels(level);

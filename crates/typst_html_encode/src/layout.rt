@@ -10,7 +10,7 @@ ghost use Rattle.html_dom_flat.specs.Siblings.{head_view, node_view, siblings_vi
 ghost use Rattle.typst_html_encode.specs.Layout.{deeper, margin_inside, is_of_lines};
 ghost use Rattle.typst_html_encode.specs.Layout.{allows_pretty_inside, wants_pretty_around};
 ghost use Rattle.typst_html_encode.specs.Layout.{node_wants_pretty, nodes_want_pretty, is_pretty_inside};
-ghost use Rattle.typst_html_encode.specs.Layout.{is_text, has_indent, due_after};
+ghost use Rattle.typst_html_encode.specs.Layout.{is_text};
 ghost use Rattle.typst_html_encode.specs.Layout.{has_other_type, is_by_lines, keeps_lines};
 
 use crate::head::default_display;
@@ -99,7 +99,7 @@ fn shows_as_block(element: &Element) -> bool
 #[tactic(auto,
     unfolding(html_names::specs::Tables::known_tags, crate::specs::Layout::wants_pretty_around),
     using(crate::proofs::Layouts::last_first))]
-fn wants_pretty_around(element: &Element) -> bool
+pub(crate) fn wants_pretty_around(element: &Element) -> bool
     ensures { result ≡ wants_pretty_around (head_view element.now) }
 {
     let tag = element.tag();
@@ -142,30 +142,6 @@ fn is_pretty_inside(element: &Element) -> bool
         (siblings_view element.now.children) }
 {
     nodes_want_pretty(&element.children) && allows_pretty_inside(element)
-}
-
-/// Returns whether an indent stands before the child: one is due, or the child wants lines of its
-/// own.
-pub(crate) fn has_indent(due: bool, child: &Node) -> bool
-    ensures { result ≡ has_indent due (node_view child.now) }
-{
-    match child {
-        Node::Tag(_) => false,
-        Node::Text(_, _) | Node::Frame(_) => due,
-        Node::Element(element) => due || wants_pretty_around(element),
-    }
-}
-
-/// Returns whether an indent is due after the child. None is due in plain text.
-pub(crate) fn due_after(margin: Margin, due: bool, child: &Node) -> bool
-    ensures { result ≡ (margin.pretty && due_after due (node_view child.now)) }
-{
-    margin.pretty
-        && match child {
-            Node::Tag(_) => due,
-            Node::Text(_, _) | Node::Frame(_) => false,
-            Node::Element(element) => wants_pretty_around(element),
-        }
 }
 
 /// Returns whether an attribute `type` has a value other than `text/javascript`.

@@ -37,7 +37,9 @@ pub mod laws;
 mod layout;
 mod open_elements;
 mod options;
+mod place;
 mod raw;
+mod stretch;
 mod tags;
 mod write;
 

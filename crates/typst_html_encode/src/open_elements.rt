@@ -1,13 +1,14 @@
 //! The elements that a walk has entered and not left.
 
 ghost use Rattle.std.specs.Prelude.{◌≡◌, ◌∷◌, [], OnOk, IfOk, IfSome, IfNone};
-ghost use Rattle.html_dom_flat.specs.Siblings.{head_view, node_view, siblings_view};
+ghost use Rattle.html_dom_flat.specs.Siblings.{head_view, siblings_view};
 ghost use Rattle.typst_html_encode.specs.Layout.{margin_inside};
 ghost use Rattle.typst_html_encode.specs.OpenElements.{open_element_view, open_elements_view};
-ghost use Rattle.typst_html_encode.specs.WriterWalk.{open_element, next_pre_span, next_margin, next_has_indent};
+ghost use Rattle.typst_html_encode.specs.WriterWalk.{open_element, next_place};
 
-use crate::layout::{Margin, has_indent};
-use html_dom_flat::{Element, Node, Siblings};
+use crate::layout::Margin;
+use crate::place::Place;
+use html_dom_flat::{Element, Siblings};
 use html_names::HtmlTag;
 use std::alloc::{AllocError, Global};
 
@@ -77,30 +78,22 @@ impl<'a> OpenElements<'a> {
         self.items.pop()
     }
 
-    pub(crate) fn pre_span(&self) -> bool
-        ensures { result ≡ next_pre_span (open_elements_view self.now) }
+    /// Returns the place of the nodes in the innermost of the elements, or that of the nodes in no
+    /// element, which have the margin `outer`.
+    pub(crate) fn place(&self, outer: Margin) -> Result<Place, AllocError>
+        ensures { IfOk result (λ place. place ≡ next_place outer (open_elements_view self.now)) }
     {
         match self.items.last() {
-            None => false,
-            Some(element) => element.pre_span,
-        }
-    }
-
-    pub(crate) fn margin(&self, outer: Margin) -> Result<Margin, AllocError>
-        ensures { IfOk result (λ margin. margin ≡ next_margin outer (open_elements_view self.now)) }
-    {
-        match self.items.last() {
-            None => Ok(outer),
-            Some(element) => Ok(element.margin.deeper()?),
-        }
-    }
-
-    pub(crate) fn has_indent(&self, due: bool, node: &Node) -> bool
-        ensures { result ≡ next_has_indent (open_elements_view self.now) due (node_view node.now) }
-    {
-        match self.items.last() {
-            None => false,
-            Some(element) => element.margin.pretty && has_indent(due, node),
+            None => Ok(Place {
+                margin: outer,
+                pre_span: false,
+                has_indents: false,
+            }),
+            Some(element) => Ok(Place {
+                margin: element.margin.deeper()?,
+                pre_span: element.pre_span,
+                has_indents: element.margin.pretty,
+            }),
         }
     }
 }

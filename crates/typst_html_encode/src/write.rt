@@ -6,12 +6,12 @@ ghost use Rattle.html_dom_flat.specs.FlatTrees.{tree_nodes};
 ghost use Rattle.html_dom_flat.specs.Siblings.{element_view, head_view, node_view, siblings_view};
 ghost use Rattle.typst_html_encode.specs.ExportFaults.{void_faults, frame_faults, nodes_faults};
 ghost use Rattle.typst_html_encode.specs.Layout.{indent_where, frame_text};
-ghost use Rattle.typst_html_encode.specs.OpenElements.{open_element_view, Enters};
+ghost use Rattle.typst_html_encode.specs.OpenElements.{open_element_view, Enters, GoesOn};
 ghost use Rattle.typst_html_encode.specs.ReadingBack.{HeadIsNamed, NodesAreNamed};
 ghost use Rattle.typst_html_encode.specs.Text.{escaping_of, end_tag_text};
-ghost use Rattle.typst_html_encode.specs.WriterWalk.{first_text, first_faults, FirstIsNamed};
-ghost use Rattle.typst_html_encode.specs.WriterWalk.{outside_text, element_first_text, element_first_faults};
-ghost use Rattle.typst_html_encode.specs.Endings.{Adds, Passes};
+ghost use Rattle.typst_html_encode.specs.WriterWalk.{has_nodes, node_of, element_first_text, element_first_faults};
+ghost use Rattle.typst_html_encode.specs.WriterWalk.{turn_text, turn_faults, FirstIsNamed, outside_text};
+ghost use Rattle.typst_html_encode.specs.Endings.{Adds, AddsAnd, Passes};
 
 use crate::content::ContentKind;
 use crate::escape::{Escaping, write_text};
@@ -19,8 +19,9 @@ use crate::fault::ExportFault;
 use crate::frame::{FrameFault, FrameWriter};
 use crate::head::{content_kind, ends_at_once};
 use crate::indent::{push_indent_if, push_lines};
-use crate::layout::{Margin, due_after};
+use crate::layout::Margin;
 use crate::open_elements::{OpenElement, OpenElements};
+use crate::place::Place;
 use crate::raw;
 use crate::tags::{write_end, write_feed, write_start};
 use html_dom_flat::{Element, FlatTree, Node, Siblings};
@@ -43,23 +44,24 @@ pub(crate) fn write_tree<F: FrameWriter>(
 {
     let mut open_elements = OpenElements::new(alloc);
     let mut left = Siblings::of(tree);
+    let mut place = open_elements.place(outer)?;
     let mut due = false;
     loop {
         if let Some((node, others)) = left.split_first() {
-            let margin = open_elements.margin(outer)?;
-            push_indent_if(out, open_elements.has_indent(due, &node), margin.level)?;
-            write_first(alloc, out, &node, open_elements.pre_span(), margin, frames)?;
-            let next_due = due_after(margin, due, &node);
-            if let Some(element) = entered(&node) {
-                open_elements.push(OpenElement::new(&element, margin, next_due, others))?;
+            let turn = write_node(alloc, out, node, place, due, frames)?;
+            if let Some(element) = turn.entered {
+                let open = OpenElement::new(&element, place.margin, turn.due_after, others);
+                open_elements.push(open)?;
+                place = open_elements.place(outer)?;
                 left = element.children;
                 due = true;
             } else {
                 left = others;
-                due = next_due;
+                due = turn.due_after;
             }
         } else if let Some(element) = open_elements.pop() {
             write_close(out, &element)?;
+            place = open_elements.place(outer)?;
             left = element.after;
             due = element.due_after;
         } else {
@@ -76,63 +78,105 @@ fn write_close(out: &mut TextWriter, element: &OpenElement) -> Result<(), AllocE
     write_end(out, element.tag)
 }
 
-/// Returns the node if it is an element that the walk enters.
-fn entered<'a>(node: &Node<'a>) -> Option<Element<'a>>
-    ensures { Enters (node_view node.now) result }
-{
-    let Node::Element(element) = node else {
-        return None;
-    };
-    if ends_at_once(element) || !matches!(content_kind(element), ContentKind::Nodes) {
-        return None;
-    }
-    Some(*element)
+/// What a walk does after a node.
+#[derive(Clone, Copy)]
+struct Turn<'a> {
+    /// The node, if it is an element that the walk enters.
+    entered: Option<Element<'a>>,
+    /// Whether an indent is due after the node.
+    due_after: bool,
 }
 
-/// Writes a node, or the start of an element that the walk enters.
-fn write_first<F: FrameWriter>(
+impl<'a> Turn<'a> {
+    /// Returns the turn past a node that the walk does not enter.
+    fn past(due_after: bool) -> Turn<'a>
+        ensures { result ≡ record { entered = None; due_after = due_after } }
+    {
+        Turn {
+            entered: None,
+            due_after,
+        }
+    }
+}
+
+/// Writes a node, or the start of an element that the walk enters, and the indent before it.
+#[inline(always)]
+fn write_node<'a, F: FrameWriter>(
     alloc: Global,
     out: &mut TextWriter,
-    node: &Node,
-    pre_span: bool,
-    margin: Margin,
+    node: Node<'a>,
+    place: Place,
+    due: bool,
     frames: &F,
-) -> Result<(), ExportFault>
-    ensures writes { Adds result out.old out.new
-        (first_text (F.drawing frames.now) pre_span margin (node_view node.now))
-        (first_faults (F.drawing frames.now) pre_span margin.pretty (node_view node.now)) }
-    ensures named { OnOk result (FirstIsNamed (node_view node.now)) }
+) -> Result<Turn<'a>, ExportFault>
+    ensures writes { let n = node_view node.entry in AddsAnd result out.old out.new
+        (turn_text (F.drawing frames.now) place due n)
+        (turn_faults (F.drawing frames.now) place n)
+        (GoesOn place due n) }
+    ensures named { OnOk result (FirstIsNamed (node_view node.entry)) }
 {
+    let level = place.margin.level;
     match node {
-        Node::Tag(_) => Ok(()),
+        Node::Tag(_) => Ok(Turn::past(place.is_due(due))),
         Node::Text(text, span) => {
-            write_text(out, escaping(pre_span), text.as_str(), *span)?;
-            Ok(())
+            push_indent_if(out, place.has_indent(due), level)?;
+            write_text(out, escaping(place.pre_span), text.as_str(), span)?;
+            Ok(Turn::past(false))
         }
-        Node::Element(element) => write_element(out, element, margin),
-        Node::Frame(frame) => write_frame(alloc, out, frame, margin, frames),
+        Node::Element(element) => {
+            push_indent_if(out, place.has_indent_before(due, &element), level)?;
+            let due_after = place.is_due_after(&element);
+            let entered = write_element(out, &element, place.margin)?;
+            Ok(Turn { entered, due_after })
+        }
+        Node::Frame(frame) => {
+            push_indent_if(out, place.has_indent(due), level)?;
+            write_frame(alloc, out, frame, place.margin, frames)?;
+            Ok(Turn::past(false))
+        }
     }
 }
 
-/// Writes the start of an element that the walk enters, or the whole of any other element.
-fn write_element(out: &mut TextWriter, element: &Element, margin: Margin) -> Result<(), ExportFault>
-    ensures writes { Adds result out.old out.new
+/// Writes the start of an element that the walk enters, or the whole of any other element. Returns
+/// the element if the walk enters it.
+#[inline(always)]
+fn write_element<'a>(
+    out: &mut TextWriter,
+    element: &Element<'a>,
+    margin: Margin,
+) -> Result<Option<Element<'a>>, ExportFault>
+    ensures writes { AddsAnd result out.old out.new
         (element_first_text margin (element_view element.now))
-        (element_first_faults (element_view element.now)) }
+        (element_first_faults (element_view element.now))
+        (Enters (node_of (element_view element.now))) }
     ensures named { OnOk result (HeadIsNamed (head_view element.now)) }
 {
     write_start(out, element)?;
     if ends_at_once(element) {
-        return refuse_children(element);
+        refuse_children(element)?;
+        return Ok(None);
     }
     write_feed(out, element)?;
     match content_kind(element) {
         ContentKind::Raw => raw::write_raw(out, element, margin)?,
         ContentKind::EscapableRaw => raw::write_children(out, Escaping::Text, &element.children)?,
-        ContentKind::Nodes => return Ok(()),
+        ContentKind::Nodes => {
+            if has_nodes(&element.children) {
+                return Ok(Some(*element));
+            }
+        }
     }
     write_end(out, element.tag())?;
-    Ok(())
+    Ok(None)
+}
+
+fn has_nodes(siblings: &Siblings) -> bool
+    ensures { result ≡ has_nodes (siblings_view siblings.now) }
+{
+    match siblings.split_first() {
+        None => false,
+        Some(_) => true,
+    }
 }
 
 fn refuse_children(element: &Element) -> Result<(), ExportFault>

@@ -3,10 +3,10 @@ use denote.Text.{Utf8}
 use denote.Shadow.{shadow}
 use Rattle.typst_html_encode.specs.Text.{escaped_text}
 use Rattle.typst_html_encode.specs.ExportFaults.{text_faults}
-use Rattle.typst_html_encode.proofs.escape.write_text.Given as goal
+use Rattle.typst_html_encode.proofs.escape.write_rest.Given as goal
 
-abbrev pub invariant-loop-left : goal.invariant-loop-left
-invariant-loop-left l =
+abbrev pub invariant-loop-c : goal.invariant-loop-c
+invariant-loop-c l =
     let left = chars l.rest in
     let all = chars l.fn.text in
     record {
@@ -15,5 +15,5 @@ invariant-loop-left l =
       clean : text_faults l.escaping l.span.0 left ≡ text_faults l.escaping l.span.0 all;
     }
 
-abbrev pub decreases-loop-left : goal.decreases-loop-left
-decreases-loop-left l = length l.rest
+abbrev pub decreases-loop-c : goal.decreases-loop-c
+decreases-loop-c l = length l.rest

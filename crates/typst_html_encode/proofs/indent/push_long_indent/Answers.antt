@@ -1,6 +1,6 @@
 use Rattle.std.proofs.lemmas.Result.{on_ok_weaker}
 use Rattle.typst_html_encode.proofs.Indents.{indent_left}
-use Rattle.typst_html_encode.proofs.indent.push_indent.Goals as goal
+use Rattle.typst_html_encode.proofs.indent.push_long_indent.Goals as goal
 
 pub returns : goal.returns
 returns c = on_ok_weaker c.push_spaces.result
