@@ -1,11 +1,11 @@
 //! The builder of a flat tree's list.
 
 ghost use Rattle.std.specs.Prelude.{◌≡◌, true, reverse};
-ghost use Rattle.html_dom_flat.specs.FlatViews.{are_given};
+ghost use Rattle.html_dom_flat.specs.FlatViews.{numbered, are_given};
 
 use crate::flat_node::{FlatElement, FlatNode};
 use crate::moving::{STEP, give_back};
-use crate::numbering::{numbered_attrs, set_past};
+use crate::numbering::{narrow, push_attrs, set_past};
 use html_dom_tree::{HtmlAttrs, HtmlElement, HtmlFrame, HtmlNode, Span, Tag};
 use html_names::{HtmlTag, NameTable};
 use std::alloc::{AllocError, Global};
@@ -15,7 +15,8 @@ use std::alloc::{AllocError, Global};
 pub(crate) struct Builder {
     pub(crate) nodes: Vec<FlatNode>,
     pub(crate) names: NameTable,
-    ghost given: { are_given names nodes.items ≡ true },
+    pub(crate) pairs: Vec<(usize, String)>,
+    ghost given: { are_given (numbered names pairs.items) nodes.items ≡ true },
 }
 
 impl Builder {
@@ -25,7 +26,7 @@ impl Builder {
     ghost use Rattle.html_dom_flat.specs.Flat.{node_count, nodes_count, node_flat, nodes_flat, element_flat};
     ghost use Rattle.html_dom_flat.specs.Flat.{flat_tag, flat_text, flat_frame, flat_element};
     ghost use Rattle.html_dom_flat.specs.FlatViews.{flat_node_view, is_node_given};
-    ghost use Rattle.html_dom_flat.specs.Builders.{builder_view};
+    ghost use Rattle.html_dom_flat.specs.Builders.{builder_numbered, builder_view};
     ghost use Rattle.html_dom_flat.specs.ClosedElements.{closed_at};
     ghost use Rattle.html_dom_flat.specs.Numbering.{AreNumbersOf};
 
@@ -37,34 +38,33 @@ impl Builder {
         Ok(Builder {
             nodes: Vec::with_capacity(alloc, room)?,
             names: NameTable::new(alloc),
+            pairs: Vec::new(alloc),
         })
     }
 
     #[inline(always)]
     fn push(&mut self, node: FlatNode) -> Result<(), AllocError>
-        requires { is_node_given self.old.names node ≡ true }
+        requires { is_node_given (builder_numbered self.old) node ≡ true }
         ensures list { OnOk result (builder_view self.new
-            ≡ builder_view self.old ++ flat_node_view self.old.names node ∷ []) }
+            ≡ builder_view self.old ++ flat_node_view (builder_numbered self.old) node ∷ []) }
         ensures count { OnOk result (vec_len self.new.nodes ≡ vec_len self.old.nodes + 1) }
     {
         self.nodes.push(node)?;
         Ok(())
     }
 
-    fn numbered(
-        &mut self,
-        alloc: Global,
-        tag: HtmlTag,
-        attrs: HtmlAttrs,
-    ) -> Result<(usize, Vec<(usize, String)>), AllocError>
+    fn numbered(&mut self, tag: HtmlTag, attrs: HtmlAttrs) -> Result<(u32, u32, u32), AllocError>
         ensures numbers { IfOk result (λ numbers.
-            AreNumbersOf self.new.names numbers.0 numbers.1.items tag (attrs_view attrs)) }
+            AreNumbersOf (builder_numbered self.new)
+            numbers.0 numbers.1 numbers.2 tag (attrs_view attrs)) }
         ensures list { OnOk result (builder_view self.new ≡ builder_view self.old) }
         ensures count { OnOk result (vec_len self.new.nodes ≡ vec_len self.old.nodes) }
     {
         let number = self.names.insert_tag(tag)?;
-        let pairs = numbered_attrs(alloc, &mut self.names, attrs)?;
-        Ok((number, pairs))
+        let start = self.pairs.len();
+        push_attrs(&mut self.names, &mut self.pairs, attrs)?;
+        let end = self.pairs.len();
+        Ok((narrow(number)?, narrow(start)?, narrow(end)?))
     }
 
     fn close_element(&mut self, index: usize)
@@ -109,11 +109,7 @@ impl Builder {
 
     /// Appends an element that is not closed yet, and returns its children.
     #[inline(never)]
-    fn open_element(
-        &mut self,
-        alloc: Global,
-        element: HtmlElement,
-    ) -> Result<Vec<HtmlNode>, AllocError>
+    fn open_element(&mut self, element: HtmlElement) -> Result<Vec<HtmlNode>, AllocError>
         ensures children { IfOk result (λ children. children ≡ element.children) }
         ensures list { OnOk result (builder_view self.new
             ≡ builder_view self.old ++ flat_element (element_view element).0 0 ∷ []) }
@@ -128,14 +124,15 @@ impl Builder {
             span,
             pre_span,
         } = element;
-        let (tag, attrs) = self.numbered(alloc, tag, attrs)?;
+        let (tag, first_attr, past_attrs) = self.numbered(tag, attrs)?;
         self.push(FlatNode::Element(FlatElement {
             tag,
-            attrs,
+            first_attr,
+            past_attrs,
+            pre_span,
             css,
             parent,
             span,
-            pre_span,
             past: 0,
         }))?;
         Ok(children)
@@ -182,7 +179,7 @@ impl Builder {
             ≡ vec_len self.old.nodes + 1 + nodes_count (element_view element).1) }
     {
         let index = self.nodes.len();
-        let children = self.open_element(alloc, element)?;
+        let children = self.open_element(element)?;
         self.move_nodes(alloc, children)?;
         self.close_element(index);
         Ok(())

@@ -25,18 +25,33 @@ pub fn flat_tree_of(alloc: Global, element: HtmlElement) -> Result<FlatTree, All
     let room = room_for(&element.children).saturating_add(1);
     let mut builder = Builder::with_room(alloc, room)?;
     builder.move_element(alloc, element)?;
-    let Builder { nodes, names } = builder;
-    Ok(FlatTree { nodes, names })
+    let Builder {
+        nodes,
+        names,
+        pairs,
+    } = builder;
+    Ok(FlatTree {
+        nodes,
+        names,
+        pairs,
+    })
 }
 
 /// Frees the memory that a list does not need, if its length is a multiple of 4,096. If this is
 /// called after each `pop`, a list has room for fewer than 4,096 removed nodes, so that nodes that
 /// move to another list do not take memory twice.
-#[inline(never)]
+#[inline(always)]
 pub fn give_back(nodes: &mut Vec<HtmlNode>)
     ensures { nodes.new.items ≡ nodes.old.items }
 {
     if nodes.len() % STEP == 0 {
-        nodes.shrink_to_fit();
+        shrink(nodes);
     }
+}
+
+#[inline(never)]
+fn shrink(nodes: &mut Vec<HtmlNode>)
+    ensures { nodes.new.items ≡ nodes.old.items }
+{
+    nodes.shrink_to_fit();
 }

@@ -2,7 +2,7 @@
 
 ghost use Rattle.std.specs.Prelude.{◌≡◌, ◌+◌, ◌<◌, ◌≤◌, ◌^◌, true, IfOk};
 ghost use Rattle.html_dom_flat.specs.Flat.{nodes_count};
-ghost use Rattle.html_dom_flat.specs.FlatTrees.{tree_nodes};
+ghost use Rattle.html_dom_flat.specs.FlatTrees.{tree_numbered, tree_nodes};
 ghost use Rattle.html_dom_flat.specs.FlatViews.{flat_node_view, is_node_given};
 ghost use Rattle.html_flow_convert.specs.BareSpaces.{bare_spaces, nodes_turns};
 ghost use Rattle.html_flow_convert.specs.Lines.{place_past, next_place};
@@ -11,7 +11,6 @@ ghost use Rattle.html_flow_convert.specs.Looks.{flat_look};
 use crate::line::{Last, push_answer};
 use crate::look::{Look, element_look, text_look};
 use html_dom_flat::{FlatNode, FlatTree};
-use html_names::NameTable;
 use std::alloc::{AllocError, Global};
 
 /// The lone spaces of a list of nodes that may stay bare.
@@ -25,15 +24,16 @@ pub struct Bareness {
     pub turns: usize,
 }
 
-fn flat_look(names: &NameTable, node: &FlatNode) -> Look
-    requires { is_node_given names.now node.now ≡ true }
-    ensures { result ≡ flat_look (flat_node_view names.now node.now) }
+fn flat_look(tree: &FlatTree, node: &FlatNode) -> Look
+    requires { is_node_given (tree_numbered tree.now) node.now ≡ true }
+    ensures { result ≡ flat_look (flat_node_view (tree_numbered tree.now) node.now) }
 {
     match node {
         FlatNode::Tag(_) => Look::Nothing,
         FlatNode::Text(text, _) => text_look(text.as_str()),
         FlatNode::Element(element) => {
-            element_look(names.tag_at(element.tag), &element.css, element.pre_span)
+            let tag = tree.names().tag_at(element.tag as usize);
+            element_look(tag, &element.css, element.pre_span)
         }
         FlatNode::Frame(_) => Look::Visible,
     }
@@ -90,7 +90,6 @@ pub fn bare_spaces(alloc: Global, tree: &FlatTree) -> Result<Bareness, AllocErro
         × (found.turns ≡ nodes_turns (tree_nodes tree.now))) }
     ensures few { IfOk result (λ found. found.turns ≤ nodes_count (tree_nodes tree.now)) }
 {
-    let names = tree.names();
     let nodes = tree.nodes();
     let mut bare = Vec::new(alloc);
     let mut turns = 0;
@@ -98,7 +97,7 @@ pub fn bare_spaces(alloc: Global, tree: &FlatTree) -> Result<Bareness, AllocErro
     let mut place = 0;
     while place < nodes.len() {
         let node = &nodes[place];
-        let look = flat_look(names, node);
+        let look = flat_look(tree, node);
         push_answer(&mut bare, last, look)?;
         last = last.after(look);
         turns += 1;

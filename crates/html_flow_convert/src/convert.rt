@@ -45,6 +45,9 @@ pub enum Whitespace {
     Pre,
 }
 
+/// The number of nodes for which a converted list may have more room than it needs.
+const MOST_SPARE: usize = 2;
+
 /// Returns whether the calls accept this limit on the depth of items: from 1 to 10,000.
 ///
 /// ```
@@ -417,8 +420,19 @@ fn finish_list(
         ≡ list_nodes level Normal (map node_view nodes.items)) }
 {
     let nodes = with_runs(alloc, reused, nodes)?;
-    match level {
-        ConversionLevel::Inline => Ok(nodes),
-        ConversionLevel::Block => with_spaces(alloc, reused, nodes),
+    let nodes = match level {
+        ConversionLevel::Inline => nodes,
+        ConversionLevel::Block => with_spaces(alloc, reused, nodes)?,
+    };
+    Ok(trimmed(nodes))
+}
+
+/// Frees the room that a list does not need, unless it is small.
+fn trimmed(mut nodes: Vec<HtmlNode>) -> Vec<HtmlNode>
+    ensures { result.items ≡ nodes.items }
+{
+    if nodes.capacity().saturating_sub(nodes.len()) > MOST_SPARE {
+        nodes.shrink_to_fit();
     }
+    nodes
 }

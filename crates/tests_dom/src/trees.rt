@@ -61,6 +61,14 @@ fn flat_trees(rt: HostRuntime) -> TestResult {
     for (place, past) in [(0, 4), (1, 3), (3, 4)] {
         assert_number(element(&rt, &tree, place).past, past)?;
     }
+    for (place, count) in [(0, 2), (1, 1), (3, 0)] {
+        assert_number(tree.attrs(element(&rt, &tree, place)).len(), count)?;
+    }
+    let class = tree
+        .attrs(element(&rt, &tree, 1))
+        .first()
+        .expect(&rt, "an attribute");
+    assert!(rt; class.0 == 0 && class.1.as_str() == "c");
     assert_number(tree.names().tags(), 3)?;
     assert_number(tree.names().attrs(), 2)?;
     assert!(rt; tree.to_nodes()? == nodes);

@@ -109,7 +109,8 @@ pub fn html_of<F: FrameWriter>(
     tree_html(alloc, &tree, options, frames)
 }
 
-fn tree_html<F: FrameWriter>(
+/// Returns the HTML text of a flat tree with one root, as [`html_in_bundle`] writes that root.
+pub fn tree_html<F: FrameWriter>(
     alloc: Global,
     tree: &FlatTree,
     options: &HtmlOptions,

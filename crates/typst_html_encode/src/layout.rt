@@ -86,8 +86,8 @@ fn shows_as_block(element: &Element) -> bool
     ensures { result ≡
         is_text (codes "block") (first (head_view element.now).attrs (codes "display")) }
 {
-    let names = element.children.names;
-    for (number, value) in &element.flat.attrs {
+    let names = element.names();
+    for (number, value) in element.attrs() {
         if *names.attr_at(*number) == attr::mathml::display {
             return is_text(value, "block");
         }
@@ -149,8 +149,8 @@ fn is_pretty_inside(element: &Element) -> bool
 fn has_other_type(element: &Element) -> bool
     ensures { result ≡ has_other_type (head_view element.now).attrs }
 {
-    let names = element.children.names;
-    for (number, value) in &element.flat.attrs {
+    let names = element.names();
+    for (number, value) in element.attrs() {
         if *names.attr_at(*number) == attr::type_ && !is_text(value, "text/javascript") {
             return true;
         }

@@ -45,7 +45,7 @@ mod write;
 
 pub use closing::is_tag_end;
 pub use common::past_common;
-pub use export::{html_in_bundle, html_of};
+pub use export::{html_in_bundle, html_of, tree_html};
 pub use fault::ExportFault;
 pub use fragment::html_fragment;
 pub use frame::{FrameFault, FrameWriter};

@@ -18,6 +18,7 @@ use html_names::text_writer::TextWriter;
 use std::alloc::{AllocError, Global};
 
 pub(crate) fn write_raw(
+    alloc: Global,
     out: &mut TextWriter,
     element: &Element,
     margin: Margin,
@@ -27,19 +28,18 @@ pub(crate) fn write_raw(
         (raw_text margin (head_view element.now) (nodes_raw_text children))
         (raw_content_faults (head_view element.now) children) }
 {
-    let text = checked_text(element)?;
+    let text = checked_text(alloc, element)?;
     write_joined(out, element, text.as_str(), margin)?;
     Ok(())
 }
 
 /// Returns the text of a raw element, or the first fault in it, such as the closing tag of the
 /// element.
-fn checked_text(element: &Element) -> Result<String, ExportFault>
+fn checked_text(alloc: Global, element: &Element) -> Result<String, ExportFault>
     ensures { let children = siblings_view element.now.children in
         Gives result (nodes_raw_text children)
         (raw_content_faults (head_view element.now) children) }
 {
-    let alloc = *element.flat.attrs.allocator();
     let text = joined(alloc, &element.children)?;
     if holds_closing(element.tag().resolve(), text.as_str()) {
         return Err(ExportFault::RawClosing {

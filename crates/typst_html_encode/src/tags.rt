@@ -41,8 +41,8 @@ fn write_attrs(out: &mut TextWriter, element: &Element) -> Result<(), ExportFaul
         Adds result out.old out.new (attrs_text head.attrs) (attrs_faults head.span head.attrs) }
     ensures named { OnOk result (PairsAreNamed (head_view element.now).attrs) }
 {
-    let names = element.children.names;
-    for (number, value) in &element.flat.attrs {
+    let names = element.names();
+    for (number, value) in element.attrs() {
         out.push(' ')?;
         out.push_str(names.attr_at(*number).resolve())?;
         write_value(out, value, element.flat.span)?;

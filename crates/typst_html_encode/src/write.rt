@@ -126,7 +126,7 @@ fn write_node<'a, F: FrameWriter>(
         Node::Element(element) => {
             push_indent_if(out, place.has_indent_before(due, &element), level)?;
             let due_after = place.is_due_after(&element);
-            let entered = write_element(out, &element, place.margin)?;
+            let entered = write_element(alloc, out, &element, place.margin)?;
             Ok(Turn { entered, due_after })
         }
         Node::Frame(frame) => {
@@ -141,6 +141,7 @@ fn write_node<'a, F: FrameWriter>(
 /// the element if the walk enters it.
 #[inline(always)]
 fn write_element<'a>(
+    alloc: Global,
     out: &mut TextWriter,
     element: &Element<'a>,
     margin: Margin,
@@ -158,7 +159,7 @@ fn write_element<'a>(
     }
     write_feed(out, element)?;
     match content_kind(element) {
-        ContentKind::Raw => raw::write_raw(out, element, margin)?,
+        ContentKind::Raw => raw::write_raw(alloc, out, element, margin)?,
         ContentKind::EscapableRaw => raw::write_children(out, Escaping::Text, &element.children)?,
         ContentKind::Nodes => {
             if has_nodes(&element.children) {
