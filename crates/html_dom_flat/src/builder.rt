@@ -1,18 +1,21 @@
-//! The builder of a flat tree's list.
+//! The builder of a flat tree.
 
 ghost use Rattle.std.specs.Prelude.{◌≡◌, true, reverse};
 ghost use Rattle.html_dom_flat.specs.FlatViews.{numbered, are_given};
 
 use crate::flat_node::{FlatElement, FlatNode};
+use crate::flat_tree::FlatTree;
 use crate::moving::{STEP, give_back};
 use crate::numbering::{narrow, push_attrs, set_past};
 use html_dom_tree::{HtmlAttrs, HtmlElement, HtmlFrame, HtmlNode, Span, Tag};
 use html_names::{HtmlTag, NameTable};
+use html_values_css::Properties;
 use std::alloc::{AllocError, Global};
 
-/// The list of a flat tree while it is built. An element that is not closed yet has the `past` 0.
+/// A builder of a flat tree, for the crates that build on this one. It holds the tree's list so far.
+/// An element that is not closed yet has the `past` 0.
 #[derive(Drop)]
-pub(crate) struct Builder {
+pub struct Builder {
     pub(crate) nodes: Vec<FlatNode>,
     pub(crate) names: NameTable,
     pub(crate) pairs: Vec<(usize, String)>,
@@ -26,19 +29,33 @@ impl Builder {
     ghost use Rattle.html_dom_flat.specs.Flat.{node_count, nodes_count, node_flat, nodes_flat, element_flat};
     ghost use Rattle.html_dom_flat.specs.Flat.{flat_tag, flat_text, flat_frame, flat_element};
     ghost use Rattle.html_dom_flat.specs.FlatViews.{flat_node_view, is_node_given};
-    ghost use Rattle.html_dom_flat.specs.Builders.{builder_numbered, builder_view};
+    ghost use Rattle.html_dom_flat.specs.Flat.{IsSpelling, spelled_nodes};
+    ghost use Rattle.html_dom_flat.specs.FlatTrees.{tree_nodes};
+    ghost use Rattle.html_dom_flat.specs.Builders.{builder_numbered, builder_view, plain_head};
     ghost use Rattle.html_dom_flat.specs.ClosedElements.{closed_at};
     ghost use Rattle.html_dom_flat.specs.Numbering.{AreNumbersOf};
 
-    /// Creates an empty list with room for that many nodes.
-    pub(crate) fn with_room(alloc: Global, room: usize) -> Result<Builder, AllocError>
+    /// Creates an empty list.
+    pub fn new(alloc: Global) -> Builder
+        ensures list { builder_view result ≡ [] }
+        ensures count { vec_len result.nodes ≡ 0 }
+    {
+        Builder {
+            nodes: Vec::new(alloc),
+            names: NameTable::new(alloc),
+            pairs: Vec::new(alloc),
+        }
+    }
+
+    /// Creates an empty list with that room.
+    pub(crate) fn with_room(alloc: Global, room: Room) -> Result<Builder, AllocError>
         ensures list { IfOk result (λ builder. builder_view builder ≡ []) }
         ensures count { IfOk result (λ builder. vec_len builder.nodes ≡ 0) }
     {
         Ok(Builder {
-            nodes: Vec::with_capacity(alloc, room)?,
+            nodes: Vec::with_capacity(alloc, room.nodes)?,
             names: NameTable::new(alloc),
-            pairs: Vec::new(alloc),
+            pairs: Vec::with_capacity(alloc, room.attrs)?,
         })
     }
 
@@ -67,7 +84,8 @@ impl Builder {
         Ok((narrow(number)?, narrow(start)?, narrow(end)?))
     }
 
-    fn close_element(&mut self, index: usize)
+    /// Closes the element with that index: all nodes after it are inside it.
+    pub fn close_element(&mut self, index: usize)
         requires { index < vec_len self.old.nodes }
         ensures list { builder_view self.new
             ≡ closed_at index (vec_len self.old.nodes) (builder_view self.old) }
@@ -80,8 +98,9 @@ impl Builder {
     // Moving a tree recurses at each level. Code that moves one node alone stays out of the
     // recursion, so that a level takes less stack.
 
+    /// Appends a tag.
     #[inline(never)]
-    fn push_tag(&mut self, tag: Tag) -> Result<(), AllocError>
+    pub fn push_tag(&mut self, tag: Tag) -> Result<(), AllocError>
         ensures list { OnOk result (builder_view self.new
             ≡ builder_view self.old ++ flat_tag (tag_view tag) ∷ []) }
         ensures count { OnOk result (vec_len self.new.nodes ≡ vec_len self.old.nodes + 1) }
@@ -89,8 +108,9 @@ impl Builder {
         self.push(FlatNode::Tag(tag))
     }
 
+    /// Appends a text.
     #[inline(never)]
-    fn push_text(&mut self, text: String, span: Span) -> Result<(), AllocError>
+    pub fn push_text(&mut self, text: String, span: Span) -> Result<(), AllocError>
         ensures list { OnOk result (builder_view self.new
             ≡ builder_view self.old ++ flat_text (text_view text) span.0 ∷ []) }
         ensures count { OnOk result (vec_len self.new.nodes ≡ vec_len self.old.nodes + 1) }
@@ -105,6 +125,52 @@ impl Builder {
         ensures count { OnOk result (vec_len self.new.nodes ≡ vec_len self.old.nodes + 1) }
     {
         self.push(FlatNode::Frame(Box::new(alloc, frame)?))
+    }
+
+    /// Appends an element without css and parent that is not closed yet, and returns its index.
+    #[inline(never)]
+    pub fn start_element(
+        &mut self,
+        alloc: Global,
+        tag: HtmlTag,
+        attrs: HtmlAttrs,
+        span: Span,
+    ) -> Result<usize, AllocError>
+        ensures index { IfOk result (λ index. index ≡ vec_len self.old.nodes) }
+        ensures list { OnOk result (builder_view self.new ≡ builder_view self.old
+            ++ flat_element (plain_head tag (attrs_view attrs) span.0) 0 ∷ []) }
+        ensures count { OnOk result (vec_len self.new.nodes ≡ vec_len self.old.nodes + 1) }
+    {
+        let index = self.nodes.len();
+        let (tag, first_attr, past_attrs) = self.numbered(tag, attrs)?;
+        self.push(FlatNode::Element(FlatElement {
+            tag,
+            first_attr,
+            past_attrs,
+            pre_span: false,
+            css: Properties::new(alloc),
+            parent: None,
+            span,
+            past: 0,
+        }))?;
+        Ok(index)
+    }
+
+    /// Consumes the builder and returns the tree, in which each element must be closed.
+    pub fn into_tree(self) -> FlatTree
+        requires { IsSpelling 0 (builder_view self) }
+        ensures { tree_nodes result ≡ spelled_nodes 0 (builder_view self) }
+    {
+        let Builder {
+            nodes,
+            names,
+            pairs,
+        } = self;
+        FlatTree {
+            nodes,
+            names,
+            pairs,
+        }
     }
 
     /// Appends an element that is not closed yet, and returns its children.
@@ -244,16 +310,43 @@ impl Builder {
     }
 }
 
-/// Returns the number of these nodes and all below them. It is only a hint for a list's capacity.
-#[cycle(counting)]
-pub(crate) fn room_for(nodes: &[HtmlNode]) -> usize {
-    let mut room = nodes.len();
-    for node in nodes {
-        if let HtmlNode::Element(element) = node {
-            room = room.saturating_add(room_for(&element.children));
+/// The number of nodes and of attributes that a list has room for. It is only a hint for capacities.
+#[derive(Clone, Copy)]
+pub(crate) struct Room {
+    nodes: usize,
+    attrs: usize,
+}
+
+impl Room {
+    /// Returns the room for these nodes and all below them.
+    pub(crate) fn for_nodes(nodes: &[HtmlNode]) -> Room {
+        let mut room = Room { nodes: 0, attrs: 0 };
+        room.add_nodes(nodes);
+        room
+    }
+
+    /// Returns the room for an element and all nodes below it.
+    pub(crate) fn for_element(element: &HtmlElement) -> Room {
+        let mut room = Room { nodes: 1, attrs: 0 };
+        room.add_inside(element);
+        room
+    }
+
+    #[cycle(counting)]
+    fn add_nodes(&mut self, nodes: &[HtmlNode]) {
+        self.nodes = self.nodes.saturating_add(nodes.len());
+        for node in nodes {
+            if let HtmlNode::Element(element) = node {
+                self.add_inside(element);
+            }
         }
     }
-    room
+
+    #[cycle(counting)]
+    fn add_inside(&mut self, element: &HtmlElement) {
+        self.attrs = self.attrs.saturating_add(element.attrs.0.len());
+        self.add_nodes(&element.children);
+    }
 }
 
 #[inline(never)]

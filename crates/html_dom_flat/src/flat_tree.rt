@@ -4,7 +4,7 @@ ghost use Rattle.html_dom_flat.specs.Flat.{IsSpelling};
 ghost use Rattle.html_dom_flat.specs.FlatViews.{numbered, flat_nodes_view, are_given};
 ghost use Rattle.html_dom_flat.specs.Sets.{flat_node_is_set};
 
-use crate::builder::{Builder, room_for};
+use crate::builder::{Builder, Room};
 use crate::flat_node::{FlatElement, FlatNode};
 use crate::moving::flat_tree_of;
 use crate::spelling::spelled_nodes;
@@ -57,18 +57,9 @@ impl FlatTree {
     pub fn from_nodes(alloc: Global, nodes: &[HtmlNode]) -> Result<FlatTree, AllocError>
         ensures { IfOk result (λ tree. tree_nodes tree ≡ nodes_view nodes.now) }
     {
-        let mut builder = Builder::with_room(alloc, room_for(nodes))?;
+        let mut builder = Builder::with_room(alloc, Room::for_nodes(nodes))?;
         builder.push_nodes(alloc, nodes)?;
-        let Builder {
-            nodes,
-            names,
-            pairs,
-        } = builder;
-        Ok(FlatTree {
-            nodes,
-            names,
-            pairs,
-        })
+        Ok(builder.into_tree())
     }
 
     /// Creates the list of this element and all nodes below it, which are copied. Fails only if an

@@ -12,6 +12,7 @@ mod numbering;
 mod siblings;
 mod spelling;
 
+pub use builder::Builder;
 pub use flat_node::{FlatElement, FlatNode};
 pub use flat_tree::FlatTree;
 pub use moving::{flat_tree_of, give_back};

@@ -1,7 +1,9 @@
 //! A run of the program on any reader and writer.
 
 ghost use Rattle.std.specs.Prelude.{◌≡◌, None, IfSome, IfOk};
-ghost use Rattle.html_dom_tree.specs.Views.{text_view, element_view};
+ghost use Rattle.html_dom_flat.specs.FlatTrees.{tree_nodes};
+ghost use Rattle.html_dom_tree.specs.Tree.{ElementView, element_node, node, none};
+ghost use Rattle.html_dom_tree.specs.Views.{text_view};
 ghost use Rattle.html_flow_convert.specs.Views.{items_view};
 ghost use Rattle.serde_json.specs.View.{view};
 ghost use Rattle.html_tool_run.specs.Answers.{Answer, EndsAs, EndsOn, RunsAs, RunsOn, answer_to, bad_input, input_answer};
@@ -20,13 +22,14 @@ use crate::status::Status;
 use crate::whole::write_whole;
 use crate::words::{Task, wanted_task};
 use html_dom_document::DocumentInfo;
-use html_dom_tree::{HtmlElement, Span};
+use html_dom_flat::FlatTree;
+use html_dom_tree::Span;
 use html_flow_convert::Pair;
-use html_tool_spell::{Fault, InputPlace, into_element, into_items, parse};
+use html_tool_spell::{Fault, InputPlace, into_items, parse, tree_in};
 use serde_json::Value;
 use std::alloc::{AllocError, Global};
 use std::io::{Read, Write};
-use typst_html_encode::{ExportFault, HtmlOptions, html_of};
+use typst_html_encode::{ExportFault, HtmlOptions, tree_html};
 use typst_html_export::export_items;
 
 /// The largest number of bytes that one read asks for.
@@ -120,13 +123,13 @@ pub(crate) fn fault_of(fault: &ExportFault) -> Fault
     }
 }
 
-#[tactic(auto, using(crate::proofs::FirstFaults::first_faults))]
-fn element_text(alloc: Global, element: HtmlElement, pretty: bool) -> Result<String, Fault>
-    ensures { Gives text_view result (tree_text pretty (element_view element))
-        (tree_refusals pretty (element_view element)) }
+fn tree_text(alloc: Global, tree: &FlatTree, pretty: bool) -> Result<String, Fault>
+    ensures { (root : ElementView) →
+        tree_nodes tree.now ≡ node (element_node root.0 root.1) none →
+        Gives text_view result (tree_text pretty root) (tree_refusals pretty root) }
 {
     let options = HtmlOptions { pretty };
-    match html_of(alloc, element, &options, &()) {
+    match tree_html(alloc, tree, &options, &()) {
         Ok(text) => Ok(text),
         Err(fault) => Err(fault_of(&fault)),
     }
@@ -148,8 +151,8 @@ fn items_text(alloc: Global, items: Vec<Pair>, pretty: bool) -> Result<String, F
 fn spelled_tree(alloc: Global, value: Value, pretty: bool) -> Result<String, Fault>
     ensures { GivesAnswer result (answer_to (tree_answer pretty) (spelled_element (view value))) }
 {
-    let element = into_element(alloc, value)?;
-    element_text(alloc, element, pretty)
+    let tree = tree_in(alloc, value)?;
+    tree_text(alloc, &tree, pretty)
 }
 
 fn spelled_doc(alloc: Global, value: Value, pretty: bool) -> Result<String, Fault>

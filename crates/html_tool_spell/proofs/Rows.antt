@@ -31,7 +31,7 @@ abbrev pub joined : {A B : Type 0} → (add : A → B → B) → List A → B �
 joined add [] others = others
 joined add (x ∷ xs) others = add x (joined add xs others)
 
-joined-more : {X A B : Type 0} (add : A → B → B) (see : X → A) (xs : List X) (x : X) (others : B)
+pub joined-more : {X A B : Type 0} (add : A → B → B) (see : X → A) (xs : List X) (x : X) (others : B)
     → joined add (map see xs) (add (see x) others) ≡ joined add (map see (xs ++ x ∷ [])) others
 joined-more add see [] x others = refl
 joined-more add see (y ∷ xs) x others = ap (add (see y)) (joined-more add see xs x others)

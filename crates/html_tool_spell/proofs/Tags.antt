@@ -1,5 +1,5 @@
 -- Tags, in which no names are refused.
-use Rattle.std.proofs.Common.{◌≡◌, ℕ, List, [], true, false, Bool, Option, Some, None, Ok, Err, Result, refl, sym, ap, ◌∙◌, subst, if◌then◌else◌}
+use Rattle.std.proofs.Common.{◌≡◌, ℕ, List, [], true, false, Bool, Option, Some, None, Ok, Err, refl, sym, ap, ◌∙◌, subst, if◌then◌else◌}
 use Rattle.html_dom_tree.specs.Tree.{TagView, tag_node}
 use Rattle.html_flow_convert.specs.Items.{tag_item}
 use Rattle.html_flow_places.specs.NamedLocations.{location_in}

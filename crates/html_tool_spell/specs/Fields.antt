@@ -9,7 +9,7 @@ use Rattle.html_flow_places.specs.NamedLocations.{location_in}
 use Rattle.html_tool_spell.specs.LeftForms.{Left, mapped, and_then, from_part}
 use Rattle.html_tool_spell.specs.Marks.{Mark, are_there}
 use Rattle.html_tool_spell.specs.declared.input_forms.Forms.{Forms}
-use Rattle.html_tool_spell.specs.declared.input_forms.Forms.TheVariants.{Program, Document}
+use Rattle.html_tool_spell.specs.declared.input_forms.Forms.TheVariants.{Document}
 
 -- the characters of a text
 abbrev pub text_at : Data → Option (List ℕ)

@@ -1,17 +1,20 @@
 -- The outcomes of calls that read a part of a JSON value. Before a name was refused, a call makes
 -- what the part spells; after that, it only checks that the part spells something. In both cases it
 -- may fail where the part leaves the form.
-use Rattle.std.specs.Prelude.{◌≡◌, ◌≢◌, ℕ, ◌+◌, true, false, List, [], ◌∷◌, ◌++◌, Option, Some, None, Result, Ok, MatchResult, String, Vec, vec_len, vec_capacity}
+use Rattle.std.specs.Prelude.{◌≡◌, ◌≢◌, ℕ, ◌+◌, true, false, List, [], ◌∷◌, ◌++◌, Option, Some, None, Result, Ok, MatchResult, String, Vec}
 use Rattle.std.specs.declared.alloc.Global.{Global}
 use Rattle.serde_json.specs.Data.{Data}
 use Rattle.serde_json.specs.View.{view}
 use Rattle.serde_json.specs.declared.value.Value.{Value}
+use Rattle.html_dom_flat.specs.Builders.{builder_view, built_count}
+use Rattle.html_dom_flat.specs.Flat.{node_count, nodes_count, node_flat, nodes_flat}
+use Rattle.html_dom_flat.specs.declared.builder.Builder.{Builder}
 use Rattle.html_names.specs.NameTables.{with_name}
 use Rattle.html_names.specs.Names.{attr_fault}
 use Rattle.html_names.specs.declared.fault.NameFault.{NameFault}
 use Rattle.html_names.specs.declared.html_attr.HtmlAttr.{HtmlAttr}
 use Rattle.html_dom_tree.specs.Tree.{TextPair, NodeView, NodesView}
-use Rattle.html_dom_tree.specs.Views.{pair_view, attrs_view, node_view, nodes_view}
+use Rattle.html_dom_tree.specs.Views.{pair_view, attrs_view, nodes_view}
 use Rattle.html_dom_tree.specs.declared.attrs.HtmlAttrs.{HtmlAttrs}
 use Rattle.html_dom_tree.specs.declared.introspection.Location.{Location}
 use Rattle.html_dom_tree.specs.declared.node.HtmlNode.{HtmlNode}
@@ -90,24 +93,33 @@ abbrev pub Reads : {A B : Type 0} → (view : A → B) → (refusals : B → Lis
 Reads view refusals r wanted before after =
     MatchResult r (λ a. IsRead refusals (view a) wanted before after) (IsWrong wanted)
 
-abbrev pub ReadsNode : Result HtmlNode Fault → Left (NodeView × Mark) → (before after : Reader)
-    → Type 0
-ReadsNode = Reads node_view name_refusals
+-- a node was read and appended to a flat tree
+pub record IsAdded (wanted : Left (NodeView × Mark)) (old new : Builder) (before after : Reader)
+    : Type 0 where
+  pub made : NodeView
+  pub list : builder_view new ≡ builder_view old ++ node_flat (built_count old) made
+  pub count : built_count new ≡ built_count old + node_count made
+  pub read : IsRead name_refusals made wanted before after
 
--- a node was read and appended to others, and the capacity is the same
-pub record IsAdded (wanted : Left (NodeView × Mark)) (old new : Vec HtmlNode Global)
-    (before after : Reader) : Type 0 where
-  pub made : HtmlNode
-  pub added : new.items ≡ old.items ++ made ∷ []
-  pub count : vec_len new ≡ vec_len old + 1
-  pub room : vec_capacity new ≡ vec_capacity old
-  pub read : IsRead name_refusals (node_view made) wanted before after
-
--- a part was read as a node and appended to others, or it leaves the form
-abbrev pub AddsNode : Result (Unit {0}) Fault → Left (NodeView × Mark)
-    → (old new : Vec HtmlNode Global) → (before after : Reader) → Type 0
+-- a part was read as a node and appended to a flat tree, or it leaves the form
+abbrev pub AddsNode : Result (Unit {0}) Fault → Left (NodeView × Mark) → (old new : Builder)
+    → (before after : Reader) → Type 0
 AddsNode r wanted old new before after =
     MatchResult r (λ _. IsAdded wanted old new before after) (IsWrong wanted)
+
+-- nodes were read and appended to a flat tree
+pub record AreAdded (wanted : Left (NodesView × Mark)) (old new : Builder) (before after : Reader)
+    : Type 0 where
+  pub made : NodesView
+  pub list : builder_view new ≡ builder_view old ++ nodes_flat (built_count old) made
+  pub count : built_count new ≡ built_count old + nodes_count made
+  pub read : IsRead all_name_refusals made wanted before after
+
+-- a part was read as nodes and appended to a flat tree, or it leaves the form
+abbrev pub AddsNodes : Result (Unit {0}) Fault → Left (NodesView × Mark) → (old new : Builder)
+    → (before after : Reader) → Type 0
+AddsNodes r wanted old new before after =
+    MatchResult r (λ _. AreAdded wanted old new before after) (IsWrong wanted)
 
 abbrev pub ReadsNodes : Result (Vec HtmlNode Global) Fault → Left (NodesView × Mark)
     → (before after : Reader) → Type 0

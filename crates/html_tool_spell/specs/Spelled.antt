@@ -4,7 +4,7 @@
 -- The spans are the numbers of these lists, counted from 1 in the order of their opening brackets.
 -- A value that spells no tree leaves the form at the number of the last list that is opened, or at
 -- 0 before the first. A list that is none of these counts as opened, but nothing in it is read.
-use Rattle.std.specs.Prelude.{ℕ, List, [], false, None, Ok, Err}
+use Rattle.std.specs.Prelude.{◌≡◌, ℕ, Bool, true, false, List, [], None, Ok, Err}
 use Rattle.serde_json.specs.Data.{Data, array, Items, no_items, item}
 use Rattle.html_dom_tree.specs.Tree.{TextPair, Head, NodeView, tag_node, text_node, element_node, frame_node, NodesView, none, node, ElementView}
 use Rattle.html_tool_spell.specs.Fields.{text_at, pairs_at, text_form, plain_start_form, end_form, leaf, numbered_leaf, element_from, row_from}
@@ -69,6 +69,15 @@ element_of (element_node h kids, m) = Ok (h, kids)
 element_of (tag_node t, m) = Err 1
 element_of (text_node s span, m) = Err 1
 element_of (frame_node b, m) = Err 1
+
+-- whether the first of the nodes is an element
+abbrev pub begins_with_element : NodesView → Bool
+begins_with_element (node (element_node h kids) ns) = true
+begins_with_element ns = false
+
+-- the element is the first of the nodes
+abbrev pub IsFirstElement : NodesView → ElementView → Type 0
+IsFirstElement ns e = (others : NodesView) × (ns ≡ node (element_node e.0 e.1) others)
 
 -- the element that a value spells
 abbrev pub spelled_element : Data → Left ElementView

@@ -2,7 +2,9 @@
 use Rattle.std.specs.Prelude.{◌≡◌, List, [], Result, Ok, IsOkAnd, MatchResult, Vec}
 use Rattle.std.specs.declared.alloc.Global.{Global}
 use Rattle.serde_json.specs.View.{view}
-use Rattle.html_dom_tree.specs.Tree.{ElementView}
+use Rattle.html_dom_flat.specs.FlatTrees.{tree_nodes}
+use Rattle.html_dom_flat.specs.declared.flat_tree.FlatTree.{FlatTree}
+use Rattle.html_dom_tree.specs.Tree.{element_node, none, node, ElementView}
 use Rattle.html_dom_tree.specs.Views.{element_view, nodes_view}
 use Rattle.html_dom_tree.specs.declared.node.HtmlElement.{HtmlElement}
 use Rattle.html_dom_document.specs.Views.{info_view}
@@ -35,6 +37,17 @@ GivesSpelled view refusals r wanted =
 
 abbrev pub GivesElement : Result HtmlElement Fault → Left ElementView → Type 0
 GivesElement = GivesSpelled element_view element_refusals
+
+-- the flat tree is that of the element that the value spells, and no name in it is refused
+pub record IsTreeOf (wanted : Left ElementView) (tree : FlatTree) : Type 0 where
+  pub root : ElementView
+  pub spelled : wanted ≡ Ok root
+  pub nodes : tree_nodes tree ≡ node (element_node root.0 root.1) none
+  pub clean : element_refusals root ≡ []
+
+-- the flat tree of the element was made, or the fault is as defined above
+abbrev pub GivesTree : Result FlatTree Fault → Left ElementView → Type 0
+GivesTree r wanted = MatchResult r (IsTreeOf wanted) (IsSpellingFault element_refusals wanted)
 
 abbrev pub GivesItems : Result (Vec Pair Global) Fault → Left ItemsView → Type 0
 GivesItems = GivesSpelled (λ pairs. items_view pairs.items) items_refusals

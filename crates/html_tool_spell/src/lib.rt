@@ -24,4 +24,4 @@ pub use documents::{SpelledDocument, document_in};
 pub use fault::{Fault, InputPlace};
 pub use items::{document_items_in, into_items, items_in};
 pub use json::parse;
-pub use nodes::{element_in, into_element};
+pub use nodes::{element_in, tree_in};

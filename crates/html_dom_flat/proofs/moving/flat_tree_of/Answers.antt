@@ -6,14 +6,14 @@ use Rattle.html_dom_flat.specs.Builders.{builder_view}
 use Rattle.html_dom_flat.proofs.Flats.{element_list, list_spells, list_spelled}
 use Rattle.html_dom_flat.proofs.moving.flat_tree_of.Goals as goal
 
-pub invariant_of-result : goal.invariant_of-result
-invariant_of-result c =
+pub into_tree-requires : goal.into_tree-requires
+into_tree-requires c =
     let e = element_view c.args.element in
     let ns = node (element_node e.0 e.1) none in
     let list : builder_view c.move_element.new.self ≡ nodes_flat 0 ns
     = c.in_ok-move_element.ensures.list
     ∙ rw (c.in_ok-builder.ensures.list, c.in_ok-builder.ensures.count) (sym (element_list 0 e)) in
-    record { given = c.move_element.new.self.given; spells = list_spells _ ns list }
+    list_spells _ ns list
 
 pub returns : goal.returns
 returns c =
@@ -22,4 +22,4 @@ returns c =
     let list : builder_view c.move_element.new.self ≡ nodes_flat 0 ns
     = c.in_ok-move_element.ensures.list
     ∙ rw (c.in_ok-builder.ensures.list, c.in_ok-builder.ensures.count) (sym (element_list 0 e)) in
-    list_spelled _ ns list
+    c.into_tree.ensures ∙ list_spelled _ ns list

@@ -1,4 +1,4 @@
-use Rattle.std.proofs.Common.{◌≡◌, ℕ, false, get_or, chars, length, map, refl, sym, ap, ◌∙◌, subst, rules, arith}
+use Rattle.std.proofs.Common.{◌≡◌, false, get_or, chars, length, map, refl, sym, ap, ◌∙◌, subst, rules, arith}
 use Rattle.std.proofs.lemmas.List.{nil_from_length}
 use Rattle.std.proofs.lemmas.Result.{err_from_is_err_and}
 use Rattle.std.specs.Vec.Iter.{into_iter_items, into_iter_len}
@@ -10,13 +10,13 @@ use Rattle.html_flow_convert.specs.Views as flow
 use Rattle.html_tool_spell.proofs.ItemForms.{element_form-four, element_form-five, body_form-two, role_form-three, item_view-Element, elem_view-made, item_view-Block, item_view-Box, pair_view-made, pair_view-role}
 use Rattle.html_tool_spell.proofs.KindForms.{part_form-kind}
 use Rattle.html_tool_spell.proofs.ItemRows.{items_row, joined-items, own_first, block_same, box_same}
-use Rattle.html_tool_spell.proofs.Readings.{wrong_by, reads_from, read_mapped, read_element}
+use Rattle.html_tool_spell.proofs.Readings.{reads_from, read_mapped, read_element}
 use Rattle.html_tool_spell.proofs.Rows.{none_read, one_read, all_read, wrong_one}
 use Rattle.html_tool_spell.specs.Fields.{pairs_at}
 use Rattle.html_tool_spell.specs.Marks.{Mark}
 use Rattle.html_tool_spell.specs.NameRefusals.{item_refusals, items_refusals}
 use Rattle.html_tool_spell.specs.Reading.{ReadsPart, mark, part_refusals}
-use Rattle.html_tool_spell.specs.SpelledItems.{element_made, is_role, part_form, spelled_part, list_at, spelled_list}
+use Rattle.html_tool_spell.specs.SpelledItems.{element_made, is_role, part_form, list_at, spelled_list}
 use Rattle.html_tool_spell.proofs.items.+spell.Goals as goal
 
 pub pair_of-returns : goal.pair_of-returns

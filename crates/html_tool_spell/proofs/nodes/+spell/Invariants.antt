@@ -1,11 +1,9 @@
-use Rattle.std.proofs.Common.{◌≡◌, ◌+◌, ◌*◌, ◌≤◌, length, vec_len, vec_capacity}
+use Rattle.std.proofs.Common.{◌≡◌, ◌+◌, ◌*◌, length}
 use Rattle.std.specs.Vec.Iter.{into_iter_items, into_iter_len}
 use Rattle.serde_json.proofs.value.Value.TheLaws.{the_size}
 use Rattle.serde_json.specs.declared.value.Value as Value
 use Rattle.serde_json.specs.View.{view}
-use Rattle.html_dom_tree.specs.Views.{node_view}
-use Rattle.html_tool_spell.proofs.NodeRows.{nodes_row}
-use Rattle.html_tool_spell.proofs.Rows.{IsPartRead}
+use Rattle.html_tool_spell.proofs.NodeRows.{ArePartAdded}
 use Rattle.html_tool_spell.specs.Reading.{mark}
 use Rattle.html_tool_spell.specs.Spelled.{list_at}
 use Rattle.html_tool_spell.proofs.nodes.+spell.Given as goal
@@ -27,15 +25,14 @@ decreases-push_element l = 5 * the_size (Value.Array l.list) + 1
 abbrev pub decreases-push_element_with : goal.decreases-push_element_with
 decreases-push_element_with l = 5 * the_size l.list + 5
 
-abbrev pub decreases-list_of : goal.decreases-list_of
-decreases-list_of l = 5 * the_size l.value
+abbrev pub decreases-push_nodes : goal.decreases-push_nodes
+decreases-push_nodes l = 5 * the_size l.value
 
-abbrev pub invariant-list_of-loop-value : goal.invariant-list_of-loop-value
-invariant-list_of-loop-value l =
+abbrev pub invariant-push_nodes-loop-value : goal.invariant-push_nodes-loop-value
+invariant-push_nodes-loop-value l =
     let left = into_iter_items l.value-iterator in
     record {
-      read : IsPartRead nodes_row node_view (list_at (view l.fn.value) (mark l.fn.reader)) left
-          l.nodes.items l.fn.reader l.reader;
+      added : ArePartAdded (list_at (view l.fn.value) (mark l.fn.reader)) left l.fn.builder
+          l.builder l.fn.reader l.reader;
       long : into_iter_len l.value-iterator ≡ length left;
-      room : vec_len l.nodes + into_iter_len l.value-iterator ≤ vec_capacity l.nodes;
     }

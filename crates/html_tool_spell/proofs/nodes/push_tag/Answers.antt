@@ -2,8 +2,7 @@ use Rattle.std.proofs.Common.{option_map}
 use Rattle.std.proofs.lemmas.Result.{err_from_is_err_and}
 use Rattle.html_dom_tree.specs.FrameViews.{tag_view}
 use Rattle.html_dom_tree.specs.Tree.{tag_node}
-use Rattle.html_dom_tree.specs.declared.node.HtmlNode as HtmlNode
-use Rattle.html_dom_tree.proofs.Basics.{node_view-Tag}
+use Rattle.html_dom_flat.specs.Flat.{node_count, node_flat}
 use Rattle.html_tool_spell.proofs.Tags.{node_tag_read, tag_wrong}
 use Rattle.html_tool_spell.specs.Reading.{mark}
 use Rattle.html_tool_spell.proofs.nodes.push_tag.Goals as goal
@@ -16,13 +15,12 @@ returns-in_err-tag c =
     c.in_err-tag.field-0.0 c.in_err-tag.ensures)
 
 pub returns : goal.returns
+unfolding node_flat node_count
 returns c = record {
-  made = HtmlNode.Tag c.in_ok-tag.tag;
-  added = c.push_reserved.ensures.items;
-  count = c.push_reserved.ensures.len;
-  room = c.push_reserved.ensures.capacity;
+  made = tag_node (tag_view c.in_ok-tag.tag);
+  list = c.in_ok-push_tag.ensures.list;
+  count = c.in_ok-push_tag.ensures.count;
   read =
-      rw node_view-Tag
-      (node_tag_read (tag_view c.in_ok-tag.tag) (option_map tag_view c.args.tag)
-      (mark c.args.reader.now) c.args.reader.now c.numbered.new.self c.in_ok-tag.ensures);
+      node_tag_read (tag_view c.in_ok-tag.tag) (option_map tag_view c.args.tag)
+      (mark c.args.reader.now) c.args.reader.now c.numbered.new.self c.in_ok-tag.ensures;
 }

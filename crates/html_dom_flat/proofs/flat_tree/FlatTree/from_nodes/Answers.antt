@@ -5,13 +5,13 @@ use Rattle.html_dom_flat.specs.Builders.{builder_view}
 use Rattle.html_dom_flat.proofs.Flats.{list_spells, list_spelled}
 use Rattle.html_dom_flat.proofs.flat_tree.FlatTree.from_nodes.Goals as goal
 
-pub invariant_of-result : goal.invariant_of-result
-invariant_of-result c =
+pub into_tree-requires : goal.into_tree-requires
+into_tree-requires c =
     let ns = nodes_view c.args.nodes.now in
     let list : builder_view c.push_nodes.new.self ≡ nodes_flat 0 ns
     = c.in_ok-push_nodes.ensures.list
     ∙ rw (c.in_ok-builder.ensures.list, c.in_ok-builder.ensures.count) refl in
-    record { given = c.push_nodes.new.self.given; spells = list_spells _ ns list }
+    list_spells _ ns list
 
 pub returns : goal.returns
 returns c =
@@ -19,4 +19,4 @@ returns c =
     let list : builder_view c.push_nodes.new.self ≡ nodes_flat 0 ns
     = c.in_ok-push_nodes.ensures.list
     ∙ rw (c.in_ok-builder.ensures.list, c.in_ok-builder.ensures.count) refl in
-    list_spelled _ ns list
+    c.into_tree.ensures ∙ list_spelled _ ns list
