@@ -3,6 +3,7 @@ ghost use Rattle.html_dom_tree.specs.Views.{text_view, pair_view, attrs_view};
 ghost use Rattle.html_dom_tree.specs.Attributes.{first, has_name, place, union, with_set};
 
 use crate::text::same_text;
+use html_names::room::push_compact;
 use html_names::{HtmlAttr, Refused};
 use std::alloc::{AllocError, AllocFailed, Global};
 use std::hash::{Hash, Hasher};
@@ -28,17 +29,15 @@ impl HtmlAttrs {
         HtmlAttrs(Vec::new(alloc))
     }
 
-    /// Appends a pair. If an allocation fails, the list is unchanged and the error holds the pair.
+    /// Appends a pair; an empty list takes room for one. If an allocation fails, the list is
+    /// unchanged and the error holds the pair.
     pub fn push(&mut self, attr: HtmlAttr, value: String) -> Result<(), Refused<(HtmlAttr, String)>>
         ensures ok { OnOk result
             (attrs_view self.new ≡ attrs_view self.old ++ (attr, text_view value) ∷ []) }
         ensures kept { OnErr result (attrs_view self.new ≡ attrs_view self.old) }
         ensures back { IfErr result (λ refused. refused.back ≡ (attr, value)) }
     {
-        match self.0.push((attr, value)) {
-            Ok(()) => Ok(()),
-            Err(AllocFailed { value }) => Err(Refused { back: value }),
-        }
+        push_compact(&mut self.0, (attr, value))
     }
 
     /// Prepends a pair. If an allocation fails, the list is unchanged and the error holds the pair.

@@ -8,10 +8,11 @@ use crate::frame::{HtmlFrame, same_html_frame};
 use crate::introspection::{Location, Tag, same_tag};
 use crate::span::Span;
 use crate::text::same_text;
+use html_names::room::push_compact;
 use html_names::{HtmlAttr, HtmlTag, Refused};
 use html_values_css::Properties;
 use html_values_css::laws::equal_properties;
-use std::alloc::{AllocError, AllocFailed, Global};
+use std::alloc::{AllocError, Global};
 
 /// A node of the tree. Two nodes are equal if all their fields are.
 #[derive(Debug, Drop)]
@@ -144,7 +145,8 @@ impl HtmlElement {
         self
     }
 
-    /// Appends a child. If an allocation fails, the error holds both.
+    /// Appends a child; an element without children takes room for one. If an allocation fails,
+    /// the error holds both.
     ///
     /// ```
     /// use html_dom::{HtmlElement, HtmlNode, Span};
@@ -164,10 +166,10 @@ impl HtmlElement {
         ensures back { IfErr result (λ refused. (element_view refused.back.0 ≡ element_view self)
             × (refused.back.1 ≡ child)) }
     {
-        match self.children.push(child) {
+        match push_compact(&mut self.children, child) {
             Ok(()) => Ok(self),
-            Err(AllocFailed { value }) => Err(Refused {
-                back: (self, value),
+            Err(refused) => Err(Refused {
+                back: (self, refused.back),
             }),
         }
     }

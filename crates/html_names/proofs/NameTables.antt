@@ -190,16 +190,16 @@ last_below names after name number counted added =
 -- is not
 module _ (part : List (List ℕ) → NamesView) (names : List (List ℕ)) (text : List ℕ)
     (number : ℕ) where
-  pub finds : Some number ≡ number_where names text →
-      Numbers (Ok number) names names text (part names) (part names) (part (with_name names text))
+  pub finds : {E : Type 0} → Some number ≡ number_where names text →
+      Numbers {E = E} (Ok number) names names text (part names) (part names) (part (with_name names text))
   finds there =
       let grown = found_where names text number there in
       record { number = grown.0; below = grown.1; names = rw grown.2 refl; absent = tt; kept = tt }
 
-  pub adds : (now : List (List ℕ)) (held : List ℕ) → now ≡ names → held ≡ text →
+  pub adds : {E : Type 0} → (now : List (List ℕ)) (held : List ℕ) → now ≡ names → held ≡ text →
       (after : List (List ℕ)) (table : NamesView) → table ≡ part after →
       after ≡ now ++ held ∷ [] → number ≡ length now → stands_in names text ≡ false →
-      Numbers (Ok number) names after text (part names) table (part (with_name names text))
+      Numbers {E = E} (Ok number) names after text (part names) table (part (with_name names text))
   adds now held is named after table grown added counted new =
       record {
         number = rw (number_next names text new, counted, is) refl;

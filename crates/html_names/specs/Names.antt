@@ -23,9 +23,12 @@ spelled_name [] = []
 spelled_name (c ∷ []) = if c == 95 then [] else c ∷ []
 spelled_name (c ∷ d ∷ cs) = (if c == 95 then 45 else c) ∷ spelled_name (d ∷ cs)
 
--- whether each name is the one that its identifier spells
-abbrev pub are_spelled : List (Bor (List ℕ) × List ℕ) → Bool
-are_spelled = list_all (λ c. bytes_eq c.1 (spelled_name c.0.now))
+-- whether these are exactly the listed names, in order, each beside an identifier that spells it
+abbrev pub are_spelled : List (Bor (List ℕ) × List ℕ) → List (List ℕ) → Bool
+are_spelled [] [] = true
+are_spelled (c ∷ cs) (n ∷ ns) =
+    bytes_eq c.1 n && bytes_eq n (spelled_name c.0.now) && are_spelled cs ns
+are_spelled _ _ = false
 
 -- whether the text is in the list
 unfoldable pub stands_in : List (List ℕ) → List ℕ → Bool

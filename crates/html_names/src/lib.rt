@@ -27,6 +27,7 @@ mod name;
 mod name_table;
 pub mod property;
 mod refused;
+pub mod room;
 mod table;
 pub mod text_writer;
 

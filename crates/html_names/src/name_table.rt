@@ -1,4 +1,4 @@
-ghost use Rattle.std.specs.Prelude.{◌≡◌, ◌<◌, ◌∷◌, ◌++◌, [], length, false, chars, OnOk, OnErr};
+ghost use Rattle.std.specs.Prelude.{◌≡◌, ◌<◌, ◌∷◌, ◌++◌, [], length, false, chars, OnOk, OnErr, IfErr};
 ghost use Rattle.html_names.specs.Names.{stands_in};
 ghost use Rattle.html_names.specs.Characters.{is_tag_char, is_attr_char};
 ghost use Rattle.html_names.specs.Held.{held_text, IsHeld};
@@ -14,6 +14,7 @@ use crate::html_tag::HtmlTag;
 use crate::kind;
 use crate::name::Name;
 use crate::property::Display;
+use crate::refused::Refused;
 use std::alloc::{AllocError, Global};
 use std::fmt;
 use std::marker::Model;
@@ -93,14 +94,15 @@ impl NameTable {
         if let Some(number) = self.number_of_tag(tag) {
             return Ok(number);
         }
-        self.add_tag(tag.try_clone()?)
+        Ok(self.add_tag(tag.try_clone()?)?)
     }
 
     /// Consumes a tag and returns its number, as `tag` does. Moves a tag without a number into the
-    /// table instead of copying it.
-    pub fn insert_tag(&mut self, tag: HtmlTag) -> Result<usize, AllocError>
-        ensures { Numbers result self.old.tags self.new.tags tag self.old self.new
+    /// table instead of copying it. If an allocation fails, the error holds the tag.
+    pub fn insert_tag(&mut self, tag: HtmlTag) -> Result<usize, Refused<HtmlTag>>
+        ensures number { Numbers result self.old.tags self.new.tags tag self.old self.new
             (with_tag self.old tag) }
+        ensures back { IfErr result (λ refused. refused.back ≡ tag) }
     {
         if let Some(number) = self.number_of_tag(&tag) {
             return Ok(number);
@@ -133,16 +135,23 @@ impl NameTable {
         self.tag_numbers.own.rest_number(text)
     }
 
-    fn add_tag(&mut self, tag: HtmlTag) -> Result<usize, AllocError>
+    fn add_tag(&mut self, tag: HtmlTag) -> Result<usize, Refused<HtmlTag>>
         requires { stands_in self.old.tags tag ≡ false }
-        ensures { Numbers result self.old.tags self.new.tags tag self.old self.new
+        ensures number { Numbers result self.old.tags self.new.tags tag self.old self.new
             (with_tag self.old tag) }
+        ensures back { IfErr result (λ refused. refused.back ≡ tag) }
     {
         let number = self.kept_tags.len();
-        self.kept_tags.reserve(1)?;
-        number_tag(&mut self.tag_numbers, &self.kept_tags, &tag.name)?;
-        self.kept_tags.push_reserved(tag);
-        Ok(number)
+        if self.kept_tags.reserve(1).is_err() {
+            return Err(Refused { back: tag });
+        }
+        match number_tag(&mut self.tag_numbers, &self.kept_tags, &tag.name) {
+            Ok(()) => {
+                self.kept_tags.push_reserved(tag);
+                Ok(number)
+            }
+            Err(AllocError) => Err(Refused { back: tag }),
+        }
     }
 
     /// Returns the number of an attribute: its own if it has one, otherwise the next.
@@ -159,14 +168,16 @@ impl NameTable {
         if let Some(number) = self.number_of_attr(attr) {
             return Ok(number);
         }
-        self.add_attr(attr.try_clone()?)
+        Ok(self.add_attr(attr.try_clone()?)?)
     }
 
     /// Consumes an attribute and returns its number, as `attr` does. Moves an attribute without a
-    /// number into the table instead of copying it.
-    pub fn insert_attr(&mut self, attr: HtmlAttr) -> Result<usize, AllocError>
-        ensures { Numbers result self.old.attrs self.new.attrs attr self.old self.new
+    /// number into the table instead of copying it. If an allocation fails, the error holds the
+    /// attribute.
+    pub fn insert_attr(&mut self, attr: HtmlAttr) -> Result<usize, Refused<HtmlAttr>>
+        ensures number { Numbers result self.old.attrs self.new.attrs attr self.old self.new
             (with_attr self.old attr) }
+        ensures back { IfErr result (λ refused. refused.back ≡ attr) }
     {
         if let Some(number) = self.number_of_attr(&attr) {
             return Ok(number);
@@ -199,16 +210,23 @@ impl NameTable {
         self.attr_numbers.own.rest_number(text)
     }
 
-    fn add_attr(&mut self, attr: HtmlAttr) -> Result<usize, AllocError>
+    fn add_attr(&mut self, attr: HtmlAttr) -> Result<usize, Refused<HtmlAttr>>
         requires { stands_in self.old.attrs attr ≡ false }
-        ensures { Numbers result self.old.attrs self.new.attrs attr self.old self.new
+        ensures number { Numbers result self.old.attrs self.new.attrs attr self.old self.new
             (with_attr self.old attr) }
+        ensures back { IfErr result (λ refused. refused.back ≡ attr) }
     {
         let number = self.kept_attrs.len();
-        self.kept_attrs.reserve(1)?;
-        number_attr(&mut self.attr_numbers, &self.kept_attrs, &attr.name)?;
-        self.kept_attrs.push_reserved(attr);
-        Ok(number)
+        if self.kept_attrs.reserve(1).is_err() {
+            return Err(Refused { back: attr });
+        }
+        match number_attr(&mut self.attr_numbers, &self.kept_attrs, &attr.name) {
+            Ok(()) => {
+                self.kept_attrs.push_reserved(attr);
+                Ok(number)
+            }
+            Err(AllocError) => Err(Refused { back: attr }),
+        }
     }
 
     /// Returns how many tags have a number. No two of these tags are equal.

@@ -2,8 +2,8 @@ use Rattle.std.proofs.Common.{[], ◌∷◌, ◌++◌, refl, ap, ◌∙◌, rule
 use Rattle.html_names.proofs.NameTables.{adds}
 use Rattle.html_names.proofs.name_table.NameTable.add_tag.Goals as goal
 
-pub returns : goal.returns
-returns c =
+pub returns-in-Ok-clause-number : goal.returns-in-Ok-clause-number
+returns-in-Ok-clause-number c =
     adds (λ names. record { tags = names; attrs = c.args.self.now.attrs }) _ _ _ _ _
     (ap (λ t. t.tags) c.self.view_is) refl _ _
     (ap (λ t. record { tags = c.push_reserved.new.self.items; attrs = t.attrs }) c.self.view_is)
