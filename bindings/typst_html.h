@@ -257,8 +257,8 @@ struct typst_html_reply typst_html_unused(uint32_t limit, const uint8_t *input, 
 
 /*
  * Writes as JSON what is wrong in a page: the links to fragments of the page itself that lead
- * nowhere, the ids that an earlier element has too, and the nodes that a browser would not leave
- * where they are if the tree of the page were written, each with its place.
+ * nowhere, the ids that an earlier element has too, and the nodes that would make a browser build
+ * another tree if the tree of the page were written, each with its place.
  *     {"dead_fragments":[{"fragment":t,"keeps":n,"path":[n,..],"offset":n,"line":n,"column":n},..],
  *      "repeated_ids":[{"id":t,"keeps":n,"path":[n,..],"offset":n,"line":n,"column":n},..],
  *      "misnested":[{"rule":t,"why":t,"keeps":n,"path":[n,..],"offset":n,"line":n,"column":n},..]}

@@ -31,7 +31,7 @@ error that has the list of these links, and the text.
 links lead nowhere (1, the first at 2) (DeadLink(span=2, destination=7, path=('items', 1)),)
 
 `check` reports what is wrong in a page, written here or elsewhere: links within it that lead nowhere, repeated ids, and
-nodes that browsers would move. `links` lists the ids and the links of a page, to check links between pages.
+nodes that make browsers build another tree. `links` lists the ids and the links of a page, to check links between pages.
 
 Any number of threads may make calls, and these run at the same time.
 """
@@ -809,7 +809,7 @@ def _reported_by(call: str, page: bytes | str, limit: int, where: str) -> dict[s
 
 def check(page: bytes | str, *, limit: int = 50) -> Findings:
     """Returns what is wrong in a page: links to fragments of the page itself that lead nowhere, ids that an earlier element
-    has, and nodes that a browser would not leave where they are if the tree of the page were written.
+    has, and nodes that would make a browser build another tree if the tree of the page were written.
 
     Reads any page, as a browser without scripting does: what may be left out is implied, and errors are recovered from.
     But if a browser would move nodes or make them a second time, the page is `Refused`. So is a page with an element that

@@ -61,7 +61,7 @@ class RepeatedId:
 
 @dataclass(frozen=True)
 class Misnested:
-    """A node of a page that a browser would not leave where it is if the tree of the page were written. The browser's
+    """A node that would make a browser build another tree if the tree of the page were written. The browser's
     parser closes elements where others begin, moves what has no place in a table, and more.
 
     >>> check("<p><table></table>").misnested[0].why  # without a document type a table stays in a p

@@ -1,6 +1,6 @@
 //! The tree of an HTML document: elements, texts, frames and tags, the document around them, the
-//! positions of its located elements, the anchors of links, the nodes that browsers would not leave
-//! in place, and the tree as one list.
+//! positions of its located elements, the anchors of links, the nodes that make browsers build
+//! another tree, and the tree as one list.
 //!
 //! Re-exports the public names of its parts `html_dom_tree`, `html_dom_document`, `html_dom_link`,
 //! `html_dom_findings`, `html_dom_nest` and `html_dom_flat` that users need.

@@ -1,4 +1,4 @@
-//! The nodes of a tree that a browser would not leave where they are.
+//! The nodes that make a browser build another tree of the written text.
 
 ghost use Rattle.std.specs.Prelude.{◌≡◌, IfOk};
 ghost use Rattle.html_dom_tree.specs.Views.{element_view};
@@ -10,9 +10,10 @@ use crate::walk::walk_tree;
 use html_dom_tree::HtmlElement;
 use std::alloc::{AllocError, Global};
 
-/// Returns the nodes of a tree that a browser would not leave where they are, in document order,
+/// Returns the nodes that make a browser build another tree of the written text, in document order,
 /// each with the first rule that it breaks: parsers close elements where others begin, move what
-/// has no place in a table, and more (HTML Standard 13.2, with scripting disabled). If there are
+/// has no place in a table, and more (HTML Standard 13.2, with scripting disabled). What moves with
+/// such a node is not reported: of `<p>a<div>b</div>c</p>` the `div` is, and `c` isn't. If there are
 /// none, a browser should make the same tree from the written text, with texts joined.
 ///
 /// Judges the root as that of a page, an `html` with a `head` and a `body`, and a frame as an

@@ -1,4 +1,4 @@
-//! The nodes of a tree that a browser would not leave where they are: its parser closes elements
+//! The nodes that make a browser build another tree of the written text: its parser closes elements
 //! where others begin, moves what has no place in a table, and more (HTML Standard 13.2).
 #![tactic(auto)]
 

@@ -1,4 +1,4 @@
-//! Dead links, repeated ids, and nodes that browsers would not leave where they are.
+//! Dead links, repeated ids, and misnested nodes.
 
 use crate::documents::{document_of, linked_of, separate};
 use crate::pages::root_of;

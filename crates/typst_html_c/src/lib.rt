@@ -221,7 +221,7 @@ pub fn typst_html_unused(alloc: Global, limit: u32, input: &[u8], output: &mut [
 }
 
 /// Reads a page and reports in JSON which links to fragments of the page lead nowhere, which ids an
-/// earlier element has too, and which nodes a browser would not leave where they are if the tree of
+/// earlier element has too, and which nodes would make a browser build another tree if the tree of
 /// the page were written ([`misnested`](html_dom_nest::misnested)), each with its place. Writes the
 /// report into the buffer, if it fits:
 ///

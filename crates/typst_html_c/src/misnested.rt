@@ -1,4 +1,4 @@
-//! The misnested nodes of a page, which a browser would not leave where they are, as JSON.
+//! The misnested nodes of a page, which would make a browser build another tree, as JSON.
 
 ghost use Rattle.std.specs.Prelude.{◌≡◌, ◌++◌, chars, string_bytes, OnOk};
 ghost use Rattle.serde_json.specs.Written.{compact_text};
