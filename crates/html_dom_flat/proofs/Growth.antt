@@ -5,7 +5,6 @@ use Rattle.std.proofs.lemmas.List.{map-append, length-append, take-append-le, dr
 use Rattle.std.proofs.Math.Seq.{take-length, drop-append_seam}
 use Rattle.std.proofs.lemmas.List.Folds.{list_all-append}
 use Rattle.std.specs.List.{list_all}
-use Rattle.std.specs.declared.alloc.AllocError.{AllocError}
 use Rattle.std.specs.declared.alloc.Global.{Global}
 use Rattle.html_names.specs.Texts.{text_view, TextPair}
 use Rattle.html_names.specs.NameTables.{NamesView, Numbers, name_at, with_name, with_tag, with_attr}
@@ -52,7 +51,8 @@ grows_on old mid new first second =
     }
 
 pub grows_tag :
-    (result : Result ℕ AllocError) (old new : NamesView) (tag : List ℕ) (pairs : List FlatPair) →
+    {E : Type 0} (result : Result ℕ E) (old new : NamesView) (tag : List ℕ)
+    (pairs : List FlatPair) →
     Numbers result old.tags new.tags tag old new (with_tag old tag) →
     Grows (numbered old pairs) (numbered new pairs)
 grows_tag (Ok number) old new tag pairs asked =
@@ -69,7 +69,8 @@ grows_tag (Err fault) old new tag pairs asked =
     (grows_all (numbered old pairs))
 
 pub grows_attr :
-    (result : Result ℕ AllocError) (old new : NamesView) (attr : List ℕ) (pairs : List FlatPair) →
+    {E : Type 0} (result : Result ℕ E) (old new : NamesView) (attr : List ℕ)
+    (pairs : List FlatPair) →
     Numbers result old.attrs new.attrs attr old new (with_attr old attr) →
     Grows (numbered old pairs) (numbered new pairs)
 grows_attr (Ok number) old new attr pairs asked =
@@ -95,11 +96,11 @@ grows_push names old new more puts =
       pairs = puts;
     }
 
-tag_kept : (old mid new : NamesView) (tag : List ℕ) (number : ℕ) →
-    Numbers (Ok number) old.tags mid.tags tag old mid (with_tag old tag) →
+tag_kept : {E : Type 0} (old mid new : NamesView) (tag : List ℕ) (number : ℕ) →
+    Numbers {E = E} (Ok number) old.tags mid.tags tag old mid (with_tag old tag) →
     AreKept mid.tags new.tags →
     (number < length new.tags) × (name_at new.tags number ≡ tag)
-tag_kept old mid new tag number asked stay =
+tag_kept {E} old mid new tag number asked stay =
     let table : mid.tags ≡ with_name old.tags tag = ap (λ n. n.tags) asked.names in
     let kept = stay number asked.below in
     (kept.0, kept.1 ∙ rw (table, asked.number) (name_at-added old.tags tag))
@@ -117,14 +118,14 @@ pairs_stay old new (p ∷ ps) attrs stay made =
       given = and_from (is_pair_given new p) _ (lt-ltb _ _ here.0) others.given;
     }
 
-pairs_more :
+pairs_more : {E : Type 0}
     (old new : NamesView) (pairs : List FlatPair) (attrs : List TextPair) (attr : List ℕ)
     (number : ℕ) (value : String Global) →
     ArePairsOf old pairs attrs →
-    Numbers (Ok number) old.attrs new.attrs attr old new (with_attr old attr) →
+    Numbers {E = E} (Ok number) old.attrs new.attrs attr old new (with_attr old attr) →
     ArePairsOf new (pairs ++ (number, value) ∷ []) (attrs ++ (attr, text_view value) ∷ [])
-pairs_more old new pairs attrs attr number value made asked =
-    let grows = grows_attr (Ok number) old new attr [] asked in
+pairs_more {E} old new pairs attrs attr number value made asked =
+    let grows = grows_attr {E = E} (Ok number) old new attr [] asked in
     let kept = pairs_stay old new pairs attrs grows.attrs made in
     let table : new.attrs ≡ with_name old.attrs attr = ap (λ n. n.attrs) asked.names in
     record {
@@ -135,20 +136,20 @@ pairs_more old new pairs attrs attr number value made asked =
           (lt-ltb _ _ asked.below) refl);
     }
 
-pub pushed_more :
+pub pushed_more : {E : Type 0}
     (first old : Numbered) (new : NamesView) (pairs : List FlatPair)
     (seen : List (HtmlAttr × String Global)) (attr : HtmlAttr) (number : ℕ)
     (value : String Global) →
     ArePushed first old (map pair_view seen) →
-    Numbers (Ok number) old.names.attrs new.attrs attr old.names new (with_attr old.names attr) →
+    Numbers {E = E} (Ok number) old.names.attrs new.attrs attr old.names new (with_attr old.names attr) →
     pairs ≡ old.pairs ++ (number, value) ∷ [] →
     ArePushed first (numbered new pairs) (map pair_view (seen ++ (attr, value) ∷ []))
-pushed_more first old new pairs seen attr number value made asked puts =
+pushed_more {E} first old new pairs seen attr number value made asked puts =
     record {
       more = made.more ++ (number, value) ∷ [];
       pairs = puts ∙ (ap (λ ps. ps ++ (number, value) ∷ []) made.pairs
           ∙ append_assoc first.pairs made.more ((number, value) ∷ []));
-      pairs_are = rw map-append (pairs_more old.names new made.more (map pair_view seen) attr number
+      pairs_are = rw map-append (pairs_more {E = E} old.names new made.more (map pair_view seen) attr number
           value made.pairs_are asked);
     }
 
@@ -174,14 +175,14 @@ pushed_slice old new attrs start end made starts ends =
     = rw (starts, ends, made.pairs) (slice_pushed old.pairs made.more) in
     rw same made.pairs_are
 
-pub numbers_are :
+pub numbers_are : {E : Type 0}
     (first : NamesView) (old new : Numbered) (tag : List ℕ) (attrs : List TextPair)
     (asked number start end : ℕ) →
-    Numbers (Ok asked) first.tags old.names.tags tag first old.names (with_tag first tag) →
+    Numbers {E = E} (Ok asked) first.tags old.names.tags tag first old.names (with_tag first tag) →
     Grows old new → ArePushed old new attrs → number ≡ asked → start ≡ length old.pairs →
     end ≡ length new.pairs → AreNumbersOf new number start end tag attrs
-numbers_are first old new tag attrs asked number start end asks grows made is starts ends =
-    let kept = tag_kept first old.names new.names tag asked asks grows.tags in
+numbers_are {E} first old new tag attrs asked number start end asks grows made is starts ends =
+    let kept = tag_kept {E = E} first old.names new.names tag asked asks grows.tags in
     let long = ap length grows.pairs ∙ length-append old.pairs grows.more in
     record {
       below = rw is kept.0;

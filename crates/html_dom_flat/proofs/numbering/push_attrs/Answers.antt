@@ -8,7 +8,7 @@ returns-in_err-push-clause-grows c =
     let pairs = c.loop-attr.pairs.items in
     let kept : c.push.new.self.items ≡ pairs = search rules in
     rw kept (grows_on _ _ _ c.loop-attr.invariant.grows
-    (grows_attr _ _ _ _ pairs c.insert_attr.ensures))
+    (grows_attr _ _ _ _ pairs c.insert_attr.ensures.number))
 
 pub loop-attr-preserved : goal.loop-attr-preserved
 loop-attr-preserved c =
@@ -16,11 +16,11 @@ loop-attr-preserved c =
     let pairs = c.loop-attr.pairs.items in
     let number = c.in_ok-insert_attr.field-0 in
     let puts : c.push.new.self.items ≡ pairs ++ (number, c.in-Some.value) ∷ [] = search rules in
-    let asks = grows_attr _ _ _ _ pairs c.insert_attr.ensures in
+    let asks = grows_attr _ _ _ _ pairs c.insert_attr.ensures.number in
     let grows = grows_on _ _ _ c.loop-attr.invariant.grows asks in
     record {
       grows = grows_on _ _ _ grows (grows_push names pairs c.push.new.self.items _ puts);
       pushed = pushed_more _ (numbered c.loop-attr.names pairs) names c.push.new.self.items
           c.loop-attr.yielded c.in-Some.attr number c.in-Some.value c.loop-attr.invariant.pushed
-          c.in_ok-insert_attr.ensures puts;
+          c.in_ok-insert_attr.ensures.number puts;
     }
