@@ -119,6 +119,11 @@ impl Misnesting {
 
 /// Writes what becomes of the node: `closes the p that it stands in`.
 impl fmt::Display for Misnesting {
+    ghost use Rattle.std.specs.Prelude.{Some};
+    ghost use Rattle.html_dom_nest.specs.MisnestingWords.{rule_words};
+
+    ghost output = { λ rule. Some (rule_words rule) };
+
     fn fmt<W: fmt::Write>(&self, f: &mut fmt::Formatter<W>) -> fmt::Result {
         f.write_str(self.words())
     }
