@@ -1,10 +1,11 @@
 //! Names, numbers for them, and a text under construction, when growths of memory are refused.
 
+use html_names::room::push_compact;
 use html_names::text_writer::TextWriter;
-use html_names::{HtmlAttr, HtmlTag, NameTable, attr, laws, tag};
+use html_names::{HtmlAttr, HtmlTag, NameTable, Refused, attr, laws, tag};
 use std::alloc::{AllocError, Global};
 use tests_asserts::TestResult;
-use tests_growth::{refuses, refuses_copy, refuses_kept};
+use tests_growth::{refuses, refuses_copy, refuses_given, refuses_kept};
 
 /// The number of letters that fill the text of a `TextWriter` that got them one by one.
 const FULL: usize = 32;
@@ -51,15 +52,13 @@ fn table_of(alloc: Global) -> Result<NameTable, AllocError> {
 #[derive(Clone, Copy, Debug)]
 enum Call {
     Number,
-    Insert,
     EqualNumbers,
     NumberStays,
     AtNumber,
 }
 
-const CALLS: [Call; 5] = [
+const CALLS: [Call; 4] = [
     Call::Number,
-    Call::Insert,
     Call::EqualNumbers,
     Call::NumberStays,
     Call::AtNumber,
@@ -69,7 +68,7 @@ const CALLS: [Call; 5] = [
 /// none.
 fn is_kept(call: Call, table: &NameTable) -> bool {
     match call {
-        Call::Number | Call::Insert => has_no_more(table),
+        Call::Number => has_no_more(table),
         _ => has_first_names(table),
     }
 }
@@ -83,7 +82,6 @@ fn numbered_tags(rt: HostRuntime) -> TestResult {
         let is_kept = |table: &NameTable| is_kept(call, table);
         refuses_kept(alloc, table_of(alloc)?, is_kept, |table| match call {
             Call::Number => Ok(table.tag(&one)? == 1),
-            Call::Insert => Ok(table.insert_tag(one.try_clone()?)? == 1),
             Call::EqualNumbers => Ok(!laws::equal_tag_numbers(table, &one, &two)?),
             Call::NumberStays => laws::tag_number_stays(table, &one, &two),
             Call::AtNumber => laws::tag_at_number(table, &one),
@@ -101,11 +99,108 @@ fn numbered_attributes(rt: HostRuntime) -> TestResult {
         let is_kept = |table: &NameTable| is_kept(call, table);
         refuses_kept(alloc, table_of(alloc)?, is_kept, |table| match call {
             Call::Number => Ok(table.attr(&one)? == 1),
-            Call::Insert => Ok(table.insert_attr(one.try_clone()?)? == 1),
             Call::EqualNumbers => Ok(!laws::equal_attr_numbers(table, &one, &two)?),
             Call::NumberStays => laws::attr_number_stays(table, &one, &two),
             Call::AtNumber => laws::attr_at_number(table, &one),
         })?;
+    }
+    Ok(())
+}
+
+/// Returns whether no name has a number.
+fn is_unused(table: &NameTable) -> bool {
+    table.tags() == 0 && table.attrs() == 0
+}
+
+/// A table, and a tag for it.
+type InsertedTag = (NameTable, Option<HtmlTag>);
+
+fn has_tag(given: &InsertedTag) -> bool {
+    is_unused(&given.0)
+        && given
+            .1
+            .as_ref()
+            .is_some_and(|tag| tag.resolve() == OWN_NAME)
+}
+
+/// Moves the tag into the table, and returns whether it has the right number there.
+fn inserts_tag(given: &mut InsertedTag) -> Result<bool, AllocError> {
+    let Some(tag) = given.1.take() else {
+        return Ok(false);
+    };
+    match given.0.insert_tag(tag) {
+        Ok(number) => Ok(number == 0),
+        Err(Refused { back }) => {
+            given.1 = Some(back);
+            Err(AllocError)
+        }
+    }
+}
+
+/// A table, and the name of an attribute for it.
+type InsertedAttr = (NameTable, Option<HtmlAttr>);
+
+fn has_attr(given: &InsertedAttr) -> bool {
+    is_unused(&given.0)
+        && given
+            .1
+            .as_ref()
+            .is_some_and(|attr| attr.resolve() == OWN_NAME)
+}
+
+/// Moves the name into the table, and returns whether it has the right number there.
+fn inserts_attr(given: &mut InsertedAttr) -> Result<bool, AllocError> {
+    let Some(attr) = given.1.take() else {
+        return Ok(false);
+    };
+    match given.0.insert_attr(attr) {
+        Ok(number) => Ok(number == 0),
+        Err(Refused { back }) => {
+            given.1 = Some(back);
+            Err(AllocError)
+        }
+    }
+}
+
+/// Moves names into tables without names. A refused call returns the name.
+#[test]
+fn inserted_names(rt: HostRuntime) -> TestResult {
+    let alloc = rt.alloc();
+    let tag = HtmlTag::intern(alloc, OWN_NAME)?;
+    refuses_kept(
+        alloc,
+        (NameTable::new(alloc), Some(tag)),
+        has_tag,
+        inserts_tag,
+    )?;
+    let attr = HtmlAttr::intern(alloc, OWN_NAME)?;
+    refuses_kept(
+        alloc,
+        (NameTable::new(alloc), Some(attr)),
+        has_attr,
+        inserts_attr,
+    )
+}
+
+/// A list, and a text to append to it.
+type Appended = (Vec<String>, String);
+
+fn appends((mut list, text): Appended) -> Result<bool, Refused<Appended>> {
+    match push_compact(&mut list, text) {
+        Ok(()) => Ok(list.last().is_some_and(|last| last.as_str() == "held")),
+        Err(Refused { back }) => Err(Refused { back: (list, back) }),
+    }
+}
+
+/// Appends to a list that is empty, and to one that is full.
+#[test]
+fn appended_values(rt: HostRuntime) -> TestResult {
+    let alloc = rt.alloc();
+    for list in [
+        Vec::new(alloc),
+        vec![in alloc; String::from_str(alloc, "first")?]?,
+    ] {
+        refuses_given(alloc, (list, String::from_str(alloc, "held")?), appends)?;
     }
     Ok(())
 }

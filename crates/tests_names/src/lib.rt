@@ -12,4 +12,6 @@ mod interning;
 #[cfg(test)]
 mod name_table;
 #[cfg(test)]
+mod room;
+#[cfg(test)]
 mod text_writer;
