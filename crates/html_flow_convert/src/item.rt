@@ -5,9 +5,10 @@ ghost use Rattle.html_flow_convert.specs.Views.{body_view, elem_view, item_view,
 ghost use Rattle.html_dom_tree.specs.Views.{optional_text_view};
 
 use html_dom_tree::{Frame, HtmlAttrs, Location, Span, Tag};
+use html_names::room::push_compact;
 use html_names::{HtmlAttr, HtmlTag, Refused};
 use html_values_css::{Abs, Properties};
-use std::alloc::{AllocError, AllocFailed, Global};
+use std::alloc::{AllocError, Global};
 
 /// An item and its role.
 #[derive(Debug, Drop)]
@@ -327,8 +328,8 @@ impl HtmlElem {
         self
     }
 
-    /// Appends an item to the body of the element, and adds a body if there is none. If an
-    /// allocation fails, the error holds both.
+    /// Appends an item to the body of the element, and adds a body if there is none; an empty one
+    /// takes room for one item. If an allocation fails, the error holds both.
     ///
     /// ```
     /// use html_dom::Span;
@@ -351,18 +352,18 @@ impl HtmlElem {
             × (refused.back.1 ≡ item)) }
     {
         match &mut self.body {
-            Some(items) => match items.push(item) {
+            Some(items) => match push_compact(items, item) {
                 Ok(()) => Ok(self),
-                Err(AllocFailed { value }) => Err(Refused {
-                    back: (self, value),
+                Err(refused) => Err(Refused {
+                    back: (self, refused.back),
                 }),
             },
             None => {
                 let mut items = Vec::new(alloc);
-                match items.push(item) {
+                match push_compact(&mut items, item) {
                     Ok(()) => Ok(self.with_body(items)),
-                    Err(AllocFailed { value }) => Err(Refused {
-                        back: (self, value),
+                    Err(refused) => Err(Refused {
+                        back: (self, refused.back),
                     }),
                 }
             }

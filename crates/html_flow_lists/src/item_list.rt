@@ -1,6 +1,6 @@
 //! A list of items that grows item by item.
 
-ghost use Rattle.std.specs.Prelude.{◌≡◌, ◌↔◌, ◌++◌, ◌∷◌, [], IsTrue, OnOk, OnErr, IfErr, chars, length, ◌==◌};
+ghost use Rattle.std.specs.Prelude.{◌≡◌, ◌↔◌, ◌++◌, ◌∷◌, [], IsTrue, OnOk, OnErr, IfErr, chars, length, ◌==◌, ◌<◌, vec_len, vec_capacity};
 ghost use Rattle.html_names.specs.Texts.{text_view};
 ghost use Rattle.html_flow_convert.specs.Items.{inheriting, text_item};
 ghost use Rattle.html_flow_convert.specs.Views.{elem_view, pair_view, pairs_view};
@@ -12,8 +12,9 @@ ghost use Rattle.html_flow_lists.specs.ListViews.{list_view};
 use html_dom_tree::Span;
 use html_flow_convert::{HtmlElem, Item, Pair, Role};
 use html_flow_places::NamedPlaces;
+use html_names::room::push_compact;
 use html_names::{HtmlTag, Refused};
-use std::alloc::{AllocError, AllocFailed, Global};
+use std::alloc::{AllocError, Global};
 
 /// A growing list of items, and the span for the texts and line breaks in it. If an allocation
 /// fails, the list is unchanged.
@@ -135,7 +136,7 @@ impl ItemList {
             return self.lengthen_text(text);
         }
         let text = String::from_str(*self.items.allocator(), text)?;
-        self.items.push(text_pair(text, self.span))?;
+        push_compact(&mut self.items, text_pair(text, self.span))?;
         Ok(())
     }
 
@@ -196,7 +197,7 @@ impl ItemList {
         ensures ok { OnOk result (list_view self.new ≡ with_break (list_view self.old)) }
         ensures kept { OnErr result (list_view self.new ≡ list_view self.old) }
     {
-        self.items.push(Pair::from(Item::LineBreak(self.span)))?;
+        push_compact(&mut self.items, Pair::from(Item::LineBreak(self.span)))?;
         Ok(())
     }
 
@@ -207,10 +208,7 @@ impl ItemList {
         ensures kept { OnErr result (list_view self.new ≡ list_view self.old) }
         ensures back { IfErr result (λ refused. refused.back ≡ item) }
     {
-        match self.items.push(item) {
-            Ok(()) => Ok(()),
-            Err(AllocFailed { value }) => Err(Refused { back: value }),
-        }
+        push_compact(&mut self.items, item)
     }
 
     /// Appends an element, with its own span and the role of the list. If an allocation fails, the
@@ -221,13 +219,25 @@ impl ItemList {
         ensures kept { OnErr result (list_view self.new ≡ list_view self.old) }
         ensures back { IfErr result (λ refused. refused.back ≡ element) }
     {
-        if self.items.reserve(1).is_err() {
+        if self.reserve_one().is_err() {
             return Err(Refused { back: element });
         }
         if self.items.push(Pair::from(element)).is_err() {
             unreachable!();
         }
         Ok(())
+    }
+
+    /// Makes room for one item more: in an empty list for that one alone.
+    fn reserve_one(&mut self) -> Result<(), AllocError>
+        ensures same { list_view self.new ≡ list_view self.old }
+        ensures room { OnOk result (vec_len self.new.items < vec_capacity self.new.items) }
+    {
+        if self.items.is_empty() {
+            self.items.reserve_exact(1)
+        } else {
+            self.items.reserve(1)
+        }
     }
 
     /// Appends an element as the place of that name, as `NamedPlaces::push_place` does. If an

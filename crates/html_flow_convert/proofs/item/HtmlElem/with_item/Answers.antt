@@ -3,5 +3,5 @@ use Rattle.html_flow_convert.proofs.item.HtmlElem.with_item.Goals as goal
 
 pub returns-in-Ok-clause-ok : goal.returns-in-Ok-clause-ok
 returns-in-Ok-clause-ok c =
-    with_last_item_view c.args.self c.in-Some.items c.push.new.self c.args.item c.in-Some.is
-    c.in-Ok.ensures.items
+    with_last_item_view c.args.self c.in-Some.items c.push_compact.new.list c.args.item c.in-Some.is
+    c.in-Ok.ensures.ok
