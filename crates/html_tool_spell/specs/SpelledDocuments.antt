@@ -6,7 +6,8 @@
 -- spells nothing. Items have the forms of documents; the name of a place has the same location in
 -- all of them. Names of elements and attributes are not checked here. The spans are the numbers
 -- of the lists of items and nodes, counted from 1 through the items, then the footnotes, then the
--- head. If the object is wrong, or there is none, the value leaves the form before the first list.
+-- head. If a member is wrong, or there is no object, the value leaves the form before the first
+-- list, at 0.
 use Rattle.std.specs.Prelude.{ℕ, List, [], ◌∷◌, ◌++◌, codes, bytes_eq, Option, Some, None, option_map, option_and_then, if◌then◌else◌}
 use Rattle.serde_json.specs.Data.{Data, array, Items, no_items, item, Members, no_members, member}
 use Rattle.serde_json.specs.Find.{as_array, as_object}
@@ -57,7 +58,7 @@ with_info_member info Lang d =
 with_info_member info Region d = option_and_then (λ t.
     option_map (λ l. record info { locale = Some l }) (with_region info.locale t)) (text_at d)
 
--- the parts of a document in an object: the information, and the values of its items, its footnotes
+-- the parts of a document in an object: the information, and the lists of its items, its footnotes
 -- and its head
 pub record DocumentPartsView : Type 0 where
   pub info : InfoView
@@ -79,11 +80,18 @@ abbrev pub with_known : DocumentPartsView → (name : List ℕ) → Data → Opt
 with_known parts name d = option_map (λ info. record parts { info = info })
     (option_and_then (λ member. with_info_member parts.info member d) (named_member name))
 
+-- the value, if it is a list
+abbrev pub list_value : Data → Option Data
+list_value d = option_map array (as_array d)
+
 -- the parts with one more member
 abbrev pub with_member : DocumentPartsView → (name : List ℕ) → Data → Option DocumentPartsView
-with_member parts name d = if bytes_eq name (codes "items") then Some (record parts { items = d })
-    else (if bytes_eq name (codes "footnotes") then Some (record parts { footnotes = d })
-    else (if bytes_eq name (codes "head") then Some (record parts { head = d })
+with_member parts name d = if bytes_eq name (codes "items")
+    then option_map (λ items. record parts { items = items }) (list_value d)
+    else (if bytes_eq name (codes "footnotes")
+    then option_map (λ notes. record parts { footnotes = notes }) (list_value d)
+    else (if bytes_eq name (codes "head")
+    then option_map (λ head. record parts { head = head }) (list_value d)
     else with_known parts name d))
 
 -- the parts with the members of an object, which are in the order of their names, so that "lang"

@@ -5,7 +5,7 @@ ghost use Rattle.std.specs.Prelude.{◌≡◌};
 ghost use Rattle.serde_json.specs.View.{view};
 ghost use Rattle.html_tool_spell.specs.Reading.{ReadsMember};
 ghost use Rattle.html_tool_spell.specs.SpelledDocuments.{no_parts, spelled_document, spelling_from};
-ghost use Rattle.html_tool_spell.specs.SpelledDocuments.{parts_at, with_known, with_member};
+ghost use Rattle.html_tool_spell.specs.SpelledDocuments.{list_value, parts_at, with_known, with_member};
 ghost use Rattle.html_tool_spell.specs.Spelling.{GivesSpelledDocument, document_parts_view};
 
 use crate::fault::{Fault, InputPlace};
@@ -20,7 +20,7 @@ use html_flow_convert::Pair;
 use serde_json::Value;
 use std::alloc::Global;
 
-/// The parts of a document: the information about it, and the values of its items, footnotes and
+/// The parts of a document: the information about it, and the lists of its items, footnotes and
 /// head.
 #[derive(Drop)]
 pub(crate) struct DocumentParts {
@@ -67,18 +67,27 @@ fn with_member(
 {
     match name {
         "items" => Ok(DocumentParts {
-            items: value,
+            items: known_list(value)?,
             ..parts
         }),
         "footnotes" => Ok(DocumentParts {
-            footnotes: value,
+            footnotes: known_list(value)?,
             ..parts
         }),
         "head" => Ok(DocumentParts {
-            head: value,
+            head: known_list(value)?,
             ..parts
         }),
         _ => with_known(alloc, parts, name, value),
+    }
+}
+
+fn known_list(value: Value) -> Result<Value, Fault>
+    ensures { ReadsMember view result (list_value (view value)) }
+{
+    match value {
+        Value::Array(_) => Ok(value),
+        _ => Err(Fault::BadInput(InputPlace::Form(0))),
     }
 }
 
