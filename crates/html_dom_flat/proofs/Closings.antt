@@ -2,54 +2,55 @@
 use Rattle.std.proofs.Common.{◌≡◌, ℕ, zero, suc, ◌+◌, ◌<◌, true, List, [], ◌∷◌, ◌++◌, refl, ap, ◌∙◌, arith, length, get_or}
 use Rattle.std.proofs.Math.ListN.{set}
 use Rattle.std.proofs.lemmas.Bool.{and_parts, and_from}
+use Rattle.html_names.specs.NameTables.{NamesView}
 use Rattle.html_dom_tree.specs.Tree.{Head, NodesView}
 use Rattle.html_dom_flat.specs.Flat.{FlatNodeView, flat_element, nodes_count, nodes_flat, element_flat}
-use Rattle.html_dom_flat.specs.FlatViews.{Numbered, flat_node_view, flat_nodes_view, is_node_given, are_given}
+use Rattle.html_dom_flat.specs.FlatViews.{flat_node_view, flat_nodes_view, is_node_given, are_given}
 use Rattle.html_dom_flat.specs.ClosedElements.{with_past, closed_at}
 use Rattle.html_dom_flat.specs.Numbering.{node_with_past}
 use Rattle.html_dom_flat.specs.declared.flat_node.FlatNode.{FlatNode}
 use Rattle.html_dom_flat.specs.declared.flat_node.FlatNode.TheVariants.{Tag, Text, Frame, Element}
 
-view_ended : (numbers : Numbered) (past : ℕ) (n : FlatNode) →
-    flat_node_view numbers (node_with_past past n) ≡ with_past past (flat_node_view numbers n)
-view_ended numbers past (Tag t) = refl
-view_ended numbers past (Text s span) = refl
-view_ended numbers past (Frame f) = refl
-view_ended numbers past (Element e) = refl
+view_ended : (names : NamesView) (past : ℕ) (n : FlatNode) →
+    flat_node_view names (node_with_past past n) ≡ with_past past (flat_node_view names n)
+view_ended names past (Tag t) = refl
+view_ended names past (Text s span) = refl
+view_ended names past (Frame f) = refl
+view_ended names past (Element e) = refl
 
-given_ended : (numbers : Numbered) (past : ℕ) (n : FlatNode) →
-    is_node_given numbers (node_with_past past n) ≡ is_node_given numbers n
-given_ended numbers past (Tag t) = refl
-given_ended numbers past (Text s span) = refl
-given_ended numbers past (Frame f) = refl
-given_ended numbers past (Element e) = refl
+given_ended : (names : NamesView) (past : ℕ) (n : FlatNode) →
+    is_node_given names (node_with_past past n) ≡ is_node_given names n
+given_ended names past (Tag t) = refl
+given_ended names past (Text s span) = refl
+given_ended names past (Frame f) = refl
+given_ended names past (Element e) = refl
 
 pub given_closed :
-    (numbers : Numbered) (nodes : List FlatNode) (index past : ℕ) (v d : FlatNode) →
-    v ≡ node_with_past past (get_or nodes index d) → are_given numbers nodes ≡ true →
-    are_given numbers (set nodes index v) ≡ true
-given_closed numbers [] index past v d is given = refl
-given_closed numbers (n ∷ ns) zero past v d is given =
-    let parts = and_parts (is_node_given numbers n) _ given in
-    and_from (is_node_given numbers v) _
-    (ap (is_node_given numbers) is ∙ (given_ended numbers past n ∙ parts.0)) parts.1
-given_closed numbers (n ∷ ns) (suc index) past v d is given =
-    let parts = and_parts (is_node_given numbers n) _ given in
-    and_from (is_node_given numbers n) _ parts.0
-    (given_closed numbers ns index past v d is parts.1)
+    (names : NamesView) (nodes : List FlatNode) (index past : ℕ) (v d : FlatNode) →
+    v ≡ node_with_past past (get_or nodes index d) → are_given names nodes ≡ true →
+    are_given names (set nodes index v) ≡ true
+given_closed names [] index past v d is given = refl
+given_closed names (n ∷ ns) zero past v d is given =
+    let parts = and_parts (is_node_given names n) _ given in
+    and_from (is_node_given names v) _
+    (ap (is_node_given names) is ∙ (given_ended names past n ∙ parts.0)) parts.1
+given_closed names (n ∷ ns) (suc index) past v d is given =
+    let parts = and_parts (is_node_given names n) _ given in
+    and_from (is_node_given names n) _ parts.0
+    (given_closed names ns index past v d is parts.1)
 
 pub closed :
-    (numbers : Numbered) (nodes : List FlatNode) (index past : ℕ) (v d : FlatNode) →
+    (names : NamesView) (nodes : List FlatNode) (index past : ℕ) (v d : FlatNode) →
     v ≡ node_with_past past (get_or nodes index d) → index < length nodes →
-    flat_nodes_view numbers (set nodes index v)
-    ≡ closed_at index past (flat_nodes_view numbers nodes)
+    flat_nodes_view names (set nodes index v)
+    ≡ closed_at index past (flat_nodes_view names nodes)
 unfolding closed_at
-closed numbers [] index past v d is below = absurd (omega arith)
-closed numbers (n ∷ ns) zero past v d is below =
-    ap (λ f. f ∷ flat_nodes_view numbers ns)
-    (ap (flat_node_view numbers) is ∙ view_ended numbers past n)
-closed numbers (n ∷ ns) (suc index) past v d is below =
-    ap (λ fs. flat_node_view numbers n ∷ fs) (closed numbers ns index past v d is (omega arith))
+closed names [] index past v d is below = absurd (omega arith)
+closed names (n ∷ ns) zero past v d is below =
+    ap (λ f. f ∷ flat_nodes_view names ns)
+    (ap (flat_node_view names) is ∙ view_ended names past n)
+closed names (n ∷ ns) (suc index) past v d is below =
+    ap (λ fs. flat_node_view names n ∷ fs) (closed names ns index past v d is (omega arith))
 
 closed_here : (xs ys : List FlatNodeView) (f : FlatNodeView) (index past : ℕ) → index ≡ length xs →
     closed_at index past ((xs ++ f ∷ []) ++ ys) ≡ xs ++ with_past past f ∷ ys

@@ -3,9 +3,10 @@ use Rattle.std.proofs.Common.{◌≡◌, ℕ, ◌+◌, ◌-◌, ◌<◌, ◌≤�
 use Rattle.std.proofs.lemmas.Bool.{and_parts}
 use Rattle.std.proofs.lemmas.List.{take-map, drop-map, length-append, length-map}
 use Rattle.std.proofs.Math.Seq.{take-append_seam, drop-append_seam}
+use Rattle.html_names.specs.NameTables.{NamesView}
 use Rattle.html_dom_tree.specs.Tree.{NodeView, tag_node, text_node, element_node, frame_node, NodesView, none, node}
 use Rattle.html_dom_flat.specs.Flat.{FlatNodeView, flat_tag, flat_text, flat_frame, flat_element, nodes_count, nodes_flat, spelled_nodes, IsSpelling, past_of}
-use Rattle.html_dom_flat.specs.FlatViews.{Numbered, flat_node_view, flat_nodes_view, is_node_given, are_given}
+use Rattle.html_dom_flat.specs.FlatViews.{flat_node_view, flat_nodes_view, is_node_given, are_given}
 use Rattle.html_dom_flat.specs.Siblings.{node_with}
 use Rattle.html_dom_flat.specs.declared.flat_node.FlatNode.{FlatNode}
 use Rattle.html_dom_flat.proofs.Flats.{count_some, length_all, spelled_flat}
@@ -54,26 +55,26 @@ parts_of first f fs (node (element_node h inside) ns) e =
       list = rw (← same) (sym list);
     })
 
-pub none_spelled : (numbers : Numbered) (first : ℕ) (nodes : List FlatNode) → length nodes ≡ 0 →
-    spelled_nodes first (flat_nodes_view numbers nodes) ≡ none
+pub none_spelled : (names : NamesView) (first : ℕ) (nodes : List FlatNode) → length nodes ≡ 0 →
+    spelled_nodes first (flat_nodes_view names nodes) ≡ none
 unfolding spelled_nodes
-none_spelled numbers first [] e = refl
-none_spelled numbers first (n ∷ ns) e = absurd (omega (arith, e))
+none_spelled names first [] e = refl
+none_spelled names first (n ∷ ns) e = absurd (omega (arith, e))
 
 -- the same over the nodes of the program, and the index after the first of them
-module _ (numbers : Numbered) (first : ℕ) {past : ℕ} {nodes rest : List FlatNode} {flat : FlatNode}
-    (is : nodes ≡ flat ∷ rest) (spells : IsSpelling first (flat_nodes_view numbers nodes))
-    (to : past ≡ past_of (first + 1) (flat_node_view numbers flat)) where
+module _ (names : NamesView) (first : ℕ) {past : ℕ} {nodes rest : List FlatNode} {flat : FlatNode}
+    (is : nodes ≡ flat ∷ rest) (spells : IsSpelling first (flat_nodes_view names nodes))
+    (to : past ≡ past_of (first + 1) (flat_node_view names flat)) where
   abbrev f : FlatNodeView
-  f = flat_node_view numbers flat
+  f = flat_node_view names flat
 
   abbrev count : ℕ
   count = past - (first + 1)
 
-  parts : Parts first f (flat_nodes_view numbers rest)
-      (spelled_nodes first (flat_nodes_view numbers nodes))
-  parts = parts_of first f (flat_nodes_view numbers rest) _
-      (spells ∙ ap (flat_nodes_view numbers) is)
+  parts : Parts first f (flat_nodes_view names rest)
+      (spelled_nodes first (flat_nodes_view names nodes))
+  parts = parts_of first f (flat_nodes_view names rest) _
+      (spells ∙ ap (flat_nodes_view names) is)
 
   abbrev inside : List FlatNodeView
   inside = nodes_flat (first + 1) parts.children
@@ -81,7 +82,7 @@ module _ (numbers : Numbered) (first : ℕ) {past : ℕ} {nodes rest : List Flat
   abbrev after : List FlatNodeView
   after = nodes_flat past parts.others
 
-  list_is : flat_nodes_view numbers rest ≡ inside ++ after
+  list_is : flat_nodes_view names rest ≡ inside ++ after
   list_is = parts.list ∙ ap (λ p. inside ++ nodes_flat p parts.others) (sym to)
 
   pub is_later : first + 1 ≤ past
@@ -93,32 +94,32 @@ module _ (numbers : Numbered) (first : ℕ) {past : ℕ} {nodes rest : List Flat
   pub is_within : count ≤ length rest
   is_within =
       let whole : length rest ≡ length inside + length after
-      = sym (length-map rest (flat_node_view numbers))
+      = sym (length-map rest (flat_node_view names))
       ∙ (ap length list_is ∙ length-append inside after) in
       omega (arith, count_is, whole)
 
-  inside_is : flat_nodes_view numbers (take count rest) ≡ inside
-  inside_is = sym (take-map (flat_node_view numbers) count rest)
+  inside_is : flat_nodes_view names (take count rest) ≡ inside
+  inside_is = sym (take-map (flat_node_view names) count rest)
       ∙ rw (count_is, list_is) (take-append_seam inside after)
 
-  after_is : flat_nodes_view numbers (drop count rest) ≡ after
-  after_is = sym (drop-map (flat_node_view numbers) count rest)
+  after_is : flat_nodes_view names (drop count rest) ≡ after
+  after_is = sym (drop-map (flat_node_view names) count rest)
       ∙ rw (count_is, list_is) (drop-append_seam inside after)
 
   pub inside_spells : {part : List FlatNode} → part ≡ take count rest →
-      IsSpelling (first + 1) (flat_nodes_view numbers part)
+      IsSpelling (first + 1) (flat_nodes_view names part)
   inside_spells taken =
       rw (taken, inside_is) (ap (nodes_flat (first + 1)) (spelled_flat (first + 1) parts.children))
 
   pub after_spells : {part : List FlatNode} → part ≡ drop count rest →
-      IsSpelling past (flat_nodes_view numbers part)
+      IsSpelling past (flat_nodes_view names part)
   after_spells dropped =
       rw (dropped, after_is) (ap (nodes_flat past) (spelled_flat past parts.others))
 
   pub splits : {front back : List FlatNode} → front ≡ take count rest → back ≡ drop count rest →
-      spelled_nodes first (flat_nodes_view numbers nodes)
-      ≡ node (node_with f (spelled_nodes (first + 1) (flat_nodes_view numbers front)))
-      (spelled_nodes past (flat_nodes_view numbers back))
+      spelled_nodes first (flat_nodes_view names nodes)
+      ≡ node (node_with f (spelled_nodes (first + 1) (flat_nodes_view names front)))
+      (spelled_nodes past (flat_nodes_view names back))
   splits taken dropped =
       rw (
         taken,
@@ -129,14 +130,14 @@ module _ (numbers : Numbered) (first : ℕ) {past : ℕ} {nodes rest : List Flat
         spelled_flat past parts.others,
       ) parts.is
 
--- numbers that are given, of each part
-module _ (numbers : Numbered) {nodes rest : List FlatNode} {flat : FlatNode}
-    (is : nodes ≡ flat ∷ rest) (given : are_given numbers nodes ≡ true) where
-  parts_given : (is_node_given numbers flat && are_given numbers rest) ≡ true
-  parts_given = ap (are_given numbers) (sym is) ∙ given
+-- numbers that the table has given, of each part
+module _ (names : NamesView) {nodes rest : List FlatNode} {flat : FlatNode}
+    (is : nodes ≡ flat ∷ rest) (given : are_given names nodes ≡ true) where
+  parts_given : (is_node_given names flat && are_given names rest) ≡ true
+  parts_given = ap (are_given names) (sym is) ∙ given
 
-  pub first_given : is_node_given numbers flat ≡ true
+  pub first_given : is_node_given names flat ≡ true
   first_given = (and_parts _ _ parts_given).0
 
-  pub rest_given : are_given numbers rest ≡ true
+  pub rest_given : are_given names rest ≡ true
   rest_given = (and_parts _ _ parts_given).1

@@ -2,11 +2,12 @@
 use Rattle.std.proofs.Common.{◌≡◌, ℕ, zero, suc, ◌+◌, ◌-◌, ◌<◌, Bool, true, false, if◌then◌else◌, nat_lt, List, [], ◌∷◌, ◌++◌, refl, ap, subst, sym, ◌∙◌, arith, length, drop, get_or, None}
 use Rattle.std.proofs.lemmas.Bool.{ltb-true, lt-ltb}
 use Rattle.std.proofs.lemmas.List.{map-append, reverse-append}
+use Rattle.html_names.specs.NameTables.{NamesView}
 use Rattle.html_dom_tree.specs.Tree.{NodeView, NodesView, none, node}
 use Rattle.html_dom_tree.specs.Views.{nodes_of}
 use Rattle.html_dom_tree.specs.declared.node.HtmlNode.{HtmlNode}
 use Rattle.html_dom_flat.specs.Flat.{FlatNodeView, flat_tag, flat_text, flat_frame, flat_element, node_count, nodes_count, front, back, spelled_nodes}
-use Rattle.html_dom_flat.specs.FlatViews.{Numbered, flat_node_view, flat_nodes_view}
+use Rattle.html_dom_flat.specs.FlatViews.{flat_node_view, flat_nodes_view}
 use Rattle.html_dom_flat.specs.Stacks.{IndexedView, indexed_view, stack_view, stack_nodes, is_top_before, stacked_before, IsPopped, rest_after, made_of, list_stack}
 use Rattle.html_dom_flat.specs.declared.flat_node.FlatNode.{FlatNode}
 
@@ -109,28 +110,27 @@ pub stack_push : (stack : List (ℕ × HtmlNode)) (x : ℕ × HtmlNode) →
     stack_view (stack ++ x ∷ []) ≡ indexed_view x ∷ stack_view stack
 stack_push stack x = rw (map-append, reverse-append) refl
 
-drop_at : (numbers : Numbered) (nodes : List FlatNode) (index : ℕ) (d : FlatNode) →
-    index < length nodes → drop index (flat_nodes_view numbers nodes)
-    ≡ flat_node_view numbers (get_or nodes index d)
-    ∷ drop (index + 1) (flat_nodes_view numbers nodes)
-drop_at numbers [] index d below = absurd (omega arith)
-drop_at numbers (n ∷ ns) zero d below = refl
-drop_at numbers (n ∷ ns) (suc index) d below =
+drop_at : (names : NamesView) (nodes : List FlatNode) (index : ℕ) (d : FlatNode) →
+    index < length nodes → drop index (flat_nodes_view names nodes)
+    ≡ flat_node_view names (get_or nodes index d) ∷ drop (index + 1) (flat_nodes_view names nodes)
+drop_at names [] index d below = absurd (omega arith)
+drop_at names (n ∷ ns) zero d below = refl
+drop_at names (n ∷ ns) (suc index) d below =
     let next : suc index + 1 ≡ suc (index + 1) = omega arith in
-    rw next (drop_at numbers ns index d (omega arith))
+    rw next (drop_at names ns index d (omega arith))
 
 pub stacked_more :
-    (numbers : Numbered) (nodes : List FlatNode) (index : ℕ) (d : FlatNode)
+    (names : NamesView) (nodes : List FlatNode) (index : ℕ) (d : FlatNode)
     (old mid new : List (ℕ × HtmlNode)) (made : HtmlNode) →
     index < length nodes →
-    stack_view old ≡ list_stack (index + 1) (drop (index + 1) (flat_nodes_view numbers nodes)) →
+    stack_view old ≡ list_stack (index + 1) (drop (index + 1) (flat_nodes_view names nodes)) →
     ((indexed_view (index, made)).1, stack_view mid)
-    ≡ made_of (flat_node_view numbers (get_or nodes index d)) (stack_view old) →
+    ≡ made_of (flat_node_view names (get_or nodes index d)) (stack_view old) →
     new ≡ mid ++ (index, made) ∷ [] →
-    stack_view new ≡ list_stack index (drop index (flat_nodes_view numbers nodes))
+    stack_view new ≡ list_stack index (drop index (flat_nodes_view names nodes))
 unfolding list_stack
-stacked_more numbers nodes index d old mid new made below before makes puts =
-    let here = drop_at numbers nodes index d below in
+stacked_more names nodes index d old mid new made below before makes puts =
+    let here = drop_at names nodes index d below in
     rw (puts, stack_push mid (index, made), here, ← before, ← makes) refl
 
 pub popped_before : (past index : ℕ) (n : NodeView) (xs : List IndexedView) →
@@ -149,12 +149,12 @@ unfolding stacked_before rest_after
 none_popped past [] test = (refl, refl, refl)
 none_popped past (x ∷ xs) test = (rw test refl, rw test refl, refl)
 
-drop_all : (numbers : Numbered) (nodes : List FlatNode) →
-    drop (length nodes) (flat_nodes_view numbers nodes) ≡ []
-drop_all numbers [] = refl
-drop_all numbers (n ∷ ns) = drop_all numbers ns
+drop_all : (names : NamesView) (nodes : List FlatNode) →
+    drop (length nodes) (flat_nodes_view names nodes) ≡ []
+drop_all names [] = refl
+drop_all names (n ∷ ns) = drop_all names ns
 
-pub stacked_none : (numbers : Numbered) (nodes : List FlatNode) →
-    list_stack (length nodes) (drop (length nodes) (flat_nodes_view numbers nodes)) ≡ []
+pub stacked_none : (names : NamesView) (nodes : List FlatNode) →
+    list_stack (length nodes) (drop (length nodes) (flat_nodes_view names nodes)) ≡ []
 unfolding list_stack
-stacked_none numbers nodes = rw (drop_all numbers nodes) refl
+stacked_none names nodes = rw (drop_all names nodes) refl

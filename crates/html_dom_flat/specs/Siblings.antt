@@ -5,7 +5,6 @@ use Rattle.html_dom_tree.specs.FrameViews.{html_frame_view}
 use Rattle.html_dom_tree.specs.Tree.{Head, NodeView, tag_node, text_node, element_node, frame_node, NodesView, none, node, ElementView}
 use Rattle.html_dom_tree.specs.Views.{tag_view}
 use Rattle.html_dom_flat.specs.Flat.{FlatNodeView, flat_tag, flat_text, flat_frame, flat_element, spelled_nodes}
-use Rattle.html_dom_flat.specs.FlatTrees.{tree_numbered}
 use Rattle.html_dom_flat.specs.FlatViews.{flat_head, flat_nodes_view}
 use Rattle.html_dom_flat.specs.declared.siblings.Element.{Element}
 use Rattle.html_dom_flat.specs.declared.siblings.Node.{Node}
@@ -14,11 +13,11 @@ use Rattle.html_dom_flat.specs.declared.siblings.Siblings.{Siblings}
 
 -- the nodes of consecutive siblings
 abbrev pub siblings_view : Siblings → NodesView
-siblings_view s = spelled_nodes s.first (flat_nodes_view (tree_numbered s.tree.now) s.nodes.now)
+siblings_view s = spelled_nodes s.first (flat_nodes_view s.names.now s.nodes.now)
 
 -- an element apart from its children
 abbrev pub head_view : Element → Head
-head_view e = flat_head (tree_numbered e.children.tree.now) e.flat.now
+head_view e = flat_head e.children.names.now e.flat.now
 
 abbrev pub element_view : Element → ElementView
 element_view e = (head_view e, siblings_view e.children)

@@ -1,12 +1,12 @@
 //! The builder of a flat tree.
 
 ghost use Rattle.std.specs.Prelude.{◌≡◌, true, reverse};
-ghost use Rattle.html_dom_flat.specs.FlatViews.{numbered, are_given};
+ghost use Rattle.html_dom_flat.specs.FlatViews.{are_given};
 
 use crate::flat_node::{FlatElement, FlatNode};
 use crate::flat_tree::FlatTree;
 use crate::moving::{STEP, give_back};
-use crate::numbering::{narrow, push_attrs, set_past};
+use crate::numbering::{numbered_attrs, set_past};
 use html_dom_tree::{HtmlAttrs, HtmlElement, HtmlFrame, HtmlNode, Span, Tag};
 use html_names::{HtmlTag, NameTable};
 use html_values_css::Properties;
@@ -18,8 +18,7 @@ use std::alloc::{AllocError, Global};
 pub struct Builder {
     pub(crate) nodes: Vec<FlatNode>,
     pub(crate) names: NameTable,
-    pub(crate) pairs: Vec<(usize, String)>,
-    ghost given: { are_given (numbered names pairs.items) nodes.items ≡ true },
+    ghost given: { are_given names nodes.items ≡ true },
 }
 
 impl Builder {
@@ -31,7 +30,7 @@ impl Builder {
     ghost use Rattle.html_dom_flat.specs.FlatViews.{flat_node_view, is_node_given};
     ghost use Rattle.html_dom_flat.specs.Flat.{IsSpelling, spelled_nodes};
     ghost use Rattle.html_dom_flat.specs.FlatTrees.{tree_nodes};
-    ghost use Rattle.html_dom_flat.specs.Builders.{builder_numbered, builder_view, plain_head};
+    ghost use Rattle.html_dom_flat.specs.Builders.{builder_view, plain_head};
     ghost use Rattle.html_dom_flat.specs.ClosedElements.{closed_at};
     ghost use Rattle.html_dom_flat.specs.Numbering.{AreNumbersOf};
 
@@ -43,45 +42,45 @@ impl Builder {
         Builder {
             nodes: Vec::new(alloc),
             names: NameTable::new(alloc),
-            pairs: Vec::new(alloc),
         }
     }
 
-    /// Creates an empty list with that room.
-    pub(crate) fn with_room(alloc: Global, room: Room) -> Result<Builder, AllocError>
+    /// Creates an empty list with room for that many nodes.
+    pub(crate) fn with_room(alloc: Global, room: usize) -> Result<Builder, AllocError>
         ensures list { IfOk result (λ builder. builder_view builder ≡ []) }
         ensures count { IfOk result (λ builder. vec_len builder.nodes ≡ 0) }
     {
         Ok(Builder {
-            nodes: Vec::with_capacity(alloc, room.nodes)?,
+            nodes: Vec::with_capacity(alloc, room)?,
             names: NameTable::new(alloc),
-            pairs: Vec::with_capacity(alloc, room.attrs)?,
         })
     }
 
     #[inline(always)]
     fn push(&mut self, node: FlatNode) -> Result<(), AllocError>
-        requires { is_node_given (builder_numbered self.old) node ≡ true }
+        requires { is_node_given self.old.names node ≡ true }
         ensures list { OnOk result (builder_view self.new
-            ≡ builder_view self.old ++ flat_node_view (builder_numbered self.old) node ∷ []) }
+            ≡ builder_view self.old ++ flat_node_view self.old.names node ∷ []) }
         ensures count { OnOk result (vec_len self.new.nodes ≡ vec_len self.old.nodes + 1) }
     {
         self.nodes.push(node)?;
         Ok(())
     }
 
-    fn numbered(&mut self, tag: HtmlTag, attrs: HtmlAttrs) -> Result<(u32, u32, u32), AllocError>
+    fn numbered(
+        &mut self,
+        alloc: Global,
+        tag: HtmlTag,
+        attrs: HtmlAttrs,
+    ) -> Result<(usize, Vec<(usize, String)>), AllocError>
         ensures numbers { IfOk result (λ numbers.
-            AreNumbersOf (builder_numbered self.new)
-            numbers.0 numbers.1 numbers.2 tag (attrs_view attrs)) }
+            AreNumbersOf self.new.names numbers.0 numbers.1.items tag (attrs_view attrs)) }
         ensures list { OnOk result (builder_view self.new ≡ builder_view self.old) }
         ensures count { OnOk result (vec_len self.new.nodes ≡ vec_len self.old.nodes) }
     {
         let number = self.names.insert_tag(tag)?;
-        let start = self.pairs.len();
-        push_attrs(&mut self.names, &mut self.pairs, attrs)?;
-        let end = self.pairs.len();
-        Ok((narrow(number)?, narrow(start)?, narrow(end)?))
+        let pairs = numbered_attrs(alloc, &mut self.names, attrs)?;
+        Ok((number, pairs))
     }
 
     /// Closes the element with that index: all nodes after it are inside it.
@@ -142,15 +141,14 @@ impl Builder {
         ensures count { OnOk result (vec_len self.new.nodes ≡ vec_len self.old.nodes + 1) }
     {
         let index = self.nodes.len();
-        let (tag, first_attr, past_attrs) = self.numbered(tag, attrs)?;
+        let (tag, attrs) = self.numbered(alloc, tag, attrs)?;
         self.push(FlatNode::Element(FlatElement {
             tag,
-            first_attr,
-            past_attrs,
-            pre_span: false,
+            attrs,
             css: Properties::new(alloc),
             parent: None,
             span,
+            pre_span: false,
             past: 0,
         }))?;
         Ok(index)
@@ -161,21 +159,17 @@ impl Builder {
         requires { IsSpelling 0 (builder_view self) }
         ensures { tree_nodes result ≡ spelled_nodes 0 (builder_view self) }
     {
-        let Builder {
-            nodes,
-            names,
-            pairs,
-        } = self;
-        FlatTree {
-            nodes,
-            names,
-            pairs,
-        }
+        let Builder { nodes, names } = self;
+        FlatTree { nodes, names }
     }
 
     /// Appends an element that is not closed yet, and returns its children.
     #[inline(never)]
-    fn open_element(&mut self, element: HtmlElement) -> Result<Vec<HtmlNode>, AllocError>
+    fn open_element(
+        &mut self,
+        alloc: Global,
+        element: HtmlElement,
+    ) -> Result<Vec<HtmlNode>, AllocError>
         ensures children { IfOk result (λ children. children ≡ element.children) }
         ensures list { OnOk result (builder_view self.new
             ≡ builder_view self.old ++ flat_element (element_view element).0 0 ∷ []) }
@@ -190,15 +184,14 @@ impl Builder {
             span,
             pre_span,
         } = element;
-        let (tag, first_attr, past_attrs) = self.numbered(tag, attrs)?;
+        let (tag, attrs) = self.numbered(alloc, tag, attrs)?;
         self.push(FlatNode::Element(FlatElement {
             tag,
-            first_attr,
-            past_attrs,
-            pre_span,
+            attrs,
             css,
             parent,
             span,
+            pre_span,
             past: 0,
         }))?;
         Ok(children)
@@ -245,7 +238,7 @@ impl Builder {
             ≡ vec_len self.old.nodes + 1 + nodes_count (element_view element).1) }
     {
         let index = self.nodes.len();
-        let children = self.open_element(element)?;
+        let children = self.open_element(alloc, element)?;
         self.move_nodes(alloc, children)?;
         self.close_element(index);
         Ok(())
@@ -310,43 +303,16 @@ impl Builder {
     }
 }
 
-/// The number of nodes and of attributes that a list has room for. It is only a hint for capacities.
-#[derive(Clone, Copy)]
-pub(crate) struct Room {
-    nodes: usize,
-    attrs: usize,
-}
-
-impl Room {
-    /// Returns the room for these nodes and all below them.
-    pub(crate) fn for_nodes(nodes: &[HtmlNode]) -> Room {
-        let mut room = Room { nodes: 0, attrs: 0 };
-        room.add_nodes(nodes);
-        room
-    }
-
-    /// Returns the room for an element and all nodes below it.
-    pub(crate) fn for_element(element: &HtmlElement) -> Room {
-        let mut room = Room { nodes: 1, attrs: 0 };
-        room.add_inside(element);
-        room
-    }
-
-    #[cycle(counting)]
-    fn add_nodes(&mut self, nodes: &[HtmlNode]) {
-        self.nodes = self.nodes.saturating_add(nodes.len());
-        for node in nodes {
-            if let HtmlNode::Element(element) = node {
-                self.add_inside(element);
-            }
+/// Returns the number of these nodes and all below them. It is only a hint for a list's capacity.
+#[cycle(counting)]
+pub(crate) fn nodes_room(nodes: &[HtmlNode]) -> usize {
+    let mut room = nodes.len();
+    for node in nodes {
+        if let HtmlNode::Element(element) = node {
+            room = room.saturating_add(nodes_room(&element.children));
         }
     }
-
-    #[cycle(counting)]
-    fn add_inside(&mut self, element: &HtmlElement) {
-        self.attrs = self.attrs.saturating_add(element.attrs.0.len());
-        self.add_nodes(&element.children);
-    }
+    room
 }
 
 #[inline(never)]

@@ -14,25 +14,23 @@ pub enum FlatNode {
     Element(FlatElement),
 }
 
-/// An element in the list of a `FlatTree`. Its names are numbers in the tree's name table, and the
-/// tree holds its attributes (`FlatTree::attrs`).
+/// An element in the list of a `FlatTree`. Its names are numbers in the tree's name table.
 #[derive(Debug, Drop)]
 pub struct FlatElement {
     /// The number of its tag.
-    pub tag: u32,
-    /// The index of its first attribute in the tree's list of attributes.
-    pub(crate) first_attr: u32,
-    /// The index after its last attribute there.
-    pub(crate) past_attrs: u32,
-    /// Whether each character of the texts directly in this element is written as a character
-    /// reference.
-    pub pre_span: bool,
+    pub tag: usize,
+    /// The attributes, in the order in which they are written: the number of each name, and the
+    /// value.
+    pub attrs: Vec<(usize, String)>,
     /// The css properties.
     pub css: Properties,
     /// The location of the element's parent in the source, if that stands elsewhere in the tree.
     pub parent: Option<Location>,
     /// Its place in the source.
     pub span: Span,
+    /// Whether each character of the texts directly in this element is written as a character
+    /// reference.
+    pub pre_span: bool,
     /// The index after the last node inside the element. The nodes inside it are those between the
     /// element and this index.
     pub past: usize,

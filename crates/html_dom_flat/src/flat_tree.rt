@@ -1,11 +1,11 @@
 ghost use Rattle.std.specs.Prelude.{◌≡◌, true};
 ghost use Rattle.std.proofs.Props.{props};
 ghost use Rattle.html_dom_flat.specs.Flat.{IsSpelling};
-ghost use Rattle.html_dom_flat.specs.FlatViews.{numbered, flat_nodes_view, are_given};
+ghost use Rattle.html_dom_flat.specs.FlatViews.{flat_nodes_view, are_given};
 ghost use Rattle.html_dom_flat.specs.Sets.{flat_node_is_set};
 
-use crate::builder::{Builder, Room};
-use crate::flat_node::{FlatElement, FlatNode};
+use crate::builder::{Builder, nodes_room};
+use crate::flat_node::FlatNode;
 use crate::moving::flat_tree_of;
 use crate::spelling::spelled_nodes;
 use html_dom_tree::{HtmlElement, HtmlNode};
@@ -28,18 +28,16 @@ use std::fmt;
 /// if let Some(FlatNode::Element(element)) = tree.nodes().first() {
 ///     assert_eq!(rt; element.past, 2); // the index after the last node inside it
 ///     let names = tree.names();
-///     let number = element.tag as usize;
-///     assert!(rt; number < names.tags());
-///     assert!(rt; *names.tag_at(number) == tag::p);
+///     assert!(rt; element.tag < names.tags());
+///     assert!(rt; *names.tag_at(element.tag) == tag::p);
 /// }
 /// ```
 #[derive(Drop)]
 pub struct FlatTree {
     pub(crate) nodes: Vec<FlatNode>,
     pub(crate) names: NameTable,
-    pub(crate) pairs: Vec<(usize, String)>,
-    ghost given: { are_given (numbered names pairs.items) nodes.items ≡ true },
-    ghost spells: { let list = flat_nodes_view (numbered names pairs.items) nodes.items in
+    ghost given: { are_given names nodes.items ≡ true },
+    ghost spells: { let list = flat_nodes_view names nodes.items in
         IsSpelling 0 list } by { Prim.hlevel (props, flat_node_is_set) },
 }
 
@@ -47,8 +45,7 @@ impl FlatTree {
     ghost use Rattle.std.specs.Prelude.{IfOk};
     ghost use Rattle.html_dom_tree.specs.Tree.{node, none, element_node};
     ghost use Rattle.html_dom_tree.specs.Views.{element_view, nodes_view};
-    ghost use Rattle.html_dom_flat.specs.FlatTrees.{tree_numbered, tree_nodes, IsListOf};
-    ghost use Rattle.html_dom_flat.specs.FlatViews.{element_pairs, is_given};
+    ghost use Rattle.html_dom_flat.specs.FlatTrees.{tree_nodes, IsListOf};
 
     /// Creates the list of these nodes and all below them, which are copied. Fails only if an
     /// allocation fails.
@@ -57,7 +54,7 @@ impl FlatTree {
     pub fn from_nodes(alloc: Global, nodes: &[HtmlNode]) -> Result<FlatTree, AllocError>
         ensures { IfOk result (λ tree. tree_nodes tree ≡ nodes_view nodes.now) }
     {
-        let mut builder = Builder::with_room(alloc, Room::for_nodes(nodes))?;
+        let mut builder = Builder::with_room(alloc, nodes_room(nodes))?;
         builder.push_nodes(alloc, nodes)?;
         Ok(builder.into_tree())
     }
@@ -87,32 +84,13 @@ impl FlatTree {
         &self.names
     }
 
-    /// Returns the attributes of an element of this tree, in the order in which they are written:
-    /// the number of each name, and the value. Of an element of another tree, it may return
-    /// attributes of other elements, or none.
-    pub fn attrs(&self, element: &FlatElement) -> &[(usize, String)]
-        ensures { is_given (tree_numbered self.now) element.now ≡ true →
-            result.now ≡ element_pairs self.now.pairs.items element.now }
-    {
-        let range = element.first_attr as usize..element.past_attrs as usize;
-        self.pairs.get(range).unwrap_or(&[])
-    }
-
-    #[inline(always)]
-    pub(crate) fn pairs_of(&self, element: &FlatElement) -> &[(usize, String)]
-        requires { is_given (tree_numbered self.now) element.now ≡ true }
-        ensures { result.now ≡ element_pairs self.now.pairs.items element.now }
-    {
-        &self.pairs[element.first_attr as usize..element.past_attrs as usize]
-    }
-
     /// Returns a copy of the nodes from which the list was made. Fails only if an allocation fails.
     ///
     /// Cost: grows with the number of nodes and the length of their texts.
     pub fn to_nodes(&self) -> Result<Vec<HtmlNode>, AllocError>
         ensures { IfOk result (λ nodes. nodes_view nodes.items ≡ tree_nodes self.now) }
     {
-        spelled_nodes(*self.nodes.allocator(), self, &self.nodes)
+        spelled_nodes(*self.nodes.allocator(), &self.names, &self.nodes)
     }
 }
 

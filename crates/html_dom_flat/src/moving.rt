@@ -5,7 +5,7 @@ ghost use Rattle.html_dom_tree.specs.Tree.{node, none, element_node};
 ghost use Rattle.html_dom_tree.specs.Views.{element_view};
 ghost use Rattle.html_dom_flat.specs.FlatTrees.{tree_nodes};
 
-use crate::builder::{Builder, Room};
+use crate::builder::{Builder, nodes_room};
 use crate::flat_tree::FlatTree;
 use html_dom_tree::{HtmlElement, HtmlNode};
 use std::alloc::{AllocError, Global};
@@ -22,7 +22,8 @@ pub fn flat_tree_of(alloc: Global, element: HtmlElement) -> Result<FlatTree, All
     ensures { let e = element_view element in
         IfOk result (λ tree. tree_nodes tree ≡ node (element_node e.0 e.1) none) }
 {
-    let mut builder = Builder::with_room(alloc, Room::for_element(&element))?;
+    let room = nodes_room(&element.children).saturating_add(1);
+    let mut builder = Builder::with_room(alloc, room)?;
     builder.move_element(alloc, element)?;
     Ok(builder.into_tree())
 }

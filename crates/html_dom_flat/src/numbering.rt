@@ -1,42 +1,30 @@
-//! Numbers of 32 bits, attributes with numbers for names, and the index at which an element ends.
+//! Attributes with numbers for names, and the index at which an element ends.
 
-ghost use Rattle.std.specs.Prelude.{◌≡◌, IfOk, OnOk};
+ghost use Rattle.std.specs.Prelude.{◌≡◌, IfOk};
 ghost use Rattle.html_dom_tree.specs.Views.{attrs_view};
-ghost use Rattle.html_dom_flat.specs.FlatViews.{numbered};
-ghost use Rattle.html_dom_flat.specs.Numbering.{Grows, ArePushed, node_with_past};
+ghost use Rattle.html_dom_flat.specs.Numbering.{Grows, ArePairsOf, node_with_past};
 
 use crate::flat_node::FlatNode;
 use html_dom_tree::HtmlAttrs;
 use html_names::NameTable;
-use std::alloc::AllocError;
+use std::alloc::{AllocError, Global};
 
-/// Returns the number in 32 bits. A number that does not fit is refused like an allocation.
-pub(crate) fn narrow(number: usize) -> Result<u32, AllocError>
-    ensures { IfOk result (λ narrow. narrow ≡ number) }
-{
-    if number > u32::MAX as usize {
-        return Err(AllocError);
-    }
-    Ok(number as u32)
-}
-
-pub(crate) fn push_attrs(
+pub(crate) fn numbered_attrs(
+    alloc: Global,
     names: &mut NameTable,
-    pairs: &mut Vec<(usize, String)>,
     attrs: HtmlAttrs,
-) -> Result<(), AllocError>
-    ensures grows { Grows (numbered names.old pairs.old.items)
-        (numbered names.new pairs.new.items) }
-    ensures pushed { OnOk result (ArePushed (numbered names.old pairs.old.items)
-        (numbered names.new pairs.new.items) (attrs_view attrs)) }
+) -> Result<Vec<(usize, String)>, AllocError>
+    ensures grows { Grows names.old names.new }
+    ensures pairs { IfOk result (λ pairs. ArePairsOf names.new pairs.items (attrs_view attrs)) }
 {
     if attrs.0.is_empty() {
-        return Ok(());
+        return Ok(Vec::new(alloc));
     }
+    let mut pairs = Vec::with_capacity(alloc, attrs.0.len())?;
     for (attr, value) in attrs.0 {
         pairs.push((names.insert_attr(attr)?, value))?;
     }
-    Ok(())
+    Ok(pairs)
 }
 
 pub(crate) fn set_past(node: &mut FlatNode, past: usize)

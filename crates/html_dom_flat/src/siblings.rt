@@ -2,9 +2,9 @@
 
 ghost use Rattle.std.specs.Prelude.{◌≡◌, ◌+◌, ◌<◌, ◌^◌, true, length};
 ghost use Rattle.std.proofs.Props.{props};
+ghost use Rattle.html_names.specs.NameTables.{NamesView};
 ghost use Rattle.html_dom_flat.specs.Flat.{IsSpelling, past_of};
-ghost use Rattle.html_dom_flat.specs.FlatTrees.{tree_numbered};
-ghost use Rattle.html_dom_flat.specs.FlatViews.{Numbered, flat_node_view, flat_nodes_view, are_given, is_given};
+ghost use Rattle.html_dom_flat.specs.FlatViews.{flat_node_view, flat_nodes_view, are_given, is_given};
 ghost use Rattle.html_dom_flat.specs.Sets.{flat_node_is_set};
 
 use crate::flat_node::{FlatElement, FlatNode};
@@ -15,15 +15,15 @@ use html_names::{HtmlTag, NameTable};
 /// Consecutive siblings in a flat tree, with everything inside them.
 #[derive(Clone, Copy)]
 pub struct Siblings<'a> {
-    /// The tree in which they stand.
-    pub(crate) tree: &'a FlatTree,
+    /// The name table to which the numbers in the nodes refer.
+    pub(crate) names: &'a NameTable,
     /// The nodes at all depths.
     pub(crate) nodes: &'a [FlatNode],
     /// The index of the first node in the tree's list.
     pub(crate) first: usize,
     ghost fits: { first + length nodes.now < 2 ^ 64 },
-    ghost given: { are_given (tree_numbered tree.now) nodes.now ≡ true },
-    ghost spells: { let list = flat_nodes_view (tree_numbered tree.now) nodes.now in
+    ghost given: { are_given names.now nodes.now ≡ true },
+    ghost spells: { let list = flat_nodes_view names.now nodes.now in
         IsSpelling first list } by { Prim.hlevel (props, flat_node_is_set) },
 }
 
@@ -47,7 +47,7 @@ pub struct Element<'a> {
     pub flat: &'a FlatElement,
     /// Its children.
     pub children: Siblings<'a>,
-    ghost given: { is_given (tree_numbered children.tree.now) flat.now ≡ true },
+    ghost given: { is_given children.names.now flat.now ≡ true },
 }
 
 impl<'a> Siblings<'a> {
@@ -59,7 +59,7 @@ impl<'a> Siblings<'a> {
         ensures { siblings_view result ≡ tree_nodes tree.now }
     {
         Siblings {
-            tree,
+            names: &tree.names,
             nodes: &tree.nodes,
             first: 0,
         }
@@ -79,12 +79,12 @@ impl<'a> Siblings<'a> {
         let past = past_of(flat, next);
         let (inside, after) = rest.split_at(past - next);
         let children = Siblings {
-            tree: self.tree,
+            names: self.names,
             nodes: inside,
             first: next,
         };
         let others = Siblings {
-            tree: self.tree,
+            names: self.names,
             nodes: after,
             first: past,
         };
@@ -98,9 +98,9 @@ impl<'a> Node<'a> {
 
     #[inline(always)]
     fn new(flat: &'a FlatNode, children: Siblings<'a>) -> Node<'a>
-        requires { is_node_given (tree_numbered children.tree.now) flat.now ≡ true }
+        requires { is_node_given children.names.now flat.now ≡ true }
         ensures { node_view result ≡ node_with
-            (flat_node_view (tree_numbered children.entry.tree.now) flat.now)
+            (flat_node_view children.entry.names.now flat.now)
             (siblings_view children.entry) }
     {
         match flat {
@@ -121,9 +121,9 @@ impl<'a> Element<'a> {
 
     /// Returns the name table to which the numbers of its names refer.
     pub fn names(&self) -> &'a NameTable
-        ensures { result.now ≡ self.now.children.tree.now.names }
+        ensures { result.now ≡ self.now.children.names.now }
     {
-        &self.children.tree.names
+        self.children.names
     }
 
     /// Returns the tag.
@@ -136,30 +136,30 @@ impl<'a> Element<'a> {
     /// Returns the number of the tag.
     #[inline(always)]
     pub fn tag_number(&self) -> usize
-        ensures given { result < length self.now.children.tree.now.names.tags }
-        ensures same { name_at self.now.children.tree.now.names.tags result
+        ensures given { result < length self.now.children.names.now.tags }
+        ensures same { name_at self.now.children.names.now.tags result
             ≡ (head_view self.now).name }
     {
-        self.flat.tag as usize
+        self.flat.tag
     }
 
     /// Returns the attributes, in the order in which they are written: the number of each name, and
     /// the value.
     #[inline(always)]
     pub fn attrs(&self) -> &'a [(usize, String)]
-        ensures given { list_all (is_pair_given self.now.children.tree.now.names) result.now
+        ensures given { list_all (is_pair_given self.now.children.names.now) result.now
             ≡ true }
-        ensures same { map (flat_pair self.now.children.tree.now.names) result.now
+        ensures same { map (flat_pair self.now.children.names.now) result.now
             ≡ (head_view self.now).attrs }
     {
-        self.children.tree.pairs_of(self.flat)
+        &self.flat.attrs
     }
 }
 
 /// Returns the index after a node and everything inside it, given the index `next` after the node
 /// alone.
 fn past_of(flat: &FlatNode, next: usize) -> usize
-    ensures { (numbers : Numbered) → result ≡ past_of next (flat_node_view numbers flat.now) }
+    ensures { (names : NamesView) → result ≡ past_of next (flat_node_view names flat.now) }
 {
     match flat {
         FlatNode::Element(element) => element.past,

@@ -4,12 +4,10 @@ ghost use Rattle.std.specs.Prelude.{◌≡◌, true, IfOk, OnOk, map, option_map
 ghost use Rattle.std.specs.List.{list_all};
 ghost use Rattle.html_dom_tree.specs.Views.{attrs_view, node_view, element_view, nodes_view};
 ghost use Rattle.html_dom_flat.specs.Flat.{spelled_nodes};
-ghost use Rattle.html_dom_flat.specs.FlatTrees.{tree_numbered};
 ghost use Rattle.html_dom_flat.specs.FlatViews.{flat_pair, flat_head, flat_node_view, flat_nodes_view, is_pair_given, is_given, is_node_given, are_given};
 ghost use Rattle.html_dom_flat.specs.Stacks.{stack_view, is_top_before, stacked_before, rest_after, IsPopped, made_of, list_stack};
 
 use crate::flat_node::{FlatElement, FlatNode};
-use crate::flat_tree::FlatTree;
 use html_dom_tree::{HtmlAttrs, HtmlElement, HtmlNode};
 use html_names::NameTable;
 use std::alloc::{AllocError, Global};
@@ -31,18 +29,17 @@ fn named_attrs(
 
 fn named_element(
     alloc: Global,
-    tree: &FlatTree,
+    names: &NameTable,
     element: &FlatElement,
     children: Vec<HtmlNode>,
 ) -> Result<HtmlElement, AllocError>
-    requires { is_given (tree_numbered tree.now) element.now ≡ true }
+    requires { is_given names.now element.now ≡ true }
     ensures { IfOk result (λ made.
-        element_view made
-        ≡ (flat_head (tree_numbered tree.now) element.now, nodes_view children.items)) }
+        element_view made ≡ (flat_head names.now element.now, nodes_view children.items)) }
 {
     Ok(HtmlElement {
-        tag: tree.names.tag_at(element.tag as usize).try_clone()?,
-        attrs: named_attrs(alloc, &tree.names, tree.pairs_of(element))?,
+        tag: names.tag_at(element.tag).try_clone()?,
+        attrs: named_attrs(alloc, names, &element.attrs)?,
         css: element.css.try_clone()?,
         children,
         parent: element.parent,
@@ -92,13 +89,13 @@ fn take_before(
 /// follow it.
 fn made_node(
     alloc: Global,
-    tree: &FlatTree,
+    names: &NameTable,
     node: &FlatNode,
     stack: &mut Vec<(usize, HtmlNode)>,
 ) -> Result<HtmlNode, AllocError>
-    requires { is_node_given (tree_numbered tree.now) node.now ≡ true }
+    requires { is_node_given names.now node.now ≡ true }
     ensures { IfOk result (λ made. (node_view made, stack_view stack.new.items)
-        ≡ made_of (flat_node_view (tree_numbered tree.now) node.now) (stack_view stack.old.items)) }
+        ≡ made_of (flat_node_view names.now node.now) (stack_view stack.old.items)) }
 {
     match node {
         FlatNode::Tag(tag) => Ok(HtmlNode::Tag(tag.try_clone()?)),
@@ -106,26 +103,25 @@ fn made_node(
         FlatNode::Frame(frame) => Ok(HtmlNode::Frame(frame.try_clone()?)),
         FlatNode::Element(element) => {
             let children = take_before(alloc, stack, element.past)?;
-            Ok(HtmlNode::Element(named_element(alloc, tree, element, children)?))
+            Ok(HtmlNode::Element(named_element(alloc, names, element, children)?))
         }
     }
 }
 
 fn stacked(
     alloc: Global,
-    tree: &FlatTree,
+    names: &NameTable,
     nodes: &[FlatNode],
 ) -> Result<Vec<(usize, HtmlNode)>, AllocError>
-    requires { are_given (tree_numbered tree.now) nodes.now ≡ true }
+    requires { are_given names.now nodes.now ≡ true }
     ensures { IfOk result (λ stack.
-        stack_view stack.items
-        ≡ list_stack 0 (flat_nodes_view (tree_numbered tree.now) nodes.now)) }
+        stack_view stack.items ≡ list_stack 0 (flat_nodes_view names.now nodes.now)) }
 {
     let mut stack = Vec::new(alloc);
     let mut index = nodes.len();
     while index > 0 {
         index -= 1;
-        let node = made_node(alloc, tree, &nodes[index], &mut stack)?;
+        let node = made_node(alloc, names, &nodes[index], &mut stack)?;
         stack.push((index, node))?;
     }
     Ok(stack)
@@ -133,15 +129,14 @@ fn stacked(
 
 pub(crate) fn spelled_nodes(
     alloc: Global,
-    tree: &FlatTree,
+    names: &NameTable,
     nodes: &[FlatNode],
 ) -> Result<Vec<HtmlNode>, AllocError>
-    requires { are_given (tree_numbered tree.now) nodes.now ≡ true }
+    requires { are_given names.now nodes.now ≡ true }
     ensures { IfOk result (λ made.
-        nodes_view made.items
-        ≡ spelled_nodes 0 (flat_nodes_view (tree_numbered tree.now) nodes.now)) }
+        nodes_view made.items ≡ spelled_nodes 0 (flat_nodes_view names.now nodes.now)) }
 {
-    let mut stack = stacked(alloc, tree, nodes)?;
+    let mut stack = stacked(alloc, names, nodes)?;
     let mut made = Vec::new(alloc);
     while let Some((_, node)) = stack.pop() {
         made.push(node)?;

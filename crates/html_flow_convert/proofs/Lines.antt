@@ -4,9 +4,10 @@ use Rattle.std.proofs.lemmas.List.{drop-map, drop_more, drop_all, drop-drop}
 use Rattle.std.proofs.Math.Seq.{drop-append_seam}
 use Rattle.std.specs.List.{list_all}
 use Rattle.html_names.specs.Characters.{is_ignorable}
+use Rattle.html_names.specs.NameTables.{NamesView}
 use Rattle.html_dom_tree.specs.Tree.{NodeView, tag_node, text_node, element_node, frame_node, NodesView, none, node}
 use Rattle.html_dom_flat.specs.Flat.{FlatNodeView, flat_tag, flat_text, flat_frame, flat_element, node_count, nodes_count, node_flat, nodes_flat}
-use Rattle.html_dom_flat.specs.FlatViews.{Numbered, flat_node_view, flat_nodes_view}
+use Rattle.html_dom_flat.specs.FlatViews.{flat_node_view, flat_nodes_view}
 use Rattle.html_dom_flat.specs.declared.flat_node.FlatNode.{FlatNode}
 use Rattle.html_dom_flat.specs.declared.flat_node.FlatNode.TheVariants.{Element}
 use Rattle.html_dom_flat.proofs.Flats.{joined, length_all}
@@ -234,48 +235,48 @@ nothing_stands place (node n ns) e = absurd (no_list place n ns e)
 
 -- the same over the nodes of the program
 
-next_is : (numbers : Numbered) (place : ℕ) (n : FlatNode) (l : Look) →
-    l ≡ flat_look (flat_node_view numbers n) →
-    next_place place l n ≡ place_next place (flat_node_view numbers n)
-next_is numbers place (Element e) l is =
+next_is : (names : NamesView) (place : ℕ) (n : FlatNode) (l : Look) →
+    l ≡ flat_look (flat_node_view names n) →
+    next_place place l n ≡ place_next place (flat_node_view names n)
+next_is names place (Element e) l is =
     ap (λ (x : Look). if is_inside x then place + 1 else e.past) is
-next_is numbers place n l is =
+next_is names place n l is =
     ap (λ (x : Look). if is_inside x then place + 1 else place + 1) is
 
-module _ (numbers : Numbered) (nodes : List FlatNode) (whole : NodesView) where
+module _ (names : NamesView) (nodes : List FlatNode) (whole : NodesView) where
   abbrev left : ℕ → List FlatNodeView
-  left place = flat_nodes_view numbers (drop place nodes)
+  left place = flat_nodes_view names (drop place nodes)
 
   left_first : (place : ℕ) (n : FlatNode) → place < length nodes → n ≡ get_or nodes place n →
-      left place ≡ flat_node_view numbers n ∷ left (place + 1)
+      left place ≡ flat_node_view names n ∷ left (place + 1)
   left_first place n below is =
-      ap (flat_nodes_view numbers) (drop_more nodes place n below)
-      ∙ ap (λ m. flat_node_view numbers m ∷ left (place + 1)) (sym is)
+      ap (flat_nodes_view names) (drop_more nodes place n below)
+      ∙ ap (λ m. flat_node_view names m ∷ left (place + 1)) (sym is)
 
   left_on : (place next : ℕ) → place + 1 ≤ next →
       drop (next - (place + 1)) (left (place + 1)) ≡ left next
   left_on place next later =
       let count : place + 1 + (next - (place + 1)) ≡ next = omega (arith, later) in
-      drop-map (flat_node_view numbers) (next - (place + 1)) (drop (place + 1) nodes)
-      ∙ (ap (flat_nodes_view numbers) (drop-drop (next - (place + 1)) (place + 1) nodes)
+      drop-map (flat_node_view names) (next - (place + 1)) (drop (place + 1) nodes)
+      ∙ (ap (flat_nodes_view names) (drop-drop (next - (place + 1)) (place + 1) nodes)
       ∙ ap left count)
 
   pub next_at : (place : ℕ) (n : FlatNode) (l : Last) (bare : List Bool) (turns : ℕ) →
       place < length nodes → n ≡ get_or nodes place n → (s : Stands whole place (left place) l bare turns) →
-      Next place (flat_node_view numbers n) (left (place + 1)) s.rest
+      Next place (flat_node_view names n) (left (place + 1)) s.rest
   next_at place n l bare turns below is s =
-      next_of s.rest place (flat_node_view numbers n) (left (place + 1))
+      next_of s.rest place (flat_node_view names n) (left (place + 1))
       (sym (left_first place n below is) ∙ s.list_is)
 
   pub stands_next : (place next : ℕ) (n : FlatNode) (one : Look) (l : Last) (bare new_bare : List Bool)
       (turns : ℕ) → place < length nodes → n ≡ get_or nodes place n →
-      one ≡ flat_look (flat_node_view numbers n) → next ≡ next_place place one n →
+      one ≡ flat_look (flat_node_view names n) → next ≡ next_place place one n →
       new_bare ≡ bare ++ answer_before l one → Stands whole place (left place) l bare turns →
       (place < next) × Stands whole next (left next) (last_after l one) new_bare (turns + 1)
   stands_next place next n one l bare new_bare turns below is look_is next_are bare_is s =
-      let f = flat_node_view numbers n in
+      let f = flat_node_view names n in
       let on = next_at place n l bare turns below is s in
-      let to : next ≡ place_next place f = next_are ∙ next_is numbers place n one look_is in
+      let to : next ≡ place_next place f = next_are ∙ next_is names place n one look_is in
       let things : nodes_things s.rest ≡ seen one (nodes_things on.left)
       = on.things ∙ ap (λ x. seen x (nodes_things on.left)) (sym look_is) in
       let few = s.few in
@@ -304,7 +305,7 @@ module _ (numbers : Numbered) (nodes : List FlatNode) (whole : NodesView) where
   unfolding nodes_things nodes_turns
   stands_end place l bare new_bare turns beyond bare_is s =
       let empty : s.rest ≡ none = nothing_stands place s.rest
-      (sym (ap (flat_nodes_view numbers) (drop_all place nodes beyond)) ∙ s.list_is) in
+      (sym (ap (flat_nodes_view names) (drop_all place nodes beyond)) ∙ s.list_is) in
       let nothing = ap nodes_turns empty in
       let count = s.count in (
         bare_is ∙ (ap (λ bs. bare ++ bs) (answers_end l ∙ ap (λ ns. answers_left l (nodes_things ns)) (sym empty))

@@ -2,7 +2,7 @@
 
 ghost use Rattle.std.specs.Prelude.{◌≡◌, ◌+◌, ◌<◌, ◌≤◌, ◌^◌, true, IfOk};
 ghost use Rattle.html_dom_flat.specs.Flat.{nodes_count};
-ghost use Rattle.html_dom_flat.specs.FlatTrees.{tree_numbered, tree_nodes};
+ghost use Rattle.html_dom_flat.specs.FlatTrees.{tree_nodes};
 ghost use Rattle.html_dom_flat.specs.FlatViews.{flat_node_view, is_node_given};
 ghost use Rattle.html_flow_convert.specs.BareSpaces.{bare_spaces, nodes_turns};
 ghost use Rattle.html_flow_convert.specs.Lines.{place_past, next_place};
@@ -25,14 +25,14 @@ pub struct Bareness {
 }
 
 fn flat_look(tree: &FlatTree, node: &FlatNode) -> Look
-    requires { is_node_given (tree_numbered tree.now) node.now ≡ true }
-    ensures { result ≡ flat_look (flat_node_view (tree_numbered tree.now) node.now) }
+    requires { is_node_given tree.now.names node.now ≡ true }
+    ensures { result ≡ flat_look (flat_node_view tree.now.names node.now) }
 {
     match node {
         FlatNode::Tag(_) => Look::Nothing,
         FlatNode::Text(text, _) => text_look(text.as_str()),
         FlatNode::Element(element) => {
-            let tag = tree.names().tag_at(element.tag as usize);
+            let tag = tree.names().tag_at(element.tag);
             element_look(tag, &element.css, element.pre_span)
         }
         FlatNode::Frame(_) => Look::Visible,

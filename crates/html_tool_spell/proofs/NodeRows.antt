@@ -6,7 +6,7 @@ use Rattle.serde_json.specs.View.{view, items_view}
 use Rattle.serde_json.specs.declared.value.Value.{Value}
 use Rattle.std.proofs.lemmas.List.{length-map}
 use Rattle.html_dom_flat.proofs.Closings.{closed_element}
-use Rattle.html_dom_flat.specs.Builders.{builder_numbered, builder_view, built_count}
+use Rattle.html_dom_flat.specs.Builders.{builder_view, built_count}
 use Rattle.html_dom_flat.specs.ClosedElements.{closed_at}
 use Rattle.html_dom_flat.specs.Flat.{flat_element, node_flat, nodes_count, nodes_flat}
 use Rattle.html_dom_flat.specs.FlatViews.{flat_node_view}
@@ -215,5 +215,5 @@ unfolding node_flat
 element_added old opened filled closed h ns index at opens one fills ends closes =
     closed_element (builder_view old) (builder_view opened) (builder_view filled)
     (builder_view closed) h ns (built_count old) (built_count filled)
-    (old.nodes.ok.0 ∙ sym (length-map old.nodes.items (flat_node_view (builder_numbered old))))
+    (old.nodes.ok.0 ∙ sym (length-map old.nodes.items (flat_node_view old.names)))
     opens (rw one at fills) (ends ∙ ap (λ k. k + nodes_count ns) one) (rw at at closes)

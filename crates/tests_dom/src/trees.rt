@@ -53,21 +53,21 @@ fn element<'a>(rt: &impl Tester, tree: &'a FlatTree, place: usize) -> &'a FlatEl
 }
 
 /// The list ends before the text, the first item before the second, and the second one at once.
-/// Names are numbered in their order, and a repeated one keeps its number.
+/// Names are numbered in their order, and a repeated one keeps its number. A list of attributes has
+/// room for these alone.
 #[test]
 fn flat_trees(rt: HostRuntime) -> TestResult {
     let nodes = sample(rt.alloc())?;
     let tree = FlatTree::from_nodes(rt.alloc(), &nodes)?;
-    for (place, past) in [(0, 4), (1, 3), (3, 4)] {
-        assert_number(element(&rt, &tree, place).past, past)?;
+    for (place, tag, attrs, past) in [(0, 0, 2, 4), (1, 1, 1, 3), (3, 2, 0, 4)] {
+        let element = element(&rt, &tree, place);
+        assert_number(element.tag, tag)?;
+        assert_number(element.attrs.len(), attrs)?;
+        assert_number(element.attrs.capacity(), attrs)?;
+        assert_number(element.past, past)?;
     }
-    for (place, count) in [(0, 2), (1, 1), (3, 0)] {
-        assert_number(tree.attrs(element(&rt, &tree, place)).len(), count)?;
-    }
-    let class = tree
-        .attrs(element(&rt, &tree, 1))
-        .first()
-        .expect(&rt, "an attribute");
+    let item = element(&rt, &tree, 1);
+    let class = item.attrs.first().expect(&rt, "an attribute");
     assert!(rt; class.0 == 0 && class.1.as_str() == "c");
     assert_number(tree.names().tags(), 3)?;
     assert_number(tree.names().attrs(), 2)?;

@@ -1,7 +1,6 @@
 use Rattle.std.proofs.Common.{◌≡◌, [], ◌++◌, ap, sym, ◌∙◌, append-nil, map, arith}
 use Rattle.std.proofs.lemmas.Grind.{common_steps}
 use Rattle.html_dom_tree.specs.Views.{node_view, nodes_of}
-use Rattle.html_dom_flat.specs.FlatTrees.{tree_numbered}
 use Rattle.html_dom_flat.specs.FlatViews.{flat_nodes_view}
 use Rattle.html_dom_flat.specs.Stacks.{indexed_node, stack_view, stack_nodes}
 use Rattle.html_dom_flat.proofs.Stacking.{stack_spells}
@@ -15,4 +14,4 @@ returns c =
     ∙ (ap (λ stack. made ++ map indexed_node (stack_view stack)) (sym empty)
     ∙ c.loop-node.invariant) in
     ap nodes_of all ∙ (ap stack_nodes c.in_ok-stack.ensures
-    ∙ stack_spells 0 (flat_nodes_view (tree_numbered c.args.tree.now) c.args.nodes.now))
+    ∙ stack_spells 0 (flat_nodes_view c.args.names.now c.args.nodes.now))

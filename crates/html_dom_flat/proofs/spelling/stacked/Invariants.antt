@@ -1,5 +1,4 @@
 use Rattle.std.proofs.Common.{◌≡◌, ◌≤◌, length, drop}
-use Rattle.html_dom_flat.specs.FlatTrees.{tree_numbered}
 use Rattle.html_dom_flat.specs.FlatViews.{flat_nodes_view}
 use Rattle.html_dom_flat.specs.Stacks.{stack_view, list_stack}
 use Rattle.html_dom_flat.proofs.spelling.stacked.Given as goal
@@ -8,7 +7,7 @@ abbrev pub invariant-loop-index : goal.invariant-loop-index
 invariant-loop-index l = record {
   within : l.index ≤ length l.nodes;
   stack : stack_view l.stack.items
-      ≡ list_stack l.index (drop l.index (flat_nodes_view (tree_numbered l.tree) l.nodes));
+      ≡ list_stack l.index (drop l.index (flat_nodes_view l.names l.nodes));
 }
 
 abbrev pub decreases-loop-index : goal.decreases-loop-index

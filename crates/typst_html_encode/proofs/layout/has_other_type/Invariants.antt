@@ -5,6 +5,6 @@ use Rattle.typst_html_encode.proofs.layout.has_other_type.Given as goal
 
 abbrev pub invariant-loop-number : goal.invariant-loop-number
 invariant-loop-number l =
-    let pair = flat_pair l.element.children.tree.now.names in
+    let pair = flat_pair l.element.children.names.now in
     has_other_type (map pair (drop l.number-index l.number-items))
     ≡ has_other_type (map pair l.number-items)

@@ -5,6 +5,6 @@ use Rattle.typst_html_encode.proofs.layout.shows_as_block.Given as goal
 
 abbrev pub invariant-loop-number : goal.invariant-loop-number
 invariant-loop-number l =
-    let pair = flat_pair l.element.children.tree.now.names in
+    let pair = flat_pair l.element.children.names.now in
     first (map pair (drop l.number-index l.number-items)) (codes "display")
     ≡ first (map pair l.number-items) (codes "display")

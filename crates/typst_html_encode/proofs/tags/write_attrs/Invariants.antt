@@ -7,7 +7,7 @@ use Rattle.typst_html_encode.proofs.tags.write_attrs.Given as goal
 
 abbrev pub invariant-loop-number : goal.invariant-loop-number
 invariant-loop-number l =
-    let names = l.element.children.tree.now.names in
+    let names = l.element.children.names.now in
     let span = l.element.flat.now.span.0 in
     let left = map (flat_pair names) (drop l.number-index l.number-items) in
     let all = map (flat_pair names) l.number-items in

@@ -6,7 +6,7 @@ use Rattle.html_dom_tree.proofs.node.HtmlNode.TheLaws.{the_size}
 use Rattle.html_dom_tree.specs.Views.{element_view}
 use Rattle.html_dom_flat.specs.Flat.{nodes_count, nodes_flat}
 use Rattle.html_dom_flat.specs.FlatViews.{flat_node_view}
-use Rattle.html_dom_flat.specs.Builders.{builder_numbered, builder_view}
+use Rattle.html_dom_flat.specs.Builders.{builder_view}
 use Rattle.html_dom_flat.specs.ClosedElements.{closed_at}
 use Rattle.html_dom_flat.proofs.Closings.{closed_element}
 use Rattle.html_dom_flat.proofs.Reversed.{most_reversed, next_reversed}
@@ -29,7 +29,7 @@ move_element-returns-clause-list t c =
     = grind (arith, common_steps) in
     closed_element (builder_view old) (builder_view opened) (builder_view filled)
     (builder_view c.close_element.new.self) e.0 e.1 (vec_len old.nodes) (vec_len filled.nodes)
-    (old.nodes.ok.0 ∙ sym (length-map old.nodes.items (flat_node_view (builder_numbered old))))
+    (old.nodes.ok.0 ∙ sym (length-map old.nodes.items (flat_node_view old.names)))
     c.in_ok-children.ensures.list fills ends closes
 
 pub move_many-loop-node-init : goal.move_many-loop-node-init

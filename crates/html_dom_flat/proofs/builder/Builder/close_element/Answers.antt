@@ -1,5 +1,4 @@
 use Rattle.std.proofs.Common.{rules, ◌≡◌, ◌<◌, ap, ◌∙◌, vec_len, length, get_or}
-use Rattle.html_dom_flat.specs.Builders.{builder_numbered}
 use Rattle.html_dom_flat.specs.Numbering.{node_with_past}
 use Rattle.html_dom_flat.proofs.Closings.{given_closed, closed}
 use Rattle.html_dom_flat.proofs.builder.Builder.close_element.Goals as goal
@@ -12,7 +11,7 @@ invariant_of-self c =
     let set : c.set_past.new.node ≡ node_with_past c.len-past.result (get_or old.nodes.items index node)
     = c.set_past.ensures ∙ ap (node_with_past c.len-past.result) c.index_mut.ensures.value in
     record {
-      given = given_closed (builder_numbered old) old.nodes.items index c.len-past.result
+      given = given_closed old.names old.nodes.items index c.len-past.result
           c.set_past.new.node node set old.given;
     }
 
@@ -25,5 +24,4 @@ returns-clause-list c =
     let set : c.set_past.new.node ≡ node_with_past (vec_len old.nodes) (get_or old.nodes.items index node)
     = c.set_past.ensures ∙ rw past (ap (node_with_past (vec_len old.nodes)) c.index_mut.ensures.value) in
     let below : index < length old.nodes.items = rw (← old.nodes.ok.0) c.requires in
-    closed (builder_numbered old) old.nodes.items index (vec_len old.nodes) c.set_past.new.node node
-    set below
+    closed old.names old.nodes.items index (vec_len old.nodes) c.set_past.new.node node set below

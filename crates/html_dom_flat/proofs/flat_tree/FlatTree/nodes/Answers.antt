@@ -1,7 +1,7 @@
 use Rattle.std.proofs.Common.{ap, sym, ◌∙◌, length}
 use Rattle.std.proofs.lemmas.List.{length-map}
 use Rattle.html_dom_flat.specs.FlatViews.{flat_node_view}
-use Rattle.html_dom_flat.specs.FlatTrees.{tree_numbered, tree_nodes}
+use Rattle.html_dom_flat.specs.FlatTrees.{tree_nodes}
 use Rattle.html_dom_flat.proofs.Flats.{length_all}
 use Rattle.html_dom_flat.proofs.flat_tree.FlatTree.nodes.Goals as goal
 
@@ -11,6 +11,6 @@ returns c =
     rw c.deref.ensures.value (record {
       list = sym tree.spells;
       given = tree.given;
-      count = sym (length-map tree.nodes.items (flat_node_view (tree_numbered tree)))
+      count = sym (length-map tree.nodes.items (flat_node_view tree.names))
           ∙ (ap length (sym tree.spells) ∙ length_all 0 (tree_nodes tree));
     })
