@@ -173,10 +173,10 @@ def words_of_header(text):
 
 
 def refusals_of_source(text):
-    """Returns the variants of faults, by number, spelled like constants of C. No call has number 25."""
+    """Returns the variants of faults, by number, spelled like constants of C."""
     variants = re.findall(r"^            (?:NameFault|ExportFault|PageRefusal)::(\w+)(?: \{ \.\. \})?(?:\(_\))? => (\d+),$", text, re.M)
     spelled = lambda name: re.sub(r"(?<!^)(?=[A-Z])", "_", name).upper()
-    return {int(number): spelled(name) for name, number in variants if number not in ("0", "25")}
+    return {int(number): spelled(name) for name, number in variants if number != "0"}
 
 
 def own_words(source, spoken):

@@ -75,7 +75,6 @@ first_fault_view (fault.Cast f) fs h =
 first_fault_view (fault.Construct f) fs h =
     numbered_first (construct.number_of f) (construct.span_of f) _
     (refused_first (construct.number_of f, construct.span_of f) _ fs h (construct_is f))
-first_fault_view (fault.Syntax span) fs h = refused_first (25, span.0) _ fs h refl
 
 seen_first : (e : ExportFault) (fs : List ExportFault) → export.IsFirst e fs
     → IsFirstView e (map export_fault_view fs)

@@ -10,7 +10,7 @@ use Rattle.html_flow_faults.specs.ConstructFaults as construct
 use Rattle.html_flow_faults.specs.ConstructFaults.{ConstructFaultView}
 use Rattle.html_dom_tree.specs.Tree.{ElementView}
 use Rattle.html_dom_document.specs.Documents.{no_info}
-use Rattle.typst_html_encode.specs.FaultViews.{ExportFaultView, out_of_memory, too_deep, not_alone, footnotes, unencodable, void_children, raw_child, raw_closing, frame_refused, name_fault, cast_fault, construct_fault, other_syntax}
+use Rattle.typst_html_encode.specs.FaultViews.{ExportFaultView, out_of_memory, too_deep, not_alone, footnotes, unencodable, void_children, raw_child, raw_closing, frame_refused, name_fault, cast_fault, construct_fault}
 use Rattle.typst_html_encode.specs.FrameWriters.{no_frames}
 use Rattle.typst_html_encode.specs.Text.{document_text}
 use Rattle.typst_html_encode.specs.declared.options.HtmlOptions.{HtmlOptions}
@@ -78,7 +78,6 @@ fault_refusal (frame_refused span) = (15, span)
 fault_refusal (name_fault fault) = (name.number_of fault, 0)
 fault_refusal (cast_fault fault) = (cast.number_of fault, 0)
 fault_refusal (construct_fault fault) = construct_refusal fault
-fault_refusal (other_syntax span) = (25, span)
 
 abbrev pub refusal_line : Refusal → List ℕ
 refusal_line r = codes "refused: " ++ (decimal r.0 ++ (codes " at " ++ (decimal r.1 ++ codes "\n")))

@@ -12,8 +12,6 @@ use typst_html::{
 /// The faults made of those of the layers below: numbers, spans and texts.
 const MADE: &str = "\
     8 at 7: items are nested too deeply\n\
-    8 at 3: items are nested too deeply\n\
-    25 at 3: other syntax than that of written pages\n\
     15 at 0: a frame was refused by its writer\n\
     1 at 0: tag name must not be empty\n\
     23 at 0: the year is out of range\n\
@@ -24,16 +22,8 @@ const MADE: &str = "\
 fn faults_of_the_layers_below(rt: HostRuntime) -> Result<(), Fail> {
     let (mut shown, span) = (String::new(rt.alloc()), Span(7));
     let casts = vec![in rt.alloc(); (CastFault::NumberRange, Span(5))]?;
-    let (offset, line, column) = (3, 1, 4);
-    let place = Place {
-        offset,
-        line,
-        column,
-    };
     let faults = [
         ExportFault::from(FlowFault::TooDeep { span }),
-        ExportFault::from(ReadFault::TooDeep { place }),
-        ExportFault::from(ReadFault::Syntax { place }),
         ExportFault::from(FrameFault::Refused),
         ExportFault::from(NameFault::EmptyTag),
         ExportFault::from(CastFault::YearRange),
@@ -61,14 +51,14 @@ fn want_of_memory_is_one_fault(rt: HostRuntime) {
         ExportFault::from(FlowFault::OutOfMemory),
         ExportFault::from(ConstructFault::OutOfMemory),
         ExportFault::from(FrameFault::OutOfMemory),
-        ExportFault::from(ReadFault::from(AllocError)),
-        ExportFault::from(ReadFault::from(AllocFailed { value: 1u8 })),
-        ExportFault::from(ReadFault::from(Refused { back: 1u8 })),
     ];
     for fault in &faults {
         assert!(rt; *fault == ExportFault::OutOfMemory);
     }
     assert!(rt; Fault::from(Refused { back: 1u8 }) == Fault::OutOfMemory);
+    assert!(rt; ReadFault::from(AllocError) == ReadFault::OutOfMemory);
+    assert!(rt; ReadFault::from(AllocFailed { value: 1u8 }) == ReadFault::OutOfMemory);
+    assert!(rt; ReadFault::from(Refused { back: 1u8 }) == ReadFault::OutOfMemory);
     assert!(rt; PageFault::from(AllocError) == PageFault::OutOfMemory);
     assert!(rt; PageFault::from(AllocFailed { value: 1u8 }) == PageFault::OutOfMemory);
 }

@@ -32,7 +32,6 @@ number_of (fault.FrameRefused span) = 15
 number_of (fault.Name f) = names.number_of f
 number_of (fault.Cast f) = casts.number_of f
 number_of (fault.Construct f) = constructs.number_of f
-number_of (fault.Syntax span) = 25
 
 abbrev pub first_span : List Span → ℕ
 first_span [] = 0
@@ -53,7 +52,6 @@ span_of (fault.FrameRefused span) = span.0
 span_of (fault.Name f) = 0
 span_of (fault.Cast f) = 0
 span_of (fault.Construct f) = constructs.span_of f
-span_of (fault.Syntax span) = span.0
 
 abbrev pub is_reference : Escaping → Bool
 is_reference escaping.Reference = true

@@ -24,7 +24,6 @@ pub data ExportFaultView : Type 0 where
   name_fault : NameFault → ExportFaultView
   cast_fault : CastFault → ExportFaultView
   construct_fault : ConstructFaultView → ExportFaultView
-  other_syntax : (span : ℕ) → ExportFaultView
   deriving Discrete as ExportFaultView-discrete
 
 abbrev pub spans_view : List Span → List ℕ
@@ -43,7 +42,6 @@ export_fault_view (fault.FrameRefused span) = frame_refused span.0
 export_fault_view (fault.Name f) = name_fault f
 export_fault_view (fault.Cast f) = cast_fault f
 export_fault_view (fault.Construct f) = construct_fault (construct_fault_view f)
-export_fault_view (fault.Syntax span) = other_syntax span.0
 
 pub export_fault_discrete : Discrete ExportFaultView
 export_fault_discrete = ExportFaultView-discrete ℕ_discrete text_discrete name_fault_discrete

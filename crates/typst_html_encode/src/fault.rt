@@ -14,19 +14,18 @@ use thiserror::Error;
 /// The reason why items or a tree have no HTML text.
 ///
 /// Writing a tree fails with the variants from `Unencodable` to `FrameRefused`, and making a
-/// document from items with those from `TooDeep` to `Footnotes`. Neither fails with the last four
-/// variants, which are faults of other calls, reading included. With them, a function that makes
-/// items and writes them can return all its faults with `?`.
+/// document from items with those from `TooDeep` to `Footnotes`. Neither fails with the last three
+/// variants, which are faults of other calls. With them, a function that makes items and writes
+/// them can return all its faults with `?`.
 #[derive(Debug, Drop, Error)]
 pub enum ExportFault {
     /// An allocation failed.
     #[error("out of memory")]
     OutOfMemory,
-    /// A body of items, or an element of a text that is read, is deeper than the limit.
+    /// A body of items is deeper than the limit.
     #[error("items are nested too deeply")]
     TooDeep {
-        /// The span of the item that has the body, or the number of bytes of the text before the
-        /// element.
+        /// The span of the item that has the body.
         span: Span,
     },
     /// An `html` or `body` is among other nodes of a document.
@@ -85,20 +84,13 @@ pub enum ExportFault {
     /// An element could not be constructed from its arguments.
     #[error("{0}")]
     Construct(ConstructFault),
-    /// A text that is read does not have the syntax of written pages.
-    #[error("other syntax than that of written pages")]
-    Syntax {
-        /// The number of bytes of the text before the fault.
-        span: Span,
-    },
 }
 
 impl ExportFault {
     ghost use Rattle.typst_html_encode.specs.ExportFaults.{number_of, span_of};
 
     /// Returns the fault's number: 0 for out of memory, from 8 on in the order of the variants up
-    /// to `FrameRefused`, the number of the inner fault for the next three, and 25 for another
-    /// syntax.
+    /// to `FrameRefused`, and the number of the inner fault for the last three.
     pub fn number(&self) -> u8
         ensures { result ≡ number_of self.now }
     {
@@ -115,7 +107,6 @@ impl ExportFault {
             ExportFault::Name(fault) => fault.number(),
             ExportFault::Cast(fault) => fault.number(),
             ExportFault::Construct(fault) => fault.number(),
-            ExportFault::Syntax { .. } => 25,
         }
     }
 
@@ -134,8 +125,7 @@ impl ExportFault {
             | ExportFault::VoidChildren { span }
             | ExportFault::RawChild { span }
             | ExportFault::RawClosing { span }
-            | ExportFault::FrameRefused { span }
-            | ExportFault::Syntax { span } => *span,
+            | ExportFault::FrameRefused { span } => *span,
         }
     }
 }
@@ -176,8 +166,9 @@ fn same_fault(a: &ExportFault, b: &ExportFault) -> bool
         | (ExportFault::VoidChildren { span }, ExportFault::VoidChildren { span: other })
         | (ExportFault::RawChild { span }, ExportFault::RawChild { span: other })
         | (ExportFault::RawClosing { span }, ExportFault::RawClosing { span: other })
-        | (ExportFault::FrameRefused { span }, ExportFault::FrameRefused { span: other })
-        | (ExportFault::Syntax { span }, ExportFault::Syntax { span: other }) => { *span == *other }
+        | (ExportFault::FrameRefused { span }, ExportFault::FrameRefused { span: other }) => {
+            *span == *other
+        }
         (ExportFault::Name(fault), ExportFault::Name(other)) => *fault == *other,
         (ExportFault::Cast(fault), ExportFault::Cast(other)) => *fault == *other,
         (ExportFault::Construct(fault), ExportFault::Construct(other)) => {

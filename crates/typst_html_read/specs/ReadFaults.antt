@@ -1,8 +1,6 @@
--- The meaning of a fault of reading, its number, and its conversion to a fault of an export.
+-- The meaning of a fault of reading, and its number.
 use Rattle.std.specs.Prelude.{◌≡◌, ℕ, List, [], ◌∷◌, Option, None}
 use Rattle.html_dom_tree.specs.Tree.{ElementView}
-use Rattle.typst_html_encode.specs.declared.fault.ExportFault.{ExportFault}
-use Rattle.typst_html_encode.specs.declared.fault.ExportFault.TheVariants as export
 use Rattle.typst_html_read.specs.Places.{place_at}
 use Rattle.typst_html_read.specs.declared.fault.ReadFault.{ReadFault}
 use Rattle.typst_html_read.specs.declared.fault.ReadFault.TheVariants.{OutOfMemory, TooDeep, Syntax}
@@ -22,9 +20,3 @@ IsFirst text element too_deep unread (TooDeep place) =
     (n : ℕ) × (rest : List ℕ) × (too_deep ≡ n ∷ rest) × (place ≡ place_at text n)
 IsFirst text element too_deep unread (Syntax place) =
     (element ≡ None) × (too_deep ≡ []) × (place ≡ place_at text unread)
-
--- out of memory stays out of memory; the span is the number of bytes of the text before the place
-abbrev pub of_read : ReadFault → ExportFault
-of_read OutOfMemory = export.OutOfMemory
-of_read (TooDeep place) = export.TooDeep (record { 0 = place.offset })
-of_read (Syntax place) = export.Syntax (record { 0 = place.offset })

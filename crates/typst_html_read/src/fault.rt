@@ -2,11 +2,9 @@ ghost use Rattle.std.specs.Prelude.{◌≡◌};
 ghost use Rattle.typst_html_read.specs.ReadFaults.{number_of};
 
 use crate::place::Place;
-use html_dom_tree::Span;
 use html_names::Refused;
 use std::alloc::{AllocError, AllocFailed};
 use thiserror::Error;
-use typst_html_encode::ExportFault;
 
 /// The reason why a text was not read.
 #[derive(Clone, Copy, Debug, PartialEq, Eq, Error)]
@@ -70,24 +68,5 @@ impl<T: Drop> From<Refused<T>> for ReadFault {
 
     fn from(_refused: Refused<T>) -> ReadFault {
         ReadFault::OutOfMemory
-    }
-}
-
-/// The span is the number of bytes of the text before the place.
-impl From<ReadFault> for ExportFault {
-    ghost use Rattle.typst_html_read.specs.ReadFaults.{of_read};
-
-    ghost from_gives = { λ fault made. made ≡ of_read fault };
-
-    fn from(fault: ReadFault) -> ExportFault {
-        match fault {
-            ReadFault::OutOfMemory => ExportFault::OutOfMemory,
-            ReadFault::TooDeep { place } => ExportFault::TooDeep {
-                span: Span(place.offset as u64),
-            },
-            ReadFault::Syntax { place } => ExportFault::Syntax {
-                span: Span(place.offset as u64),
-            },
-        }
     }
 }
