@@ -59,8 +59,9 @@ class Row(NamedTuple):
 
 
 class Answer(NamedTuple):
-    """The exit status of a run, its output, the number and the span of a refusal, and the place of a bad input:
-    the list in which the form is left is its span, and an input that is no JSON has a line and a column."""
+    """The exit status of a run, its output, the number and the span of a refusal, and the place of a bad input, which
+    the library reports and the program does not: the list in which the form is left is its span, and an input that
+    is no JSON has a line and a column."""
 
     status: int
     text: str
@@ -79,7 +80,7 @@ def answer(row: Row) -> Answer:
         return Answer(2, "bad input\n")
     if bad := re.fullmatch(r"bad input at (?:(\d+)|line (\d+) column (\d+))", row.output):
         span, line, column = (int(number or 0) for number in bad.groups())
-        return Answer(2, f"{row.output}\n", 0, span, line, column)
+        return Answer(2, "bad input\n", 0, span, line, column)
     if row.output.startswith("<!DOCTYPE html>"):
         return Answer(0, row.output)
     before, behind = FRAMES[row.words]

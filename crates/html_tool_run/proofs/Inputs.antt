@@ -1,6 +1,6 @@
 -- Every reader has some input.
 use Rattle.std.proofs.Common.{ℕ, List, [], Option, None, Some, refl}
-use Rattle.html_tool_run.specs.Answers.{IsAll}
+use Rattle.html_tool_run.specs.Outputs.{IsAll}
 
 pub some_input : (remaining : Option (List ℕ)) → (input : List ℕ) × IsAll input remaining
 some_input None = ([], tt)

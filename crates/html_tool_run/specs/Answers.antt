@@ -1,7 +1,5 @@
--- The answer of a run, and what the run does to its reader and its writer.
-use Rattle.std.specs.Prelude.{◌≡◌, ℕ, List, [], ◌∷◌, ◌++◌, map, Option, Some, None, IfSome, ◌⊎◌, Ok, Err, codes, Bool}
-use Rattle.std.specs.Io.KnownBytes.{Appends, Keeps}
-use Rattle.std.specs.Fmt.{decimal}
+-- The answer to an input.
+use Rattle.std.specs.Prelude.{ℕ, List, [], ◌∷◌, ◌++◌, map, Option, Some, None, Ok, Err, Bool}
 use lib.Utf8.{encodes}
 use Rattle.serde_json.specs.Data.{Data}
 use Rattle.html_names.specs.NameFaults as name
@@ -21,12 +19,8 @@ use Rattle.html_tool_spell.specs.LeftForms.{Left}
 use Rattle.html_tool_spell.specs.NameRefusals.{Refusal, element_refusals, items_refusals}
 use Rattle.html_tool_spell.specs.Spelled.{spelled_element}
 use Rattle.html_tool_spell.specs.SpelledItems.{spelled_items}
-use Rattle.html_tool_run.specs.Words.{wanted_task}
-use Rattle.html_tool_run.specs.Writing.{AppendsBeginning}
 use Rattle.html_tool_spell.specs.declared.fault.InputPlace.{InputPlace}
-use Rattle.html_tool_spell.specs.declared.fault.InputPlace.TheVariants.{Unknown, Text, Form}
-use Rattle.html_tool_run.specs.declared.recorded.LastCall.{LastCall}
-use Rattle.html_tool_run.specs.declared.recorded.LastCall.TheVariants as last_call
+use Rattle.html_tool_spell.specs.declared.fault.InputPlace.TheVariants.{Text, Form}
 use Rattle.html_tool_run.specs.declared.status.Status.{Status}
 use Rattle.html_tool_run.specs.declared.status.Status.TheVariants.{Done, Refused, BadInput, Failed}
 use Rattle.html_tool_run.specs.declared.words.Task.{Task}
@@ -38,19 +32,11 @@ code_of Refused = 1
 code_of BadInput = 2
 code_of Failed = 3
 
--- a status and the bytes that are written
-pub record Answer : Type 0 where
-  pub status : Status
-  pub line : List ℕ
-
-abbrev pub bad_input_line : InputPlace → List ℕ
-bad_input_line Unknown = codes "bad input\n"
-bad_input_line (Text line column) = codes "bad input at line "
-    ++ (decimal line ++ (codes " column " ++ (decimal column ++ codes "\n")))
-bad_input_line (Form n) = codes "bad input at " ++ (decimal n ++ codes "\n")
-
-abbrev pub bad_input : InputPlace → Answer
-bad_input place = record { status = BadInput; line = bad_input_line place }
+-- what an input is answered: the bytes of a text, a refusal, or bad input at a place
+pub data Answer : Type 0 where
+  text_answer : (bytes : List ℕ) → Answer
+  refused_answer : Refusal → Answer
+  bad_input : InputPlace → Answer
 
 -- the first of the spans, or 0 if there is none
 abbrev pub first_span : List ℕ → ℕ
@@ -79,15 +65,9 @@ fault_refusal (name_fault fault) = (name.number_of fault, 0)
 fault_refusal (cast_fault fault) = (cast.number_of fault, 0)
 fault_refusal (construct_fault fault) = construct_refusal fault
 
-abbrev pub refusal_line : Refusal → List ℕ
-refusal_line r = codes "refused: " ++ (decimal r.0 ++ (codes " at " ++ (decimal r.1 ++ codes "\n")))
-
-abbrev pub refused_answer : Refusal → Answer
-refused_answer r = record { status = Refused; line = refusal_line r }
-
 -- the answer with the first refusal, or with the text if there is none
 abbrev pub first_refusal_or_text : List Refusal → (text : List ℕ) → Answer
-first_refusal_or_text [] text = record { status = Done; line = encodes text }
+first_refusal_or_text [] text = text_answer (encodes text)
 first_refusal_or_text (r ∷ rs) text = refused_answer r
 
 abbrev pub options_of : (pretty : Bool) → HtmlOptions
@@ -150,37 +130,3 @@ input_answer task pretty input at =
 
 abbrev pub task_answer : (input : List ℕ) → TextPlace → Task × Bool → Answer
 task_answer input at wanted = input_answer wanted.0 wanted.1 input at
-
-abbrev pub words_answer : (words : List (List ℕ)) (input : List ℕ) → TextPlace → Answer
-words_answer words input at = answer_if Unknown (task_answer input at) (wanted_task words)
-
--- how a run with this answer ends: with the status of the answer, after all of its bytes were
--- written and flushed; or with a failure, and then nothing was written, unless the last call on the
--- writer failed after a beginning of the bytes
-abbrev pub EndsAs : Answer → Status → (old new : Option (List ℕ)) → LastCall → Type 0
-EndsAs answer status old new last =
-    ((status ≡ answer.status) × Appends old new answer.line × (last ≡ last_call.Flushed))
-    ⊎ ((status ≡ Failed) × (Keeps old new ⊎
-    ((last ≡ last_call.Failed) × AppendsBeginning old new answer.line)))
-
--- how a run with this answer ends, for some outcome of the last call, if nothing records that
--- outcome
-abbrev pub RunsAs : Answer → Status → (old new : Option (List ℕ)) → Type 0
-RunsAs answer status old new = (last : LastCall) × EndsAs answer status old new last
-
--- the input is all that the reader has left, if that is known
-abbrev pub IsAll : (input : List ℕ) (remaining : Option (List ℕ)) → Type 0
-IsAll input remaining = IfSome remaining (λ bytes. input ≡ bytes)
-
--- the run ends with the answer to some input, which is all that the reader has, and for some place
--- in it
-abbrev pub EndsOn : (words : List (List ℕ)) (remaining : Option (List ℕ)) → Status
-    → (old new : Option (List ℕ)) → LastCall → Type 0
-EndsOn words remaining status old new last =
-    (input : List ℕ) × IsAll input remaining
-    × ((at : TextPlace) × EndsAs (words_answer words input at) status old new last)
-
-abbrev pub RunsOn : (words : List (List ℕ)) (remaining : Option (List ℕ)) → Status
-    → (old new : Option (List ℕ)) → Type 0
-RunsOn words remaining status old new =
-    (last : LastCall) × EndsOn words remaining status old new last

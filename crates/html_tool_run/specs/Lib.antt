@@ -2,6 +2,7 @@ pub mod Answers
 pub mod DocumentAnswers
 pub mod ExportRefusals
 pub mod FragmentAnswers
+pub mod Outputs
 pub mod Replies
 pub mod UnusedInformation
 pub mod Words

@@ -1,21 +1,25 @@
 //! A run of the program on any reader and writer.
 
-ghost use Rattle.std.specs.Prelude.{◌≡◌, None, IfSome, IfOk};
+ghost use Rattle.std.specs.Prelude.{◌≡◌, None, IfSome, IfOk, codes};
+ghost use Rattle.std.specs.Io.KnownBytes.{Appends};
 ghost use Rattle.html_dom_flat.specs.FlatTrees.{tree_nodes};
 ghost use Rattle.html_dom_tree.specs.Tree.{ElementView, element_node, node, none};
 ghost use Rattle.html_dom_tree.specs.Views.{text_view};
 ghost use Rattle.html_flow_convert.specs.Views.{items_view};
 ghost use Rattle.serde_json.specs.View.{view};
-ghost use Rattle.html_tool_run.specs.Answers.{Answer, EndsAs, EndsOn, RunsAs, RunsOn, answer_to, bad_input, input_answer};
+ghost use Rattle.html_tool_run.specs.Answers.{answer_to, input_answer};
 ghost use Rattle.html_tool_run.specs.Answers.{doc_answer, doc_refusals, doc_text, refused_answer};
 ghost use Rattle.html_tool_run.specs.Answers.{tree_answer, tree_refusals, tree_text, value_answer};
 ghost use Rattle.html_tool_spell.specs.Refusals.{Gives};
 ghost use Rattle.html_tool_run.specs.ExportRefusals.{export_refusal};
-ghost use Rattle.html_tool_run.specs.Replies.{GivesAnswer, GivesAnswerAt, GivesAnswerOn, IsReply, reply_answer};
+ghost use Rattle.html_tool_run.specs.Outputs.{EndsAs, EndsOn, RunsAs, RunsOn};
+ghost use Rattle.html_tool_run.specs.Outputs.{Output, bad_input_output, output_of};
+ghost use Rattle.html_tool_run.specs.Replies.{GivesAnswer, GivesAnswerAt, GivesOutput, GivesOutputOn};
+ghost use Rattle.html_tool_run.specs.Replies.{IsReply, reply_output};
 ghost use Rattle.html_tool_spell.specs.Spelled.{spelled_element};
 ghost use Rattle.html_tool_spell.specs.SpelledItems.{spelled_items};
 ghost use Rattle.html_tool_run.specs.Words.{texts_of, wanted_task};
-ghost use Rattle.html_tool_spell.specs.declared.fault.InputPlace.TheVariants.{Unknown};
+ghost use Rattle.html_tool_run.specs.declared.status.Status.TheVariants.{BadInput};
 
 use crate::recorded::{LastCall, Recorded, WriteFailed};
 use crate::status::Status;
@@ -76,24 +80,8 @@ fn make_reply(alloc: Global, status: Status, text: &[u8]) -> Result<Reply, Alloc
     Ok(Reply { status, text })
 }
 
-fn bad_input(alloc: Global, place: InputPlace) -> Result<Reply, AllocError>
-    ensures { IfOk result (λ reply. IsReply reply (bad_input place)) }
-{
-    match place {
-        InputPlace::Unknown => make_reply(alloc, Status::BadInput, b"bad input\n"),
-        InputPlace::Text(line, column) => {
-            let line = format!(in alloc; "bad input at line {line} column {column}\n")?;
-            make_reply(alloc, Status::BadInput, line.as_bytes())
-        }
-        InputPlace::Form(number) => {
-            let line = format!(in alloc; "bad input at {number}\n")?;
-            make_reply(alloc, Status::BadInput, line.as_bytes())
-        }
-    }
-}
-
 fn refused(alloc: Global, number: u8, span: Span) -> Result<Reply, AllocError>
-    ensures { IfOk result (λ reply. IsReply reply (refused_answer (number, span.0))) }
+    ensures { IfOk result (λ reply. IsReply reply (output_of (refused_answer (number, span.0)))) }
 {
     let Span(span) = span;
     let line = format!(in alloc; "refused: {number} at {span}\n")?;
@@ -101,7 +89,7 @@ fn refused(alloc: Global, number: u8, span: Span) -> Result<Reply, AllocError>
 }
 
 fn reply_of(alloc: Global, text: Result<String, Fault>) -> Result<Reply, AllocError>
-    ensures { (answer : Answer) → GivesAnswer text answer → IfOk result (λ reply. IsReply reply answer) }
+    ensures { (output : Output) → GivesOutput text output → IfOk result (λ reply. IsReply reply output) }
 {
     match text {
         Ok(text) => Ok(Reply {
@@ -109,7 +97,7 @@ fn reply_of(alloc: Global, text: Result<String, Fault>) -> Result<Reply, AllocEr
             text: text.into_bytes(),
         }),
         Err(Fault::Refused(number, span)) => refused(alloc, number, span),
-        Err(Fault::BadInput(place)) => bad_input(alloc, place),
+        Err(Fault::BadInput(_)) => make_reply(alloc, Status::BadInput, b"bad input\n"),
         Err(Fault::OutOfMemory) => Err(AllocError),
     }
 }
@@ -212,9 +200,8 @@ fn answer(alloc: Global, input: Vec<u8>, task: Task, pretty: bool) -> Result<Str
 
 /// Returns the text that the words ask for. Reports a reader that fails as out of memory.
 fn wanted<R: Read>(alloc: Global, reader: &mut R, words: &[String]) -> Result<String, Fault>
-    ensures answers { GivesAnswerOn (texts_of words.now) (R.remaining reader.old) result }
-    ensures wrong_words { wanted_task (texts_of words.now) ≡ None
-        → GivesAnswer result (bad_input Unknown) }
+    ensures answers { GivesOutputOn (texts_of words.now) (R.remaining reader.old) result }
+    ensures wrong_words { wanted_task (texts_of words.now) ≡ None → GivesOutput result bad_input_output }
     ensures unread { wanted_task (texts_of words.now) ≡ None → reader.new ≡ reader.old }
 {
     let Some((task, pretty)) = wanted_task(words) else {
@@ -227,7 +214,7 @@ fn wanted<R: Read>(alloc: Global, reader: &mut R, words: &[String]) -> Result<St
 }
 
 fn send<W: Write>(writer: &mut W, last: &mut LastCall, reply: &Reply) -> Status
-    ensures { EndsAs (reply_answer reply.now) result
+    ensures { EndsAs (reply_output reply.now) result
         (W.contents writer.old) (W.contents writer.new) last.new }
 {
     match write_whole(writer, last, &reply.text) {
@@ -245,8 +232,10 @@ fn run_on<R: Read, W: Write>(
 ) -> Status
     ensures answers { EndsOn (texts_of words.now) (R.remaining reader.old) result
         (W.contents writer.old) (W.contents writer.new) last.new }
+    ensures bad_input { result ≡ BadInput
+        → Appends (W.contents writer.old) (W.contents writer.new) (codes "bad input\n") }
     ensures wrong_words { wanted_task (texts_of words.now) ≡ None
-        → EndsAs (bad_input Unknown) result (W.contents writer.old) (W.contents writer.new) last.new }
+        → EndsAs bad_input_output result (W.contents writer.old) (W.contents writer.new) last.new }
     ensures unread { wanted_task (texts_of words.now) ≡ None → reader.new ≡ reader.old }
 {
     match reply_of(alloc, wanted(alloc, reader, words)) {
@@ -256,7 +245,9 @@ fn run_on<R: Read, W: Write>(
 }
 
 /// Reads the reader to its end, as one JSON value, and writes the HTML text of what it spells, or
-/// one line that says why there is none.
+/// one line that says why there is none: `refused: 12 at 4` for a refusal, with its number and the
+/// number of a list in the input; `bad input` for words or an input that it does not take
+/// ([`text_of_input`] says where such an input is bad).
 ///
 /// `words` are the arguments after the program's name: `tree` for a tree or `doc` for the document
 /// of a list of items, and then `--pretty` for pretty text. Other words are reported before
@@ -293,9 +284,13 @@ pub fn run<R: Read, W: Write>(
     ensures answers { RunsOn (texts_of words.now) (R.remaining reader.old) result
         (W.contents writer.old) (W.contents writer.new) }
 
+    // Bad input, of any kind.
+    ensures bad_input { result ≡ BadInput
+        → Appends (W.contents writer.old) (W.contents writer.new) (codes "bad input\n") }
+
     // Wrong words.
     ensures wrong_words { wanted_task (texts_of words.now) ≡ None
-        → RunsAs (bad_input Unknown) result (W.contents writer.old) (W.contents writer.new) }
+        → RunsAs bad_input_output result (W.contents writer.old) (W.contents writer.new) }
     ensures unread { wanted_task (texts_of words.now) ≡ None → reader.new ≡ reader.old }
 {
     let mut last = LastCall::NoCall;
@@ -313,9 +308,13 @@ pub fn run_recorded<R: Read, W: Write>(
     ensures answers { EndsOn (texts_of words.now) (R.remaining reader.old) result
         (W.contents writer.old.writer) (W.contents writer.new.writer) writer.new.last }
 
+    // Bad input, of any kind.
+    ensures bad_input { result ≡ BadInput → Appends (W.contents writer.old.writer)
+        (W.contents writer.new.writer) (codes "bad input\n") }
+
     // Wrong words.
     ensures wrong_words { wanted_task (texts_of words.now) ≡ None
-        → EndsAs (bad_input Unknown) result (W.contents writer.old.writer) (W.contents writer.new.writer)
+        → EndsAs bad_input_output result (W.contents writer.old.writer) (W.contents writer.new.writer)
         writer.new.last }
     ensures unread { wanted_task (texts_of words.now) ≡ None → reader.new ≡ reader.old }
 {

@@ -3,14 +3,16 @@
 //! The output of a run is
 //!
 //! - `refused 12 at 4` if the number and the span of a refusal are written,
-//! - `bad input at 2` if a value does not have the form, `bad input at line 1 column 5` if the
-//!   input is no JSON, or `wrong words` if the words are wrong and nothing is read,
+//! - `wrong words` if `bad input` alone is written since the words are wrong, and nothing is read,
+//! - `bad input at 2` if `bad input` alone is written since a value does not have the form, and
+//!   `bad input at line 1 column 5` if the input is no JSON: with the place that the library reports
+//!   of the same input,
 //! - otherwise the text: for a tree everything behind the document type; for items the content of
 //!   the body, if all around it is as in a document without information, else the whole text. The
 //!   line feeds that `--pretty` writes at the beginning and at the end are left out, too.
 
-use anyhow::{Context, Result, ensure};
-use html_tool_run::{Status, run, wanted_task};
+use anyhow::{Context, Result, bail, ensure};
+use html_tool_run::{Fault, InputPlace, Status, Task, run, text_of_input, wanted_task};
 use std::alloc::Global;
 use tests_rows_run::Row;
 
@@ -38,14 +40,41 @@ pub(crate) fn output(alloc: Global, row: &Row<'_>) -> Result<String> {
     let mut reader = row.input.as_slice();
     let mut written = Vec::new(alloc);
     let status = run(alloc, &mut reader, &mut written, &words);
-    let words_are_right = wanted_task(&words).is_some();
     let text = String::from_utf8(written)?;
-    if status == Status::BadInput && !words_are_right {
-        ensure!(reader == row.input.as_slice(), "something was read");
-        ensure!(text.as_str() == "bad input\n", "{text}");
-        return Ok(String::from_str(alloc, "wrong words")?);
+    match status {
+        Status::Done => inner_text(alloc, &text, frame_of(&row.words)),
+        Status::Refused => {
+            let refusal = text.strip_prefix("refused: ").context("no refusal")?;
+            Ok(format!(in alloc; "refused {}", line(refusal)?)?)
+        }
+        Status::BadInput => {
+            ensure!(text.as_str() == "bad input\n", "{text}");
+            bad_input(alloc, row, &words, reader)
+        }
+        Status::Failed => Ok(String::from_str(alloc, "failed")?),
     }
-    output_of(alloc, row, status, &text)
+}
+
+/// Returns the output of a run that wrote `bad input` and left these bytes of the input unread.
+fn bad_input(alloc: Global, row: &Row<'_>, words: &[String], unread: &[u8]) -> Result<String> {
+    if let Some((task, pretty)) = wanted_task(words) {
+        return bad_input_at(alloc, &row.input, task, pretty);
+    }
+    ensure!(unread == row.input.as_slice(), "something was read");
+    Ok(String::from_str(alloc, "wrong words")?)
+}
+
+/// Returns the words for the place that the library reports of an input that is bad.
+fn bad_input_at(alloc: Global, input: &[u8], task: Task, pretty: bool) -> Result<String> {
+    match text_of_input(alloc, input, task, pretty) {
+        Err(Fault::BadInput(InputPlace::Form(number))) => {
+            Ok(format!(in alloc; "bad input at {number}")?)
+        }
+        Err(Fault::BadInput(InputPlace::Text(line, column))) => {
+            Ok(format!(in alloc; "bad input at line {line} column {column}")?)
+        }
+        _ => bail!("the library reports no place"),
+    }
 }
 
 fn words_of(alloc: Global, row: &Row<'_>) -> Result<Vec<String>> {
@@ -54,19 +83,6 @@ fn words_of(alloc: Global, row: &Row<'_>) -> Result<Vec<String>> {
         words.push(String::from_str(alloc, word)?)?;
     }
     Ok(words)
-}
-
-/// Returns the output of a run with right words that wrote the text.
-fn output_of(alloc: Global, row: &Row<'_>, status: Status, text: &str) -> Result<String> {
-    match status {
-        Status::Done => inner_text(alloc, text, frame_of(&row.words)),
-        Status::Refused => {
-            let refusal = text.strip_prefix("refused: ").context("no refusal")?;
-            Ok(format!(in alloc; "refused {}", line(refusal)?)?)
-        }
-        Status::BadInput => Ok(String::from_str(alloc, line(text)?)?),
-        Status::Failed => Ok(String::from_str(alloc, "failed")?),
-    }
 }
 
 fn line(text: &str) -> Result<&str> {

@@ -1,14 +1,13 @@
 -- The reply of a call, and what the call leaves in the caller's buffer.
 use Rattle.std.specs.Prelude.{◌≡◌, ◌==◌, ◌&&◌, ℕ, Bool, true, false, List, [], ◌∷◌, ◌++◌, length, drop, nat_le, Option, Some, None, option_map, option_and_then, if◌then◌else◌}
 use Rattle.html_dom_link.specs.Links.{DeadLinkView}
-use Rattle.html_tool_run.specs.Answers.{Answer, TextPlace, bad_input, refused_answer, answer_if, task_answer}
+use Rattle.html_tool_run.specs.Answers.{Answer, TextPlace, text_answer, refused_answer, bad_input, answer_if, task_answer}
 use Rattle.html_tool_run.specs.DocumentAnswers.{document_input_answer, input_dead_links}
 use Rattle.html_tool_run.specs.declared.documents.Settings.{Settings}
 use Rattle.html_tool_spell.specs.declared.fault.Fault.{Fault}
 use Rattle.html_tool_spell.specs.declared.fault.Fault.TheVariants.{OutOfMemory, BadInput, Refused}
 use Rattle.html_tool_spell.specs.declared.fault.InputPlace.{InputPlace}
 use Rattle.html_tool_spell.specs.declared.fault.InputPlace.TheVariants.{Unknown, Text, Form}
-use Rattle.html_tool_run.specs.declared.status.Status.TheVariants.{Done}
 use Rattle.html_tool_run.specs.declared.words.Task.{Task}
 use Rattle.html_tool_run.specs.declared.words.Task.TheVariants.{Tree, Doc}
 use Rattle.typst_html_c.specs.declared.reply.Reply.{Reply}
@@ -106,7 +105,7 @@ buffer_with bytes old =
 -- the call returns the reply for the answer and writes its text, or an allocation failed and the
 -- buffer is unchanged
 pub data Replies (a : Answer) (old : List ℕ) (reply : Reply) (new : List ℕ) : Type 0 where
-  made : (bytes : List ℕ) → a ≡ record { status = Done; line = bytes } → reply ≡ text_reply bytes old
+  made : (bytes : List ℕ) → a ≡ text_answer bytes → reply ≡ text_reply bytes old
       → new ≡ buffer_with bytes old → Replies a old reply new
   refused : (number span : ℕ) → a ≡ refused_answer (number, span)
       → reply ≡ without_text 1 number span → new ≡ old → Replies a old reply new

@@ -5,9 +5,7 @@ use Rattle.serde_json.specs.Data.{Data, number, array, object, unsigned, member,
 use Rattle.serde_json.specs.View.{items_of}
 use Rattle.serde_json.specs.Written.{compact_text}
 use Rattle.html_dom_link.specs.Links.{DeadLinkView}
-use Rattle.html_tool_run.specs.Answers.{Answer, TextPlace}
-use Rattle.html_tool_run.specs.declared.status.Status.{Status}
-use Rattle.html_tool_run.specs.declared.status.Status.TheVariants.{Done, Refused, BadInput, Failed}
+use Rattle.html_tool_run.specs.Answers.{Answer, TextPlace, text_answer, refused_answer, bad_input}
 use Rattle.typst_html_c.specs.CallReplies.{call_dead_links, document_call_answer}
 
 -- the destination and the span of a link, as JSON
@@ -20,15 +18,11 @@ abbrev pub dead_links_data : List DeadLinkView → Data
 dead_links_data links =
     object (member (codes "dead_links") (array (items_of (map dead_link_data links))) no_members)
 
-abbrev pub line_in_place : Status → (bytes line : List ℕ) → List ℕ
-line_in_place Done bytes line = bytes
-line_in_place Refused bytes line = line
-line_in_place BadInput bytes line = line
-line_in_place Failed bytes line = line
-
 -- the answer with these bytes instead of its text, if it has one
 abbrev pub in_place_of_text : (bytes : List ℕ) → Answer → Answer
-in_place_of_text bytes a = record a { line = line_in_place a.status bytes a.line }
+in_place_of_text bytes (text_answer text) = text_answer bytes
+in_place_of_text bytes (refused_answer r) = refused_answer r
+in_place_of_text bytes (bad_input place) = bad_input place
 
 -- the answer to an input that spells a document, with its dead links instead of its text
 abbrev pub dead_links_answer : (limit : ℕ) (input : List ℕ) → TextPlace → Answer
