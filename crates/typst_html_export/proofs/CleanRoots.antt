@@ -1,24 +1,25 @@
--- The root of a document of clean items in plain flow and of clean information has no fault, with
--- anchors and with the `href` of its links too.
+-- The root of a document of clean items in plain flow, of clean information and of clean nodes of
+-- one's own in the head has no fault, with anchors and with the `href` of its links too.
 use Rattle.std.proofs.Common.{◌≡◌, ℕ, Bool, true, false, ◌&&◌, List, [], ◌∷◌, ◌++◌, map, drop, codes, Option, Some, None, refl, ap, sym, ◌∙◌, subst, append_assoc, append-nil}
 use Rattle.std.specs.List.{flat_map}
 use Rattle.std.specs.Prelude.{if◌then◌else◌}
 use Rattle.std.proofs.lemmas.Bool.{and_parts}
 use Rattle.std.proofs.lemmas.List.{drop-drop}
 use Rattle.html_names.specs.Characters.{all, is_text_char}
-use Rattle.html_names.specs.Kinds.{is_void, is_raw, is_escapable_raw, is_foreign_self_closing}
+use Rattle.html_names.specs.Displays.{default_display}
+use Rattle.html_names.specs.Kinds.{is_void, is_raw, is_escapable_raw, is_foreign_self_closing, is_mathml, is_token, is_metadata_content}
 use Rattle.html_names.specs.Names.{stands_in}
 use Rattle.html_names.specs.Texts.{TextPair}
 use Rattle.html_names.proofs.Basics.{all_append}
 use Rattle.html_dom_tree.specs.Styled.{styled_node, styled_nodes}
 use Rattle.html_dom_tree.specs.Tree.{Head, NodeView, text_node, element_node, NodesView, none, node, ElementView}
 use Rattle.html_dom_tree.specs.Views.{nodes_of}
-use Rattle.html_dom_document.specs.Documents.{LocaleView, InfoView}
+use Rattle.html_dom_document.specs.Documents.{LocaleView, InfoView, document_root}
 use Rattle.typst_html_encode.specs.FaultViews.{export_fault_view}
 use Rattle.typst_html_encode.specs.ExportFaults.{node_faults, nodes_faults}
 use Rattle.typst_html_encode.specs.ExportFaults as writing
 use Rattle.typst_html_encode.specs.FrameWriters.{Frames}
-use Rattle.typst_html_encode.specs.Layout.{is_pretty_inside}
+use Rattle.typst_html_encode.specs.Layout.{allows_pretty_inside, is_pretty_inside, wants_pretty_around}
 use Rattle.typst_html_encode.specs.Text.{ends_at_once, escaping_of}
 use Rattle.typst_html_encode.specs.declared.options.HtmlOptions.{HtmlOptions}
 use Rattle.html_flow_convert.specs.Items.{ItemsView, no_items}
@@ -30,8 +31,9 @@ use Rattle.html_dom_link.specs.Links.{Anchors, Hrefs, anchor_hrefs, dest_before,
 use Rattle.html_dom_link.specs.NewNames.{Name, element_names}
 use Rattle.typst_html_spaces.specs.CleanItems.{are_clean_items}
 use Rattle.typst_html_spaces.specs.CleanNodes.{is_clean_text, are_clean_values, IsCleanValue, AreCleanNodes}
-use Rattle.typst_html_spaces.specs.DeepNodes.{Wanted, HoldsOf, HoldsOfAll}
+use Rattle.typst_html_spaces.specs.DeepNodes.{HoldsOf, HoldsOfAll}
 use Rattle.typst_html_spaces.proofs.Anchored.{anchors_keep_clean_nodes}
+use Rattle.typst_html_spaces.proofs.Changed.{holds_then, styled_is_changed}
 use Rattle.typst_html_spaces.proofs.CleanItems.{clean_items_make_clean_nodes}
 use Rattle.typst_html_spaces.proofs.CleanNodes.{plain_clean, no_faults_of, no_attrs_faults, clean_nodes_are_written}
 use Rattle.typst_html_spaces.specs.PlainFlow.{is_plain_flow}
@@ -40,19 +42,19 @@ use Rattle.typst_html_export.specs.Assembled.{document_nodes}
 use Rattle.typst_html_export.specs.CleanInfo.{are_clean_texts, is_clean_locale, is_clean_info, CleanDocumentsAreWritten, CleanLinkedDocumentsAreWritten}
 use Rattle.typst_html_export.specs.DocumentHead.{made_node, charset_node, entry_node, viewport_node, title_node, title_nodes, description_nodes, joined_text, list_meta_nodes, entry_nodes, lang_text}
 use Rattle.typst_html_export.specs.Exported.{linked_root, root_faults}
+use Rattle.typst_html_export.specs.HeadNodes.{elements_and_texts, AreElementsAndTexts, HeadIsClean, CleanHeadsAreWritten}
+use Rattle.typst_html_export.specs.OwnHead.{linked_root_with_head}
 use Rattle.typst_html_export.specs.SpacesInDocuments.{ArePlainItems}
 use Rattle.typst_html_export.proofs.AnchoredRoots.{MadePasses, nodes_are_anchored}
 use Rattle.typst_html_export.proofs.CleanLinks.{href_is_clean}
 use Rattle.typst_html_export.proofs.CleanNames.{clean_namings}
 use Rattle.typst_html_export.proofs.LinkedRoots.{links_are_anchored}
-use Rattle.typst_html_export.proofs.PlainRoots.{root_over, linked_root_is}
+use Rattle.typst_html_export.proofs.OwnHead.{no_nodes_change_nothing}
+use Rattle.typst_html_export.proofs.PlainRoots.{entries_with, root_over, linked_root_is}
 
 -- what stands before all tags gets no anchor
 
-abbrev quiet : Wanted
-quiet = record { head = λ h b. Unit {0}; text = λ p s. Unit {0}; tag = λ t. ⊥; frame = ⊥ }
-
-quiet_kept : (x : Targets) (ns : NodesView) (p : Bool) → HoldsOfAll quiet p ns →
+quiet_kept : (x : Targets) (ns : NodesView) (p : Bool) → HoldsOfAll elements_and_texts p ns →
     (used : Name → Bool) (more : List Event) →
     (nodes_with_anchors (namings used (cuts [] (events x ns ++ more))) ns ≡ ns)
     × (drop (nodes_size ns) (namings used (cuts [] (events x ns ++ more)))
@@ -83,7 +85,7 @@ no_dest h dest e = by_test (is_open h)
     by_test false = refl
 
 quiet_unlinked : (hrefs : Hrefs) (ns : NodesView) (before : List NodeView) (p : Bool) →
-    HoldsOfAll quiet p ns → dest_before before ≡ None → nodes_with_links hrefs before ns ≡ ns
+    HoldsOfAll elements_and_texts p ns → dest_before before ≡ None → nodes_with_links hrefs before ns ≡ ns
 unfolding nodes_with_links
 quiet_unlinked hrefs none before p q e = refl
 quiet_unlinked hrefs (node (text_node s span) ns) before p q e =
@@ -99,7 +101,7 @@ abbrev root_of_both : (top h g : Head) (kids inside : NodesView) → ElementView
 root_of_both top h g kids inside =
     (top, node (element_node h kids) (node (element_node g inside) none))
 
-body_anchored : (x : Targets) (top h g : Head) (kids inside : NodesView) → HoldsOfAll quiet false kids →
+body_anchored : (x : Targets) (top h g : Head) (kids inside : NodesView) → HoldsOfAll elements_and_texts false kids →
     AreCleanNodes false inside →
     (new : NodesView) × (element_with_anchors x (root_of_both top h g kids inside)
     ≡ root_of_both top h g kids new) × AreCleanNodes false new
@@ -122,17 +124,16 @@ body_anchored x top h g kids inside q c =
 element_written : (frames : Frames) (pre_span pretty : Bool) (h : Head) (ns : NodesView) →
     are_clean_values h.attrs ≡ true → ends_at_once h ≡ false → is_raw h.name ≡ false →
     is_escapable_raw h.name ≡ false →
-    ((p : Bool) → nodes_faults frames h.pre_span p ns ≡ []) →
+    nodes_faults frames h.pre_span (pretty && is_pretty_inside h ns) ns ≡ [] →
     node_faults frames pre_span pretty (element_node h ns) ≡ []
 unfolding node_faults
 element_written frames pre_span pretty h ns values at_once raw escapable inside =
-    rw (no_attrs_faults h.span h.attrs values, at_once, raw, escapable)
-    (inside (pretty && is_pretty_inside h ns))
+    rw (no_attrs_faults h.span h.attrs values, at_once, raw, escapable) inside
 
 -- entries of a head
 
 record IsEntry (n : NodeView) : Type 0 where
-  quiet : HoldsOf quiet false (styled_node n)
+  quiet : HoldsOf elements_and_texts false (styled_node n)
   written : (frames : Frames) (pretty : Bool) → node_faults frames false pretty (styled_node n) ≡ []
 
 meta_entry : (attrs : List TextPair) → are_clean_values attrs ≡ true →
@@ -228,18 +229,33 @@ all_entries info parts =
       ),
     )
 
-entries_quiet : (ns : List NodeView) → Each IsEntry ns →
-    HoldsOfAll quiet false (styled_nodes (nodes_of ns))
-unfolding styled_nodes
-entries_quiet [] e = tt
-entries_quiet (n ∷ ns) e = (e.0.quiet, entries_quiet ns e.1)
+-- entries, and then nodes of one's own
 
-entries_written : (frames : Frames) (pretty : Bool) (ns : List NodeView) → Each IsEntry ns →
-    nodes_faults frames false pretty (styled_nodes (nodes_of ns)) ≡ []
+entries_quiet : (ns head : List NodeView) → Each IsEntry ns →
+    HoldsOfAll elements_and_texts false (styled_nodes (nodes_of head)) →
+    HoldsOfAll elements_and_texts false (styled_nodes (nodes_of (ns ++ head)))
+unfolding styled_nodes
+entries_quiet [] head e own = own
+entries_quiet (n ∷ ns) head e own = (e.0.quiet, entries_quiet ns head e.1 own)
+
+entries_written : (frames : Frames) (pretty : Bool) (ns head : List NodeView) → Each IsEntry ns →
+    nodes_faults frames false pretty (styled_nodes (nodes_of head)) ≡ [] →
+    nodes_faults frames false pretty (styled_nodes (nodes_of (ns ++ head))) ≡ []
 unfolding styled_nodes nodes_faults
-entries_written frames pretty [] e = refl
-entries_written frames pretty (n ∷ ns) e =
-    rw (e.0.written frames pretty, entries_written frames pretty ns e.1) refl
+entries_written frames pretty [] head e own = own
+entries_written frames pretty (n ∷ ns) head e own =
+    rw (e.0.written frames pretty, entries_written frames pretty ns head e.1 own) refl
+
+styled_quiet : (ns : NodesView) → AreElementsAndTexts ns → AreElementsAndTexts (styled_nodes ns)
+styled_quiet ns = holds_then {v = elements_and_texts} {w = elements_and_texts} (record {
+  after = λ h i. absurd i;
+  around = λ p h s i c. absurd i;
+  head = λ h g e b c. tt;
+  flag = λ h g e. ap (λ x. x.pre_span) e;
+  text = λ p s c. tt;
+  tag = λ t c. c;
+  frame = λ c. c;
+}) (styled_is_changed ns) false
 
 -- the language
 
@@ -267,59 +283,90 @@ abbrev made_root : (lang : List ℕ) (kids inside : NodesView) → ElementView
 made_root lang kids inside = root_of_both (plain_made (codes "html") ((codes "lang", lang) ∷ []))
     (plain_made (codes "head") []) (plain_made (codes "body") []) kids inside
 
-root_written : (frames : Frames) (pretty : Bool) (lang : List ℕ) (kids inside : NodesView) →
-    all is_text_char lang ≡ true → ((p : Bool) → nodes_faults frames false p kids ≡ []) →
+-- the children of a root and of its head are written as the document is
+root_mode : (pretty : Bool) (lang : List ℕ) (kids inside : NodesView) →
+    (pretty && is_pretty_inside (made_root lang kids inside).0 (made_root lang kids inside).1) ≡ pretty
+unfolding is_pretty_inside allows_pretty_inside wants_pretty_around is_mathml is_token is_metadata_content default_display stands_in
+root_mode true lang kids inside = refl
+root_mode false lang kids inside = refl
+
+head_mode : (pretty : Bool) (more : NodesView) →
+    (pretty && is_pretty_inside (plain_made (codes "head") []) (node (styled_node charset_node) more))
+    ≡ pretty
+unfolding styled_node is_pretty_inside allows_pretty_inside wants_pretty_around is_mathml is_token is_metadata_content default_display stands_in
+head_mode true more = refl
+head_mode false more = refl
+
+root_written : (frames : Frames) (pretty : Bool) (lang : List ℕ) (more inside : NodesView) →
+    all is_text_char lang ≡ true →
+    nodes_faults frames false pretty (node (styled_node charset_node) more) ≡ [] →
     ((p : Bool) → nodes_faults frames false p inside ≡ []) →
-    writing.element_faults frames pretty (made_root lang kids inside) ≡ []
+    writing.element_faults frames pretty
+    (made_root lang (node (styled_node charset_node) more) inside) ≡ []
 unfolding nodes_faults is_void is_foreign_self_closing is_raw is_escapable_raw stands_in
-root_written frames pretty lang kids inside e own below =
+root_written frames pretty lang more inside e own below =
+    let kids = node (styled_node charset_node) more in
     let root = made_root lang kids inside in
     let head = plain_made (codes "head") [] in
     let body = plain_made (codes "body") [] in
-    element_written frames false pretty root.0 root.1 (rw e refl) refl refl refl (λ p. rw (
-      element_written frames false p head kids refl refl refl refl own,
-      element_written frames false p body inside refl refl refl refl below,
-    ) refl)
+    element_written frames false pretty root.0 root.1 (rw e refl) refl refl refl
+    (rw (root_mode pretty lang kids inside) (rw (
+      element_written frames false pretty head kids refl refl refl refl (rw (head_mode pretty more) own),
+      element_written frames false pretty body inside refl refl refl refl (below _),
+    ) refl))
 
-abbrev entries_of : InfoView → NodesView
-entries_of info = styled_nodes (nodes_of (charset_node ∷ viewport_node ∷ entry_nodes info))
+abbrev all_nodes : InfoView → (head : List NodeView) → List NodeView
+all_nodes info head = charset_node ∷ viewport_node ∷ (entry_nodes info ++ head)
 
-root_is_made : (info : InfoView) (ns : NodesView) →
-    root_over info (entry_nodes info) ns ≡ made_root (lang_text info.locale) (entries_of info) (styled_nodes ns)
+abbrev head_inside : InfoView → (head : List NodeView) → NodesView
+head_inside info head = styled_nodes (nodes_of (all_nodes info head))
+
+root_is_made : (info : InfoView) (head : List NodeView) (ns : NodesView) →
+    root_over info (entries_with info head) ns
+    ≡ made_root (lang_text info.locale) (head_inside info head) (styled_nodes ns)
 unfolding styled_node
-root_is_made info ns = refl
+root_is_made info head ns = refl
+
+-- what is clean of a document
+record CleanParts (info : InfoView) (head : List NodeView) : Type 0 where
+  parts : InfoParts info
+  alone : AreElementsAndTexts (nodes_of head)
 
 -- the root of such a document: its body is clean
-abbrev HasCleanBody : InfoView → ElementView → Type 0
-HasCleanBody info root = (inside : NodesView)
-    × (root ≡ made_root (lang_text info.locale) (entries_of info) inside)
+abbrev HasCleanBody : InfoView → (head : List NodeView) → ElementView → Type 0
+HasCleanBody info head root = (inside : NodesView)
+    × (root ≡ made_root (lang_text info.locale) (head_inside info head) inside)
     × AreCleanNodes false inside
 
-clean_body : (info : InfoView) (items : ItemsView) → InfoParts info → is_plain_flow items ≡ true →
-    are_clean_items items ≡ true → HasCleanBody info (linked_root info items no_items)
-clean_body info items parts plain clean =
-    let entries = charset_node ∷ viewport_node ∷ entry_nodes info in
+all_quiet : (info : InfoView) (head : List NodeView) → CleanParts info head →
+    AreElementsAndTexts (head_inside info head)
+all_quiet info head c = entries_quiet (charset_node ∷ viewport_node ∷ entry_nodes info) head
+    (all_entries info c.parts) (styled_quiet (nodes_of head) c.alone)
+
+clean_body : (info : InfoView) (head : List NodeView) (items : ItemsView) → CleanParts info head →
+    is_plain_flow items ≡ true → are_clean_items items ≡ true →
+    HasCleanBody info head (linked_root_with_head info head items no_items)
+clean_body info head items c plain clean =
     let ns = document_nodes items in
-    let root = linked_root_is info items plain in
+    let root = linked_root_is info head items plain in
     let anchored = body_anchored root.0 (made_root (lang_text info.locale) none none).0
-    (plain_made (codes "head") []) (plain_made (codes "body") []) (entries_of info)
-    (styled_nodes ns) (entries_quiet entries (all_entries info parts))
+    (plain_made (codes "head") []) (plain_made (codes "body") []) (head_inside info head)
+    (styled_nodes ns) (all_quiet info head c)
     (clean_items_make_clean_nodes None items refl plain clean) in (
       anchored.0,
-      root.1 ∙ (ap (element_with_anchors root.0) (root_is_made info ns) ∙ anchored.1),
+      root.1 ∙ (ap (element_with_anchors root.0) (root_is_made info head ns) ∙ anchored.1),
       anchored.2,
     )
 
 -- with the `href` of its links
-body_linked : (info : InfoView) (root : ElementView) (is_place : List ℕ → Bool) (anchor : Anchors) →
-    InfoParts info → HasCleanBody info root →
-    HasCleanBody info (root_with_links (anchor_hrefs is_place anchor) root)
+body_linked : (info : InfoView) (head : List NodeView) (root : ElementView)
+    (is_place : List ℕ → Bool) (anchor : Anchors) → CleanParts info head →
+    HasCleanBody info head root →
+    HasCleanBody info head (root_with_links (anchor_hrefs is_place anchor) root)
 unfolding nodes_with_links
-body_linked info root is_place anchor parts b =
-    let entries = charset_node ∷ viewport_node ∷ entry_nodes info in
+body_linked info head root is_place anchor c b =
     let hrefs = anchor_hrefs is_place anchor in
-    let still = entries_quiet entries (all_entries info parts) in
-    let kept = quiet_unlinked hrefs (entries_of info) [] false still refl in (
+    let kept = quiet_unlinked hrefs (head_inside info head) [] false (all_quiet info head c) refl in (
       nodes_with_links hrefs [] b.0,
       ap (root_with_links hrefs) b.1 ∙ rw kept refl,
       anchors_keep_clean_nodes false b.0 (nodes_with_links hrefs [] b.0)
@@ -327,42 +374,74 @@ body_linked info root is_place anchor parts b =
     )
 
 clean_body_written : (frames : Frames) (options : HtmlOptions) (info : InfoView)
-    (root : ElementView) → InfoParts info → HasCleanBody info root →
-    root_faults frames options root ≡ []
-clean_body_written frames options info root parts b =
+    (head : List NodeView) (root : ElementView) → CleanParts info head →
+    nodes_faults frames false options.pretty (styled_nodes (nodes_of head)) ≡ [] →
+    HasCleanBody info head root → root_faults frames options root ≡ []
+unfolding styled_nodes
+clean_body_written frames options info head root c own b =
+    let parts = c.parts in
     let entries = charset_node ∷ viewport_node ∷ entry_nodes info in
-    let each = all_entries info parts in
+    let more = styled_nodes (nodes_of (viewport_node ∷ (entry_nodes info ++ head))) in
     ap (map export_fault_view) (ap (writing.document_faults frames options) b.1
-    ∙ root_written frames options.pretty (lang_text info.locale) (entries_of info) b.0
-    (lang_is_clean info.locale parts.locale) (λ p. entries_written frames p entries each)
+    ∙ root_written frames options.pretty (lang_text info.locale) more b.0
+    (lang_is_clean info.locale parts.locale)
+    (entries_written frames options.pretty entries head (all_entries info parts) own)
     (λ p. clean_nodes_are_written false b.0 b.2 frames p))
+
+pub clean_heads_are_written : CleanHeadsAreWritten
+clean_heads_are_written frames options info head items plain clean known own =
+    let c : CleanParts info head = record { parts = info_parts info known; alone = own.alone } in
+    clean_body_written frames options info head (linked_root_with_head info head items no_items) c
+    own.written (clean_body info head items c plain clean)
+
+-- without nodes of one's own in the head
+
+module _ (frames : Frames) (options : HtmlOptions) (info : InfoView) (items : ItemsView)
+    (plain : is_plain_flow items ≡ true) (clean : are_clean_items items ≡ true)
+    (known : is_clean_info info ≡ true) where
+  no_head : CleanParts info []
+  no_head = record { parts = info_parts info known; alone = tt }
+
+  body_alone : HasCleanBody info [] (linked_root info items no_items)
+  body_alone = subst (λ d. HasCleanBody info [] (document_root d))
+      (no_nodes_change_nothing info items no_items) (clean_body info [] items no_head plain clean)
+
+  none_written : (root : ElementView) → HasCleanBody info [] root → root_faults frames options root ≡ []
+  unfolding styled_nodes nodes_faults
+  none_written root b = clean_body_written frames options info [] root no_head refl b
 
 pub clean_documents_are_written : CleanDocumentsAreWritten
 clean_documents_are_written frames options info items plain clean known =
-    let parts = info_parts info known in
-    clean_body_written frames options info (linked_root info items no_items) parts
-    (clean_body info items parts plain clean)
+    none_written frames options info items plain clean known (linked_root info items no_items)
+    (body_alone frames options info items plain clean known)
 
 pub clean_linked_documents_are_written : CleanLinkedDocumentsAreWritten
 clean_linked_documents_are_written frames options info items plain clean known is_place anchor =
-    let parts = info_parts info known in
     let root : ElementView = linked_root info items no_items in
-    clean_body_written frames options info (root_with_links (anchor_hrefs is_place anchor) root) parts
-    (body_linked info root is_place anchor parts (clean_body info items parts plain clean))
+    none_written frames options info items plain clean known
+    (root_with_links (anchor_hrefs is_place anchor) root)
+    (body_linked info [] root is_place anchor
+    (no_head frames options info items plain clean known)
+    (body_alone frames options info items plain clean known))
 
-pub clean_exports : (frames : Frames) (options : HtmlOptions) (limit : ℕ) (info : InfoView)
-    (items notes : ItemsView) → ArePlainItems limit items notes → are_clean_items items ≡ true →
-    is_clean_info info ≡ true → root_faults frames options (linked_root info items notes) ≡ []
-clean_exports frames options limit info items notes are clean known =
-    ap (λ n. root_faults frames options (linked_root info items n)) are.alone
-    ∙ clean_documents_are_written frames options info items are.plain clean known
+module _ (frames : Frames) (options : HtmlOptions) (limit : ℕ) (info : InfoView)
+    (items notes : ItemsView) (are : ArePlainItems limit items notes)
+    (clean : are_clean_items items ≡ true) (known : is_clean_info info ≡ true) where
+  pub clean_exports : root_faults frames options (linked_root info items notes) ≡ []
+  clean_exports = ap (λ n. root_faults frames options (linked_root info items n)) are.alone
+      ∙ clean_documents_are_written frames options info items are.plain clean known
 
-pub clean_linked_exports : (frames : Frames) (options : HtmlOptions) (limit : ℕ) (info : InfoView)
-    (items notes : ItemsView) → ArePlainItems limit items notes → are_clean_items items ≡ true →
-    is_clean_info info ≡ true → (is_place : List ℕ → Bool) (anchor : Anchors) →
-    root_faults frames options
-    (root_with_links (anchor_hrefs is_place anchor) (linked_root info items notes)) ≡ []
-clean_linked_exports frames options limit info items notes are clean known is_place anchor =
-    ap (λ n. root_faults frames options
-    (root_with_links (anchor_hrefs is_place anchor) (linked_root info items n))) are.alone
-    ∙ clean_linked_documents_are_written frames options info items are.plain clean known is_place anchor
+  pub clean_exports_with_head : (head : List NodeView) →
+      HeadIsClean frames options (nodes_of head) →
+      root_faults frames options (linked_root_with_head info head items notes) ≡ []
+  clean_exports_with_head head own =
+      ap (λ n. root_faults frames options (linked_root_with_head info head items n)) are.alone
+      ∙ clean_heads_are_written frames options info head items are.plain clean known own
+
+  pub clean_linked_exports : (is_place : List ℕ → Bool) (anchor : Anchors) →
+      root_faults frames options
+      (root_with_links (anchor_hrefs is_place anchor) (linked_root info items notes)) ≡ []
+  clean_linked_exports is_place anchor =
+      ap (λ n. root_faults frames options
+      (root_with_links (anchor_hrefs is_place anchor) (linked_root info items n))) are.alone
+      ∙ clean_linked_documents_are_written frames options info items are.plain clean known is_place anchor

@@ -9,15 +9,16 @@ pub mod Entries
 pub mod FaultsInOrder
 pub mod Firsts
 pub mod Fragments
+pub mod HeadNodes
 pub mod LinkedRoots
 pub mod Nodes
 pub mod Notes
 pub mod Outlines
 pub mod OwnHead
 pub mod PlainRoots
+pub mod RawEndings
 pub mod ReadLinks
 pub mod SpacesInDocuments
 pub mod SpacesInTexts
-pub mod SpacesWithHead
 pub mod StyledRoots
 pub mod Untargeted

@@ -1,9 +1,9 @@
 -- The root of a document that is made of items in plain flow, without footnotes.
-use Rattle.std.proofs.Common.{◌≡◌, true, false, List, [], ◌∷◌, None, Some, codes, refl, ap, ◌∙◌, append-nil}
+use Rattle.std.proofs.Common.{◌≡◌, true, false, List, [], ◌∷◌, ◌++◌, None, Some, codes, refl, ap, ◌∙◌, append-nil}
 use Rattle.html_names.specs.Kinds.{is_raw}
 use Rattle.html_names.specs.Names.{stands_in}
 use Rattle.html_dom_tree.specs.Styled.{head_with_style, styled_node, styled_nodes}
-use Rattle.html_dom_tree.specs.Tree.{NodeView, element_node, NodesView, none, node, ElementView, new_element}
+use Rattle.html_dom_tree.specs.Tree.{Head, NodeView, element_node, NodesView, none, node, ElementView, new_element}
 use Rattle.html_dom_tree.specs.Views.{nodes_of}
 use Rattle.html_flow_convert.specs.Protected.{nodes_by_answers}
 use Rattle.html_flow_convert.specs.Runs.{blank_front, after_front}
@@ -24,9 +24,9 @@ use Rattle.typst_html_spaces.proofs.Each.{Each}
 use Rattle.typst_html_spaces.proofs.PlainNodes.{makes_plain_nodes, names_are_inside}
 use Rattle.typst_html_spaces.specs.ReadableNodes.{AreReadable}
 use Rattle.typst_html_spaces.proofs.ReadableNodes.{styled_readable}
-use Rattle.typst_html_export.specs.Assembled.{first_own, nothing_own, document_outline, outline_by, shown_count, both_nodes, body_node, document_nodes, document_output, assembled_document}
+use Rattle.typst_html_export.specs.Assembled.{first_own, nothing_own, document_outline, outline_by, shown_count, both_nodes, body_node, document_nodes}
 use Rattle.typst_html_export.specs.DocumentHead.{made_node, charset_node, viewport_node, entry_nodes, lang_text}
-use Rattle.typst_html_export.specs.Linked.{linked_document}
+use Rattle.typst_html_export.specs.OwnHead.{output_around_with_head, assembled_document_with_head, linked_root_with_head}
 use Rattle.typst_html_export.specs.SpacesInDocuments.{PlainDocumentsAreMade}
 use Rattle.typst_html_export.proofs.Entries.{of_entries}
 
@@ -66,25 +66,38 @@ no_notes ns = ap nodes_of (append-nil (node_list ns)) ∙ nodes_of_list ns
 
 -- the root that is made with these entries in its head, with styles
 
-abbrev head_of : (entries : List NodeView) → NodeView
+abbrev pub head_of : (entries : List NodeView) → NodeView
 head_of entries = made_node (codes "head") [] (nodes_of (charset_node ∷ viewport_node ∷ entries))
 
-abbrev pub root_over : InfoView → (entries : List NodeView) → NodesView → ElementView
-root_over info entries ns = (
-  head_with_style (record (new_element (codes "html")).0 {
-    attrs = (codes "lang", lang_text info.locale) ∷ [];
-  }),
-  styled_nodes (node (head_of entries) (node (body_node ns) none)),
-)
+abbrev pub top_of : InfoView → Head
+top_of info =
+    record (new_element (codes "html")).0 { attrs = (codes "lang", lang_text info.locale) ∷ [] }
 
-output_is : (info : InfoView) (items : ItemsView) → is_plain_flow items ≡ true →
-    document_output info items no_items
+abbrev pub inside_of : (entries : List NodeView) → NodesView → NodesView
+inside_of entries ns = node (head_of entries) (node (body_node ns) none)
+
+abbrev pub root_over : InfoView → (entries : List NodeView) → NodesView → ElementView
+root_over info entries ns = (head_with_style (top_of info), styled_nodes (inside_of entries ns))
+
+-- the entries of the information, and nodes behind them
+abbrev pub entries_with : InfoView → (head : List NodeView) → List NodeView
+entries_with info head = entry_nodes info ++ head
+
+output_is : (info : InfoView) (head : List NodeView) (items : ItemsView) →
+    is_plain_flow items ≡ true →
+    output_around_with_head info head (document_nodes items) no_items
     ≡ record {
-      nodes = node (node_of (root_over info (entry_nodes info) (document_nodes items))) none;
+      nodes = node (node_of (root_over info (entries_with info head) (document_nodes items))) none;
       root = 0;
     }
 unfolding styled_node
-output_is info items e = rw (plain_outline items e, no_notes (document_nodes items)) refl
+output_is info head items e = rw (plain_outline items e, no_notes (document_nodes items)) refl
+
+with_new_root : (o : OutputView) (root : ElementView) →
+    o ≡ record { nodes = node (node_of root) none; root = 0 } →
+    (change : ElementView → ElementView) →
+    given_root (root_of (with_root o (change (given_root (root_of o))))) ≡ change root
+with_new_root o root is change = rw is refl
 
 pub body_is : (info : InfoView) (entries : List NodeView) (ns : NodesView) →
     body_children (root_over info entries ns).1 ≡ Some (styled_nodes ns)
@@ -106,32 +119,25 @@ entries_readable = of_entries (HoldsOf (of_heads (λ h. is_raw h.name ≡ false)
 pub root_readable : (info : InfoView) (entries : List NodeView) (ns : NodesView) →
     AreReadable (nodes_of entries) → AreReadable ns → AreReadable (root_over info entries ns).1
 root_readable info entries ns own r =
-    styled_readable (node (head_of entries) (node (body_node ns) none)) (
+    styled_readable (inside_of entries ns) (
       (made_not_raw.1, ((made_not_raw.3, tt), ((made_not_raw.3, tt), own))),
       ((body_is_not_raw, r), tt),
     )
 
-pub assembled_root_is : (info : InfoView) (items : ItemsView) → is_plain_flow items ≡ true →
-    document_root (assembled_document info items no_items)
-    ≡ root_over info (entry_nodes info) (document_nodes items)
-assembled_root_is info items e = ap (λ o. given_root (root_of o)) (output_is info items e)
+module _ (info : InfoView) (head : List NodeView) (items : ItemsView)
+    (e : is_plain_flow items ≡ true) where
+  pub assembled_root_is : document_root (assembled_document_with_head info head items no_items)
+      ≡ root_over info (entries_with info head) (document_nodes items)
+  assembled_root_is = ap (λ o. given_root (root_of o)) (output_is info head items e)
 
--- the root with anchors
-
-pub with_new_root : (o : OutputView) (root : ElementView) →
-    o ≡ record { nodes = node (node_of root) none; root = 0 } →
-    (change : ElementView → ElementView) →
-    given_root (root_of (with_root o (change (given_root (root_of o))))) ≡ change root
-with_new_root o root is change = rw is refl
-
-pub linked_root_is : (info : InfoView) (items : ItemsView) → is_plain_flow items ≡ true →
-    (x : Targets) × (document_root (linked_document info items no_items)
-    ≡ element_with_anchors x (root_over info (entry_nodes info) (document_nodes items)))
-linked_root_is info items e =
-    let d : DocumentView = assembled_document info items no_items in
-    let x : Targets = document_targets d.introspector.is_link_target d in (
-      x,
-      with_new_root (document_output info items no_items)
-          (root_over info (entry_nodes info) (document_nodes items)) (output_is info items e)
-          (λ root. element_with_anchors x root),
-    )
+  -- the root with anchors
+  pub linked_root_is : (x : Targets) × (linked_root_with_head info head items no_items
+      ≡ element_with_anchors x (root_over info (entries_with info head) (document_nodes items)))
+  linked_root_is =
+      let d : DocumentView = assembled_document_with_head info head items no_items in
+      let x : Targets = document_targets d.introspector.is_link_target d in (
+        x,
+        with_new_root (output_around_with_head info head (document_nodes items) no_items)
+            (root_over info (entries_with info head) (document_nodes items))
+            (output_is info head items e) (λ root. element_with_anchors x root),
+      )

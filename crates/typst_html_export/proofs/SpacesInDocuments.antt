@@ -23,7 +23,7 @@ use Rattle.typst_html_spaces.specs.ItemText.{items_text}
 use Rattle.typst_html_spaces.specs.PlainFlow.{is_plain_flow}
 use Rattle.typst_html_spaces.specs.SeenBody.{seen_plains, seen_tree, seen_text}
 use Rattle.typst_html_spaces.proofs.Anchored.{anchors_are_unseen, anchors_keep_edges}
-use Rattle.typst_html_spaces.proofs.DeepNodes.{of_each}
+use Rattle.typst_html_spaces.proofs.DeepNodes.{of_both}
 use Rattle.typst_html_spaces.proofs.PlainNodes.{makes_plain_nodes, plain_readable}
 use Rattle.typst_html_spaces.specs.ReadableNodes.{AreReadable}
 use Rattle.typst_html_spaces.proofs.ReadableNodes.{readable_can_be_read, anchors_keep_readable, anchors_keep_body}
@@ -33,90 +33,130 @@ use Rattle.typst_html_export.specs.Assembled.{assembled_document, document_nodes
 use Rattle.typst_html_export.specs.DocumentHead.{entry_nodes}
 use Rattle.typst_html_export.specs.Exported.{linked_root}
 use Rattle.typst_html_export.specs.Linked.{linked_document}
-use Rattle.typst_html_export.specs.SpacesInDocuments.{PlainDocumentsAreSeen, PlainLinkedDocumentsAreSeen, IsReadAs, PlainDocumentsAreRead, PlainLinkedDocumentsAreRead, SpacesAreLeft}
+use Rattle.typst_html_export.specs.OwnHead.{linked_document_with_head, linked_root_with_head}
+use Rattle.typst_html_export.specs.SpacesInDocuments.{PlainDocumentsAreSeen, PlainLinkedDocumentsAreSeen, IsShownAs, IsReadAs, PlainDocumentsAreRead, PlainLinkedDocumentsAreRead, SpacesAreLeft, SpacesAreShown}
 use Rattle.typst_html_export.proofs.AnchoredRoots.{root_anchored}
 use Rattle.typst_html_export.proofs.LinkedRoots.{nodes_linked}
-use Rattle.typst_html_export.proofs.PlainRoots.{assembled_root_is, root_over, body_is, made_not_raw, entries_readable, root_readable, linked_root_is}
+use Rattle.typst_html_export.proofs.OwnHead.{no_nodes_around, no_nodes_change_nothing}
+use Rattle.typst_html_export.proofs.PlainRoots.{assembled_root_is, entries_with, root_over, body_is, made_not_raw, entries_readable, root_readable, linked_root_is}
 
--- a root without a raw element and without a frame, in whose body exactly that text of items is
--- seen, and what has indents is a border
-pub record ShowsItems (root : ElementView) (items : ItemsView) : Type 0 where
-  pub not_raw : is_raw root.0.name ≡ false
-  pub readable : AreReadable root.1
-  pub body : NodesView
-  pub body_is : body_children root.1 ≡ Some body
-  pub edged : NodesAreEdged body
-  pub seen : seen_plains (nodes_normal body) ≡ items_text items
+-- a root that is not raw, in whose body exactly that text of items is seen, and what has indents is
+-- a border
+record ShowsItems (root : ElementView) (items : ItemsView) : Type 0 where
+  not_raw : is_raw root.0.name ≡ false
+  body : NodesView
+  body_is : body_children root.1 ≡ Some body
+  edged : NodesAreEdged body
+  seen : seen_plains (nodes_normal body) ≡ items_text items
 
-pub shown_read : (root : ElementView) (items : ItemsView) → ShowsItems root items → IsReadAs root items
-unfolding NodeEndsWell
-shown_read root items shows = record {
-  frame_free = (readable_can_be_read root.1 shows.readable).0;
-  ends_well = (
-    λ r. absurd (both_ways (is_raw root.0.name) shows.not_raw r),
-    (readable_can_be_read root.1 shows.readable).1 _,
-  );
+shown : (root : ElementView) (items : ItemsView) → ShowsItems root items → IsShownAs root items
+shown root items shows = record {
   plain = plain_tree_seen root shows.body shows.body_is ∙ ap Some shows.seen;
   pretty = pretty_tree_seen root shows.body shows.body_is shows.not_raw shows.edged
       ∙ ap Some shows.seen;
 }
 
 -- so is a root with anchors, or with the `href` of its links
-pub still_shown : (h : Head) (ns ms : NodesView) (items : ItemsView) → Anchored IsAny ns ms →
+still_shown : (h : Head) (ns ms : NodesView) (items : ItemsView) → Anchored IsAny ns ms →
     ShowsItems (h, ns) items → ShowsItems (h, ms) items
 still_shown h ns ms items a shows =
     let new = anchors_keep_body ns ms shows.body a shows.body_is in
     record {
       not_raw = shows.not_raw;
-      readable = anchors_keep_readable ns ms a shows.readable;
       body = new.0;
       body_is = new.1;
       edged = anchors_keep_edges shows.body new.0 new.2 shows.edged;
       seen = ap collapsed_pieces (anchors_are_unseen shows.body new.0 new.2 false) ∙ shows.seen;
     }
 
--- a root that is made of items in plain flow
+-- a root without a raw element and without a frame can be read too
 
-pub made_shown : (info : InfoView) (entries : List NodeView) (items : ItemsView) →
-    AreReadable (nodes_of entries) → is_plain_flow items ≡ true →
-    ShowsItems (root_over info entries (document_nodes items)) items
-made_shown info entries items own e =
+record ReadsAsItems (root : ElementView) (items : ItemsView) : Type 0 where
+  readable : AreReadable root.1
+  shows : ShowsItems root items
+
+read_as : (root : ElementView) (items : ItemsView) → ReadsAsItems root items → IsReadAs root items
+unfolding NodeEndsWell
+read_as root items reads =
+    let both = readable_can_be_read root.1 reads.readable in
+    record {
+      frame_free = both.0;
+      ends_well = (λ r. absurd (both_ways (is_raw root.0.name) reads.shows.not_raw r), both.1 _);
+      shown = shown root items reads.shows;
+    }
+
+still_read : (h : Head) (ns ms : NodesView) (items : ItemsView) → Anchored IsAny ns ms →
+    ReadsAsItems (h, ns) items → ReadsAsItems (h, ms) items
+still_read h ns ms items a reads = record {
+  readable = anchors_keep_readable ns ms a reads.readable;
+  shows = still_shown h ns ms items a reads.shows;
+}
+
+-- a root that is made of items in plain flow, with any nodes in its head
+
+made_shown : (info : InfoView) (entries : List NodeView) (items : ItemsView) →
+    is_plain_flow items ≡ true → ShowsItems (root_over info entries (document_nodes items)) items
+made_shown info entries items e =
     let ns : NodesView = document_nodes items in
-    let made = makes_plain_nodes None items e in
     record {
       not_raw = made_not_raw.0;
-      readable = root_readable info entries ns own (plain_readable ns made.0);
       body = styled_nodes ns;
       body_is = body_is info entries ns;
-      edged = made.1;
+      edged = (makes_plain_nodes None items e).1;
       seen = spaces_stay None items e;
     }
 
-own_shown : (info : InfoView) (items : ItemsView) → is_plain_flow items ≡ true →
-    ShowsItems (root_over info (entry_nodes info) (document_nodes items)) items
-own_shown info items =
-    made_shown info (entry_nodes info) items (of_each _ false (entry_nodes info) (entries_readable info))
+made_read : (info : InfoView) (head : List NodeView) (items : ItemsView) →
+    AreReadable (nodes_of head) → is_plain_flow items ≡ true →
+    ReadsAsItems (root_over info (entries_with info head) (document_nodes items)) items
+made_read info head items own e =
+    let ns : NodesView = document_nodes items in
+    record {
+      readable = root_readable info (entries_with info head) ns
+          (of_both _ false (entry_nodes info) head (entries_readable info) own)
+          (plain_readable ns (makes_plain_nodes None items e).0);
+      shows = made_shown info (entries_with info head) items e;
+    }
 
-linked_shown : (info : InfoView) (items : ItemsView) → is_plain_flow items ≡ true →
-    ShowsItems (linked_root info items no_items) items
+linked_shown : (info : InfoView) (head : List NodeView) (items : ItemsView) →
+    is_plain_flow items ≡ true → ShowsItems (linked_root_with_head info head items no_items) items
 unfolding element_with_anchors
-linked_shown info items e =
-    let is = linked_root_is info items e in
-    let old : ElementView = root_over info (entry_nodes info) (document_nodes items) in
+linked_shown info head items e =
+    let is = linked_root_is info head items e in
+    let old : ElementView = root_over info (entries_with info head) (document_nodes items) in
     subst (λ r. ShowsItems r items) (sym is.1)
     (still_shown old.0 old.1 (element_with_anchors is.0 old).1 items (root_anchored is.0 old)
-    (own_shown info items e))
+    (made_shown info (entries_with info head) items e))
+
+linked_read : (info : InfoView) (head : List NodeView) (items : ItemsView) →
+    AreReadable (nodes_of head) → is_plain_flow items ≡ true →
+    ReadsAsItems (linked_root_with_head info head items no_items) items
+unfolding element_with_anchors
+linked_read info head items own e =
+    let is = linked_root_is info head items e in
+    let old : ElementView = root_over info (entries_with info head) (document_nodes items) in
+    subst (λ r. ReadsAsItems r items) (sym is.1)
+    (still_read old.0 old.1 (element_with_anchors is.0 old).1 items (root_anchored is.0 old)
+    (made_read info head items own e))
+
+-- without such nodes
+
+alone_read : (info : InfoView) (items : ItemsView) → is_plain_flow items ≡ true →
+    ReadsAsItems (linked_root info items no_items) items
+alone_read info items e =
+    subst (λ d. ReadsAsItems (document_root d) items) (no_nodes_change_nothing info items no_items)
+    (linked_read info [] items tt e)
 
 pub plain_documents_are_read : PlainDocumentsAreRead
 plain_documents_are_read info items e =
-    shown_read (linked_root info items no_items) items (linked_shown info items e)
+    read_as (linked_root info items no_items) items (alone_read info items e)
 
 pub plain_linked_documents_are_read : PlainLinkedDocumentsAreRead
 plain_linked_documents_are_read info items e hrefs =
     let old : ElementView = linked_root info items no_items in
-    shown_read (root_with_links hrefs old) items
-    (still_shown old.0 old.1 (nodes_with_links hrefs [] old.1) items (nodes_linked hrefs old.1)
-    (linked_shown info items e))
+    read_as (root_with_links hrefs old) items
+    (still_read old.0 old.1 (nodes_with_links hrefs [] old.1) items (nodes_linked hrefs old.1)
+    (alone_read info items e))
 
 -- so in the text of such a root exactly the items' text is seen
 
@@ -125,9 +165,9 @@ text_is_seen : (frames : Frames) (root : ElementView) (items : ItemsView) → Is
     writing.document_faults frames (record { pretty = pretty }) root ≡ [] →
     seen_text (document_text frames (record { pretty = pretty }) root) ≡ Some (items_text items)
 text_is_seen frames root items is named false clean =
-    ap seen_tree ((reads_back frames).0 root named is.frame_free clean) ∙ is.plain
+    ap seen_tree ((reads_back frames).0 root named is.frame_free clean) ∙ is.shown.plain
 text_is_seen frames root items is named true clean =
-    ap seen_tree ((reads_back frames).1 root named is.frame_free is.ends_well clean) ∙ is.pretty
+    ap seen_tree ((reads_back frames).1 root named is.frame_free is.ends_well clean) ∙ is.shown.pretty
 
 pub plain_documents_are_seen : PlainDocumentsAreSeen
 plain_documents_are_seen info items e frames options named clean =
@@ -142,11 +182,29 @@ plain_linked_documents_are_seen info items e hrefs frames options named clean =
 pub spaces_are_left_without_anchors : (info : InfoView) (items notes : ItemsView)
     (d : DocumentView) → d ≡ assembled_document info items notes → SpacesAreLeft d items notes
 spaces_are_left_without_anchors info items notes d is e alone =
-    let root = root_over info (entry_nodes info) (document_nodes items) in
+    let root = root_over info (entries_with info []) (document_nodes items) in
     let top : document_root d ≡ root =
-    ap document_root (is ∙ ap (assembled_document info items) alone)
-    ∙ assembled_root_is info items e in
-    subst (λ r. IsReadAs r items) (sym top) (shown_read root items (own_shown info items e))
+    ap document_root (is ∙ (ap (assembled_document info items) alone
+    ∙ sym (no_nodes_around info (document_nodes items) no_items)))
+    ∙ assembled_root_is info [] items e in
+    subst (λ r. IsReadAs r items) (sym top) (read_as root items (made_read info [] items tt e))
+
+-- with nodes in the head
+module _ (info : InfoView) (head : List NodeView) (items notes : ItemsView) (d : DocumentView)
+    (is : d ≡ linked_document_with_head info head items notes) where
+  root_is : notes ≡ no_items → linked_root_with_head info head items no_items ≡ document_root d
+  root_is alone =
+      sym (ap document_root is ∙ ap (λ n. linked_root_with_head info head items n) alone)
+
+  pub spaces_are_left_with_head : AreReadable (nodes_of head) → SpacesAreLeft d items notes
+  spaces_are_left_with_head own e alone = subst (λ r. IsReadAs r items) (root_is alone)
+      (read_as (linked_root_with_head info head items no_items) items
+      (linked_read info head items own e))
+
+  pub spaces_are_shown : SpacesAreShown d items notes
+  spaces_are_shown e alone = subst (λ r. IsShownAs r items) (root_is alone)
+      (shown (linked_root_with_head info head items no_items) items
+      (linked_shown info head items e))
 
 pub spaces_are_left : (info : InfoView) (items notes : ItemsView) (d : DocumentView) →
     d ≡ linked_document info items notes → SpacesAreLeft d items notes

@@ -4,6 +4,7 @@ pub mod CleanInfo
 pub mod DocumentHead
 pub mod Exported
 pub mod Fragments
+pub mod HeadNodes
 pub mod Linked
 pub mod LinkedRoots
 pub mod Outlines

@@ -47,13 +47,17 @@ abbrev pub PlainLinkedDocumentsAreSeen : Type 0
 PlainLinkedDocumentsAreSeen = (info : InfoView) (items : ItemsView) → is_plain_flow items ≡ true →
     (hrefs : Hrefs) → IsSeenAs (root_with_links hrefs (linked_root info items no_items)) items
 
--- a root whose text reads as a tree with a body in which exactly that text of items is visible: the
--- plain text, and the pretty one, which has indents
+-- a root with a body in which exactly that text of items is visible, as the tree is and as pretty
+-- writing lays it out
+pub record IsShownAs (root : ElementView) (items : ItemsView) : Type 0 where
+  pub plain : seen_tree (Some (element_normal root)) ≡ Some (items_text items)
+  pub pretty : seen_tree (Some (element_normal (element_layout root))) ≡ Some (items_text items)
+
+-- such a root whose text reads as that tree: the plain text, and the pretty one, which has indents
 pub record IsReadAs (root : ElementView) (items : ItemsView) : Type 0 where
   pub frame_free : ElementIsFrameFree root
   pub ends_well : ElementEndsWell true root
-  pub plain : seen_tree (Some (element_normal root)) ≡ Some (items_text items)
-  pub pretty : seen_tree (Some (element_normal (element_layout root))) ≡ Some (items_text items)
+  pub shown : IsShownAs root items
 
 -- this holds for the root of a document made from items in plain flow, with its anchors
 abbrev pub PlainDocumentsAreRead : Type 0
@@ -69,6 +73,11 @@ PlainLinkedDocumentsAreRead = (info : InfoView) (items : ItemsView) → is_plain
 abbrev pub SpacesAreLeft : DocumentView → (items notes : ItemsView) → Type 0
 SpacesAreLeft d items notes = is_plain_flow items ≡ true → notes ≡ no_items →
     IsReadAs (document_root d) items
+
+-- with any nodes in its head, exactly the items' text is visible in the body of such a document
+abbrev pub SpacesAreShown : DocumentView → (items notes : ItemsView) → Type 0
+SpacesAreShown d items notes = is_plain_flow items ≡ true → notes ≡ no_items →
+    IsShownAs (document_root d) items
 
 -- exactly the items' text is visible in a text, if they are in plain flow and there are no
 -- footnotes

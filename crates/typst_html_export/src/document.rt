@@ -25,7 +25,7 @@ ghost use Rattle.typst_html_export.specs.Outlines.{outline_view, own_view};
 ghost use Rattle.typst_html_export.specs.OwnHead.{assembled_document_with_head, assembled_output_with_head, document_around_with_head};
 ghost use Rattle.typst_html_export.specs.OwnHead.{have_own_root, html_output_with_head, is_root, linked_document_with_head};
 ghost use Rattle.typst_html_export.specs.Roots.{styled_root};
-ghost use Rattle.typst_html_export.specs.SpacesInDocuments.{ArePlainItems, SpacesAreLeft};
+ghost use Rattle.typst_html_export.specs.SpacesInDocuments.{ArePlainItems, SpacesAreLeft, SpacesAreShown};
 
 use crate::head::{head_node, lang_text};
 use html_dom_document::{DocumentInfo, HtmlDocument, HtmlOutput, is_named_html};
@@ -146,10 +146,12 @@ pub fn html_document_with_head(
         (map node_view head.now) (items_view items.now) (items_view footnotes.now)) →
         IfOk result (λ document. IdsAreDistinct (document_view document)) }
     // Items in plain flow, without footnotes and none too deep, become a document unless an
-    // allocation fails, and if no node of the head is raw or a frame, in its text exactly theirs is
-    // visible.
+    // allocation fails. Exactly their text is visible in its body, whatever is in the head, and in
+    // its text if no node of the head is raw or a frame.
     ensures plain { ArePlainItems limit (items_view items.now) (items_view footnotes.now) →
         FailsByMemoryAlone result }
+    ensures visible { IfOk result (λ document. SpacesAreShown (document_view document)
+        (items_view items.now) (items_view footnotes.now)) }
     ensures spaces { AreReadable (nodes_view head.now) →
         IfOk result (λ document. SpacesAreLeft (document_view document)
         (items_view items.now) (items_view footnotes.now)) }

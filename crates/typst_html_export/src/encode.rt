@@ -18,12 +18,12 @@ ghost use Rattle.html_dom_link.specs.GivenLinks.{AnchorsAreTexts, GivenLinksLead
 ghost use Rattle.html_dom_link.specs.Links.{document_dead_links};
 ghost use Rattle.html_flow_convert.specs.Views.{items_view};
 ghost use Rattle.typst_html_spaces.specs.CleanItems.{are_clean_items};
-ghost use Rattle.typst_html_spaces.specs.ReadableNodes.{AreReadable};
 ghost use Rattle.typst_html_export.specs.Assembled.{assembled_document};
 ghost use Rattle.typst_html_export.specs.Assembles.{GivesDocument, FailsByMemoryAlone};
 ghost use Rattle.typst_html_export.specs.CleanInfo.{is_clean_info};
 ghost use Rattle.typst_html_export.specs.Exported.{export_faults, export_linked_faults, export_linked_text, export_text};
 ghost use Rattle.typst_html_export.specs.Exported.{linked_root, resolved_document, resolved_root, root_faults};
+ghost use Rattle.typst_html_export.specs.HeadNodes.{HeadIsClean, HeadIsReadable};
 ghost use Rattle.typst_html_export.specs.Linked.{linked_document};
 ghost use Rattle.typst_html_export.specs.OwnHead.{export_faults_with_head, export_text_with_head, linked_root_with_head};
 ghost use Rattle.typst_html_export.specs.ReadLinks.{GivenLinksLeadWhenRead, DocumentIsReadable};
@@ -142,6 +142,12 @@ pub fn export<F: FrameWriter>(
 /// [`html_document_with_head`] makes the document, and [`html`] writes it. Fails as `export` does,
 /// and for faults of writing in these nodes too.
 ///
+/// What `export` says of items in plain flow holds here too. Their text is visible whatever
+/// elements are in the head, a `style` or `script` too, if no node there is a frame and, in pretty
+/// text, no `style` or `script` ends in its own closing tag but for the last character (`</style`).
+/// Clean items with clean information are written if the head's nodes are elements and texts alone,
+/// without a tag or a frame, and have no fault of their own once css is in `style`.
+///
 /// ```
 /// use typst_html::{DocumentInfo, HtmlElement, HtmlNode, HtmlOptions};
 /// use typst_html::{attr, export_with_head, tag};
@@ -175,13 +181,17 @@ pub fn export_with_head<F: FrameWriter>(
         (map node_view head.now) (items_view items.now) (items_view footnotes.now)) }
 
     // If no allocation fails, items in plain flow are refused only for faults of their document's
-    // tree. If no node of the head is raw or a frame, exactly their text is visible once white
-    // space has collapsed.
+    // tree, and clean ones with clean information and a clean head are not refused. If the head can
+    // be read, exactly their text is visible once white space has collapsed.
     ensures plain { ArePlainItems limit (items_view items.now) (items_view footnotes.now) →
         IfErr result (λ e. IsFirstView e (root_faults (F.drawing frames.now) options.now
         (linked_root_with_head (info_view info.now) (map node_view head.now)
         (items_view items.now) (items_view footnotes.now)))) }
-    ensures spaces { AreReadable (nodes_view head.now) →
+    ensures clean { ArePlainItems limit (items_view items.now) (items_view footnotes.now) →
+        are_clean_items (items_view items.now) ≡ true → is_clean_info (info_view info.now) ≡ true →
+        HeadIsClean (F.drawing frames.now) options.now (nodes_view head.now) →
+        FailsByMemoryAlone result }
+    ensures spaces { HeadIsReadable options.now (nodes_view head.now) →
         IfOk result (λ text. SpacesAreSeen (text_view text)
         (items_view items.now) (items_view footnotes.now)) }
 

@@ -2,6 +2,7 @@
 //! nothing.
 
 ghost use Rattle.typst_html_export.specs.CleanInfo.{CleanDocumentsAreWritten, CleanLinkedDocumentsAreWritten};
+ghost use Rattle.typst_html_export.specs.HeadNodes.{CleanHeadsAreWritten};
 ghost use Rattle.typst_html_export.specs.LinkedRoots.{AnchorsKeepAtoms, LinksKeepAtoms, LinksKeepFrames, LinksKeepNames};
 ghost use Rattle.typst_html_export.specs.OwnHead.{NoNodesChangeNothing, OwnRootsHaveNoInfo, OwnRootsHaveNoNodes};
 ghost use Rattle.typst_html_export.specs.SpacesInDocuments.{PlainDocumentsAreMade, PlainDocumentsAreSeen, PlainLinkedDocumentsAreRead, PlainLinkedDocumentsAreSeen};
@@ -35,9 +36,11 @@ pub fn links_are_unseen()
 {}
 
 /// Nodes of your own in the head change nothing of a document if there are none, or if its items
-/// have a root of their own. In the latter case the information is not in its tree either.
+/// have a root of their own. In the latter case the information is not in its tree either. If these
+/// nodes, and items in plain flow and the information are clean, the document has no fault.
 pub fn own_heads()
     ensures none { NoNodesChangeNothing }
     ensures own { OwnRootsHaveNoNodes }
     ensures unknown { OwnRootsHaveNoInfo }
+    ensures clean { CleanHeadsAreWritten }
 {}

@@ -51,7 +51,7 @@ styled_readable ns = heads_styled (λ h. is_raw h.name ≡ false) (λ h. is_raw 
 
 -- anchors
 
-span_not_raw : is_raw (codes "span") ≡ false
+pub span_not_raw : is_raw (codes "span") ≡ false
 unfolding is_raw stands_in
 span_not_raw = refl
 
@@ -61,7 +61,7 @@ anchors_keep_readable ns ms a r = holds_then
     (λ a value h i e. e)) a false r
 
 module _ {c : Change} where
-  frames_kept : {ns ms : NodesView} → Changed c ns ms →
+  pub frames_kept : {ns ms : NodesView} → Changed c ns ms →
       (NodesAreFrameFree ms ↔ NodesAreFrameFree ns)
   unfolding NodeIsFrameFree
   frames_kept at_end = (λ e. e, λ e. e)

@@ -13,7 +13,7 @@ use Rattle.typst_html_export.specs.LinkedRoots.{HaveSameAtoms}
 use Rattle.typst_html_export.proofs.Anchors.{anchors_are_first_ids, anchors_are_not_seen, known_anchors_are_shown, known_anchors_serve}
 use Rattle.typst_html_export.proofs.Firsts.{memory_alone}
 use Rattle.typst_html_export.proofs.PlainRoots.{plain_documents_are_made}
-use Rattle.typst_html_export.proofs.SpacesWithHead.{spaces_are_left_with_head}
+use Rattle.typst_html_export.proofs.SpacesInDocuments.{spaces_are_left_with_head, spaces_are_shown}
 use Rattle.typst_html_export.proofs.document.html_document_with_head.Goals as goal
 
 pub returns-clause-anchors : goal.returns-clause-anchors
@@ -53,6 +53,13 @@ returns-in_err-document-clause-plain c = λ are.
 pub returns-clause-spaces : goal.returns-clause-spaces
 returns-clause-spaces c =
     spaces_are_left_with_head (info_view c.args.info.now) (map node_view c.args.head.now)
+    (items_view c.args.items.now) (items_view c.args.footnotes.now) _
+    (c.in_ok-with_anchors.ensures.made
+    ∙ ap document_with_anchors c.in_ok-document.ensures.made.made)
+
+pub returns-clause-visible : goal.returns-clause-visible
+returns-clause-visible c =
+    spaces_are_shown (info_view c.args.info.now) (map node_view c.args.head.now)
     (items_view c.args.items.now) (items_view c.args.footnotes.now) _
     (c.in_ok-with_anchors.ensures.made
     ∙ ap document_with_anchors c.in_ok-document.ensures.made.made)

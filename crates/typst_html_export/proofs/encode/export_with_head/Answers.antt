@@ -1,18 +1,28 @@
-use Rattle.std.proofs.Common.{◌≡◌, true, false, Some, ap, subst, IfOk}
+use Rattle.std.proofs.Common.{◌≡◌, true, false, List, [], Some, refl, ap, subst, map, Result, Ok, Err, IfOk, OnOk, String, Global}
 use Rattle.std.proofs.lemmas.Result.{err_from_is_err_and}
 use Rattle.html_dom_document.specs.Documents.{document_root}
-use Rattle.html_dom_document.specs.Views.{document_view}
+use Rattle.html_dom_document.specs.Views.{document_view, info_view}
 use Rattle.html_dom_tree.specs.FrameFree.{ElementIsFrameFree}
 use Rattle.html_dom_tree.specs.PlainTree.{element_normal}
-use Rattle.html_dom_tree.specs.Views.{text_view}
+use Rattle.html_dom_tree.specs.Tree.{ElementView}
+use Rattle.html_dom_tree.specs.Views.{node_view, text_view}
 use Rattle.html_flow_convert.specs.Views.{items_view}
+use Rattle.typst_html_encode.specs.ExportFaults as writing
+use Rattle.typst_html_encode.specs.FrameWriters.{Frames}
 use Rattle.typst_html_encode.specs.Indented.{element_layout, ElementEndsWell}
 use Rattle.typst_html_encode.specs.Reader.{read}
+use Rattle.typst_html_encode.specs.declared.fault.ExportFault.{ExportFault}
+use Rattle.typst_html_encode.specs.declared.options.HtmlOptions.{HtmlOptions}
 use Rattle.typst_html_export.specs.Assembled.{items_document_faults}
+use Rattle.typst_html_export.specs.Exported.{root_faults}
+use Rattle.typst_html_export.specs.OwnHead.{linked_document_with_head, linked_root_with_head}
+use Rattle.typst_html_export.proofs.CleanRoots.{clean_exports_with_head}
 use Rattle.typst_html_export.proofs.FaultsInOrder.{exported}
-use Rattle.typst_html_export.proofs.Firsts.{memory_first, first_past_none}
+use Rattle.typst_html_export.proofs.Firsts.{memory_first, first_past_none, fails_by_memory_alone}
+use Rattle.typst_html_export.proofs.HeadNodes.{root_can_be_read}
 use Rattle.typst_html_export.proofs.PlainRoots.{plain_documents_are_made}
-use Rattle.typst_html_export.proofs.SpacesInTexts.{spaces_are_seen}
+use Rattle.typst_html_export.proofs.SpacesInDocuments.{spaces_are_shown}
+use Rattle.typst_html_export.proofs.SpacesInTexts.{spaces_are_seen_if}
 use Rattle.typst_html_export.proofs.encode.export_with_head.Goals as goal
 
 pub returns-clause-makes : goal.returns-clause-makes
@@ -48,9 +58,47 @@ returns-clause-reads_indented g c =
     (λ text. read (text_view text) ≡ Some (element_normal (element_layout root))))
     (ap document_root c.in_ok-document.ensures.made.made) c.html_of_made.ensures.reads_indented
 
+pub returns-in_err-document-clause-clean : goal.returns-in_err-document-clause-clean
+returns-in_err-document-clause-clean g c = λ are clean known own.
+    let failed = err_from_is_err_and c.from_residual.result c.from_residual.ensures.1 in
+    rw (failed.1, failed.2) (c.in_err-document.ensures.plain are)
+
+pub returns-clause-clean : goal.returns-clause-clean
+returns-clause-clean g c = λ are clean known own.
+    let frames = g.F.FrameWriter.drawing c.args.frames.now in
+    let info = info_view c.args.info.now in
+    let head = map node_view c.args.head.now in
+    let items = items_view c.args.items.now in
+    let notes = items_view c.args.footnotes.now in
+    fails_by_memory_alone c.html_of_made.result
+    (root_faults frames c.args.options.now (linked_root_with_head info head items notes))
+    (clean_exports_with_head frames c.args.options.now c.args.limit info items notes are clean known
+    head own)
+    (returns-clause-plain g c are)
+
+-- whether a text was written, so that its root has no fault
+if_written : (frames : Frames) (options : HtmlOptions) (root : ElementView)
+    (r : Result (String Global) ExportFault) (P : Type 0) →
+    OnOk r (writing.document_faults frames options root ≡ []) →
+    (writing.document_faults frames options root ≡ [] → P) → OnOk r P
+if_written frames options root (Ok text) P none more = more none
+if_written frames options root (Err e) P none more = tt
+
 pub returns-clause-spaces : goal.returns-clause-spaces
-returns-clause-spaces g c = λ readable.
-    spaces_are_seen (document_root (document_view c.in_ok-document.document))
-    (items_view c.args.items.now) c.args.options.now.pretty c.html_of_made.result
-    (items_view c.args.footnotes.now) c.html_of_made.ensures.reads_back
-    c.html_of_made.ensures.reads_indented (c.in_ok-document.ensures.spaces readable)
+returns-clause-spaces g c = λ own.
+    let frames = g.F.FrameWriter.drawing c.args.frames.now in
+    let options = c.args.options.now in
+    let info = info_view c.args.info.now in
+    let head = map node_view c.args.head.now in
+    let items = items_view c.args.items.now in
+    let notes = items_view c.args.footnotes.now in
+    let root = linked_root_with_head info head items notes in
+    let r = c.html_of_made.result in
+    let clean : OnOk r (writing.document_faults frames options root ≡ []) =
+    subst (λ d. OnOk r (writing.document_faults frames options (document_root d) ≡ []))
+    c.in_ok-document.ensures.made.made c.html_of_made.ensures.makes.clean in
+    spaces_are_seen_if root items options.pretty r notes
+    (returns-clause-reads_back g c, returns-clause-reads_indented g c)
+    (if_written frames options root r _ clean
+    (λ none. root_can_be_read info head items notes frames options own none))
+    (spaces_are_shown info head items notes (linked_document_with_head info head items notes) refl)

@@ -1,3 +1,4 @@
+use Rattle.typst_html_export.proofs.CleanRoots.{clean_heads_are_written}
 use Rattle.typst_html_export.proofs.OwnHead.{no_nodes_change_nothing, own_roots_have_no_info, own_roots_have_no_nodes}
 use Rattle.typst_html_export.proofs.laws.own_heads.Goals as goal
 
@@ -9,3 +10,6 @@ returns-clause-own c = own_roots_have_no_nodes
 
 pub returns-clause-unknown : goal.returns-clause-unknown
 returns-clause-unknown c = own_roots_have_no_info
+
+pub returns-clause-clean : goal.returns-clause-clean
+returns-clause-clean c = clean_heads_are_written
