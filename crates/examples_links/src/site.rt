@@ -187,7 +187,7 @@ impl Site<'_> {
         let Some(fragment) = fragment_of(address) else {
             return Ok(None);
         };
-        if fragment.is_empty() || fragment_leads(self.alloc, &page.names, fragment)? {
+        if fragment_leads(self.alloc, &page.names, fragment)? {
             return Ok(None);
         }
         path.push('#')?;

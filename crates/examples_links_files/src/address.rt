@@ -52,11 +52,12 @@ fn is_slash(c: Option<char>) -> bool {
     matches!(c, Some('/' | '\\'))
 }
 
-/// Returns the text behind the first `#`.
+/// Returns the text behind the first `#`, without a directive (`:~:` and all behind it).
 pub fn fragment_of(address: &str) -> Option<&str> {
-    match address.split_once('#') {
-        Some((_, fragment)) => Some(fragment),
-        None => None,
+    let (_, fragment) = address.split_once('#')?;
+    match fragment.split_once(":~:") {
+        Some((fragment, _)) => Some(fragment),
+        None => Some(fragment),
     }
 }
 

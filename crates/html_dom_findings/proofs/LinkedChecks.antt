@@ -1,6 +1,6 @@
 -- Checks of a tree whose links are given an `href`, and of one whose names differ.
-use Rattle.std.proofs.Common.{◌≡◌, ℕ, Bool, true, false, not, ◌||◌, List, [], ◌∷◌, ◌++◌, Option, Some, None, chars, codes, bytes_eq, refl, ap, ◌∙◌, arith}
-use Rattle.std.specs.Prelude.{if◌then◌else◌, option_to_list}
+use Rattle.std.proofs.Common.{◌≡◌, ℕ, Bool, true, false, not, ◌||◌, List, [], ◌∷◌, ◌++◌, Option, Some, None, codes, bytes_eq, refl, ap, ◌∙◌, arith}
+use Rattle.std.specs.Prelude.{if◌then◌else◌, is_some, option_to_list}
 use Rattle.std.proofs.lemmas.Bool.{and_parts}
 use Rattle.std.proofs.lemmas.List.{append-nil}
 use Rattle.std.proofs.lemmas.List.Elements.{filter-append}
@@ -12,7 +12,7 @@ use Rattle.html_dom_document.specs.declared.document.HtmlDocument.{HtmlDocument}
 use Rattle.html_dom_link.specs.Answered.{shown_names}
 use Rattle.html_dom_link.specs.Distinct.{are_distinct, occurrences}
 use Rattle.html_dom_link.specs.GivenLinks.{AnchorsAreTexts, KnownAnchorsAreShown, LeadsTo}
-use Rattle.html_dom_link.specs.Indicated.{decoding, element_places, indicated_name, is_top, leads, place_names, url_fragment}
+use Rattle.html_dom_link.specs.Indicated.{element_places, indicated_name, leads, leads_to_top, place_names, url_fragment}
 use Rattle.html_dom_link.specs.Links.{Hrefs, attrs_with_href, document_hrefs, head_with_link, href_of, is_open, root_with_links}
 use Rattle.html_dom_link.specs.NewNames.{Name, all_ids, element_names, nodes_names, with_used_name, gathered_names}
 use Rattle.html_dom_link.proofs.ChangedRoots.{root_has_links}
@@ -74,17 +74,9 @@ module _ (hrefs : Hrefs) (is_place : Name → Bool)
     (name : Name) × LeadsTo is_place href name) where
   name_leads : (name fragment : List ℕ) → indicated_name is_place fragment ≡ Some name →
       leads is_place fragment ≡ true
-  unfolding leads indicated_name
+  unfolding leads
   name_leads name fragment is =
-      let f = url_fragment fragment in
-      by (is_place f) (is_place (chars (decoding f))) is
-    where
-      by : (a b : Bool) → (if a then Some (url_fragment fragment)
-          else (if b then Some (chars (decoding (url_fragment fragment))) else None)) ≡ Some name →
-          (a || (b || is_top (decoding (url_fragment fragment)))) ≡ true
-      by true b e = refl
-      by false true e = refl
-      by false false e = cc
+      ap (λ n. is_some n || leads_to_top (url_fragment fragment)) is
 
   abbrev dead_at : (path : List ℕ) → Head → List Placed
   dead_at path h = dead_among is_place (placed_at path (head_texts fragments h))

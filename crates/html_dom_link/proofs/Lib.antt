@@ -2,6 +2,7 @@ pub mod Back
 pub mod ChangedRoots
 pub mod Consequences
 pub mod Counting
+pub mod CutFragments
 pub mod Differing
 pub mod DocumentNames
 pub mod Freshes

@@ -1,13 +1,17 @@
 -- The fragment of an `href`, character by character, and where it leads.
-use Rattle.std.proofs.Common.{◌≡◌, ◌==◌, ℕ, List, [], ◌∷◌, ◌++◌, Bool, true, false, ◌||◌, None, Some, chars, length, refl, sym, ap, ◌∙◌, arith, append-nil, append_assoc}
+use Rattle.std.proofs.Common.{◌≡◌, ◌==◌, ℕ, List, [], ◌∷◌, ◌++◌, Bool, true, false, None, Some, String, Global, IfOk, chars, length, string_bytes, refl, sym, ap, ◌∙◌, arith, append-nil, append_assoc}
 use Rattle.std.specs.List.{filter, list_all}
+use Rattle.std.specs.Prelude.{Result, Ok, Err}
 use Rattle.std.specs.Str.{IsUtf8}
+use Rattle.std.specs.declared.alloc.AllocError.{AllocError}
 use Rattle.std.proofs.lemmas.Bool.{and_parts}
-use Rattle.std.proofs.lemmas.Str.{chars-nil, chars_past_char, encodes-chars, encodes-IsAscii}
+use Rattle.std.proofs.lemmas.Str.{IsUtf8-string_bytes, chars-nil, chars_past_char, encodes-chars, encodes-IsAscii}
 use lib.Utf8.{encode, encodes}
 use Rattle.percent_encoding.specs.Percent.{percent_encode}
 use Rattle.percent_encoding.proofs.PercentLemmas.{IsAscii-percent_encode}
-use Rattle.html_dom_link.specs.Indicated.{before_end, behind_hash, decoding, is_control_or_space, is_dropped, is_kept, leads, text_leads, unless_empty, url_end, url_fragment, without_end_blanks}
+use Rattle.html_names.specs.Texts.{text_view}
+use Rattle.html_dom_link.specs.Directives.{without_directive}
+use Rattle.html_dom_link.specs.Indicated.{before_end, behind_hash, decoding, if_place, indicated_at, is_control_or_space, is_dropped, is_kept, is_top, leads_to_top, unless_empty, url_end, url_fragment, without_end_blanks}
 use Rattle.html_dom_link.specs.NewNames.{Name}
 use Rattle.html_dom_link.specs.Spellings.{is_in_fragment_set}
 use Rattle.html_dom_link.specs.declared.spellings.TheConstants.{FRAGMENT}
@@ -131,24 +135,42 @@ some_unless s text u some is = ap (λ t. t ∷ []) is ∙ by text is
 -- a URL is ASCII, so its characters are its bytes
 pub url_bytes : (s text : List ℕ) → IsUtf8 s → chars s ≡ url_fragment text → s ≡ url_fragment text
 url_bytes s text u is =
-    let whole = encoding_is FRAGMENT is_in_fragment_set fragment_set_is text in
+    let cut = without_directive text in
+    let whole = encoding_is FRAGMENT is_in_fragment_set fragment_set_is cut in
     sym (encodes-chars s u)
     ∙ (ap encodes (is ∙ sym whole)
-    ∙ (encodes-IsAscii (percent_encode FRAGMENT (encodes text))
-    (IsAscii-percent_encode FRAGMENT (encodes text)) ∙ whole))
+    ∙ (encodes-IsAscii (percent_encode FRAGMENT (encodes cut))
+    (IsAscii-percent_encode FRAGMENT (encodes cut)) ∙ whole))
 
-module _ (is_place : Name → Bool) (text s : List ℕ) (u : IsUtf8 s)
-    (is : chars s ≡ url_fragment text) where
-  pub leads_as_it_is : is_place (chars s) ≡ true → true ≡ leads is_place text
-  unfolding leads
-  leads_as_it_is e =
-      sym (ap (λ b. b || text_leads is_place (decoding (url_fragment text)))
-      (ap is_place (sym is) ∙ e))
+pub url_fragment_bytes : (r : Result (String Global) AllocError) (text : List ℕ) →
+    IfOk r (λ s. text_view s ≡ url_fragment text) → IfOk r (λ s. string_bytes s ≡ url_fragment text)
+url_fragment_bytes (Ok s) text is = url_bytes (string_bytes s) text (IsUtf8-string_bytes s) is
+url_fragment_bytes (Err e) text is = is
 
-  pub leads_as_decoded : is_place (chars s) ≡ false →
-      text_leads is_place (decoding s) ≡ leads is_place text
-  unfolding leads
-  leads_as_decoded e =
-      ap (λ b. text_leads is_place (decoding b)) (url_bytes s text u is)
-      ∙ ap (λ b. b || text_leads is_place (decoding (url_fragment text)))
-      (sym (ap is_place (sym is) ∙ e))
+pub in_characters : (r : Result (String Global) AllocError) (bytes : List ℕ) →
+    IfOk r (λ s. string_bytes s ≡ bytes) → IfOk r (λ s. text_view s ≡ chars bytes)
+in_characters (Ok s) bytes is = ap chars is
+in_characters (Err e) bytes is = is
+
+module _ (is_place : Name → Bool) where
+  pub none_indicated : (f : List ℕ) → length f ≡ 0 → None ≡ indicated_at is_place f
+  none_indicated [] e = refl
+  none_indicated (c ∷ cs) e = absurd (omega (arith, e))
+
+  pub indicated_as_it_is : (f : List ℕ) → (length f ≡ 0 → ⊥) → is_place f ≡ true →
+      Some f ≡ indicated_at is_place f
+  indicated_as_it_is [] some e = absurd (some refl)
+  indicated_as_it_is (c ∷ cs) some e = rw e refl
+
+  pub indicated_as_decoded : (f : List ℕ) → (length f ≡ 0 → ⊥) → is_place f ≡ false →
+      if_place is_place (chars (decoding f)) ≡ indicated_at is_place f
+  indicated_as_decoded [] some e = absurd (some refl)
+  indicated_as_decoded (c ∷ cs) some e = rw e refl
+
+pub empty_leads : (f : List ℕ) → length f ≡ 0 → true ≡ leads_to_top f
+empty_leads [] e = refl
+empty_leads (c ∷ cs) e = absurd (omega (arith, e))
+
+pub decoded_leads : (f : List ℕ) → (length f ≡ 0 → ⊥) → is_top (decoding f) ≡ leads_to_top f
+decoded_leads [] some = absurd (some refl)
+decoded_leads (c ∷ cs) some = refl

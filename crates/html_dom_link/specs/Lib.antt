@@ -1,6 +1,7 @@
 pub mod Anchors
 pub mod Answered
 pub mod DeadLinks
+pub mod Directives
 pub mod Distinct
 pub mod DocumentNames
 pub mod Events

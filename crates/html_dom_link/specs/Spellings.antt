@@ -4,6 +4,7 @@ use Rattle.std.specs.List.{flat_map, list_any}
 use Rattle.std.specs.Prelude.{ℕ, Bool, true, not, ◌||◌, ◌==◌, nat_lt, List, [], ◌∷◌, ◌++◌, Option, Some, None, option_map, codes, if◌then◌else◌}
 use lib.Utf8.{encodes}
 use Rattle.percent_encoding.specs.Percent.{percent_encode_byte}
+use Rattle.html_dom_link.specs.Directives.{has_directive}
 use Rattle.html_dom_link.specs.NewNames.{Name}
 
 -- the fragment percent-encode set, of bytes as of characters: controls and the space, `"`, `<`,
@@ -16,6 +17,10 @@ is_in_fragment_set c =
 abbrev pub is_in_name_set : (byte : ℕ) → Bool
 is_in_name_set b = (b == 37) || is_in_fragment_set b
 
+-- the same and `:`, so that no directive is left
+abbrev pub is_in_colon_set : (byte : ℕ) → Bool
+is_in_colon_set b = (b == 58) || is_in_name_set b
+
 abbrev pub is_any : (byte : ℕ) → Bool
 is_any b = true
 
@@ -26,13 +31,20 @@ byte_encoding is_in b = if is_in b then percent_encode_byte b else b ∷ []
 unfoldable pub encoding : (is_in : ℕ → Bool) → (text : List ℕ) → List ℕ
 encoding is_in text = flat_map (byte_encoding is_in) (encodes text)
 
--- whether the fragment set leaves a name as it is: it has no character of the set
+-- whether a browser leaves a name as it is: it has no character of the fragment set, and no
+-- directive
 abbrev pub is_left : Name → Bool
-is_left name = not (list_any is_in_fragment_set name)
+is_left name = not (list_any is_in_fragment_set name || has_directive name)
+
+-- the plainest encoding whose decoding is the name: `:` is encoded only where else a directive would
+-- be left
+unfoldable pub name_encoding : Name → List ℕ
+name_encoding name = let plain = encoding is_in_name_set name in
+    if has_directive plain then encoding is_in_colon_set name else plain
 
 -- the plainest spelling
 unfoldable pub plain_spelling : Name → List ℕ
-plain_spelling name = if is_left name then name else encoding is_in_name_set name
+plain_spelling name = if is_left name then name else name_encoding name
 
 -- the spelling, unless a place has it as its name, or else another
 abbrev pub unless_place :
@@ -43,7 +55,7 @@ unless_place is_place spelling other = if is_place spelling then other else Some
 -- else the plainest encoding that no place has as its name, of the two whose decoding is the name
 unfoldable pub leading_spelling : (is_place : Name → Bool) → Name → Option (List ℕ)
 leading_spelling is_place name = if is_left name then Some name
-    else unless_place is_place (encoding is_in_name_set name)
+    else unless_place is_place (name_encoding name)
     (unless_place is_place (encoding is_any name) None)
 
 abbrev pub href_with : (fragment : List ℕ) → List ℕ

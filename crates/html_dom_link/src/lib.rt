@@ -4,6 +4,7 @@
 mod anchors;
 mod changes;
 mod dead;
+mod directives;
 mod distinct;
 mod elements;
 mod frames;
@@ -24,7 +25,7 @@ mod state;
 pub use anchors::{create_link_anchors, with_link_anchors};
 pub use dead::{DeadLink, dead_links};
 pub use distinct::ids_are_distinct;
-pub use indicated::{fragment_in, fragment_leads};
+pub use indicated::{decoded_fragment, fragment_in, fragment_leads, place_in};
 pub use links::{document_with_links, resolve_links, with_resolved_links};
 pub use names::{is_used, put_in_use};
 pub use places::{first_id, link_name, place_names};

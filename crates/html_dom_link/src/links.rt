@@ -51,11 +51,13 @@ impl LinkTargets<'_> {
 /// everything else, stay. [`dead_links`] reports the links that are left without one.
 ///
 /// A browser first looks for a place whose name is the fragment, and only then for one whose name
-/// is the decoded fragment (HTML Standard 7.4.6.3). So the `href` spells the name as it is, if the
-/// fragment percent-encode set (URL Standard 1.3) leaves it so; else with that set and `%`
-/// percent-encoded; else, if another place of the tree has that text as its name, with each byte
-/// encoded. If a place has that text too, the link stays without an `href`. A place is an element
-/// with that first `id`, an `a` with that first `name`, a frame, or an anchor of one.
+/// is the decoded fragment (HTML Standard 7.4.6.3); before, it drops all from the first `:~:` on (URL
+/// Fragment Text Directives). So the `href` spells the name as it is, if the fragment percent-encode
+/// set (URL Standard 1.3) leaves it so and it has no `:~:`; else with that set and `%`
+/// percent-encoded, and `:` too if a `:~:` would be left; else, if another place of the tree has
+/// that text as its name, with each byte encoded. If a place has that text too, the link stays
+/// without an `href`. A place is an element with that first `id`, an `a` with that first `name`, a
+/// frame, or an anchor of one.
 ///
 /// Each new `href` leads: if the anchors that the introspector knows stand in the tree, as they do
 /// in a document of `html_document`, the fragment that a browser takes from it indicates the

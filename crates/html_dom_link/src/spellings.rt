@@ -3,9 +3,10 @@
 ghost use Rattle.std.specs.Prelude.{◌≡◌, chars, option_map, None, IfOk};
 ghost use Rattle.percent_encoding.specs.Percent.{percent_encode};
 ghost use Rattle.html_names.specs.Texts.{text_view};
-ghost use Rattle.html_dom_link.specs.Spellings.{encoding, href_to, href_with, is_any, is_in_fragment_set, is_in_name_set, is_left, leading_spelling, plain_spelling, unless_place};
+ghost use Rattle.html_dom_link.specs.Spellings.{encoding, href_to, href_with, is_any, is_in_colon_set, is_in_fragment_set, is_in_name_set, is_left, leading_spelling, name_encoding, plain_spelling, unless_place};
 ghost use Rattle.html_dom_link.specs.UsedNames.{used_in};
 
+use crate::directives::has_directive;
 use crate::names::is_used;
 use html_names::text_writer::TextWriter;
 use percent_encoding::{AsciiSet, CONTROLS, ascii_set, utf8_percent_encode};
@@ -13,18 +14,21 @@ use std::alloc::{AllocError, Global};
 use std::collections::BTreeSet;
 
 /// The fragment percent-encode set (URL Standard 1.3), which a browser encodes.
-pub(crate) const FRAGMENT: AsciiSet = ascii_set!(
-    CONTROLS.add(b' ').add(b'"').add(b'<').add(b'>').add(b'`')
-);
+const FRAGMENT: AsciiSet = ascii_set!(CONTROLS.add(b' ').add(b'"').add(b'<').add(b'>').add(b'`'));
 
 /// The fragment percent-encode set and `%`, so that decoding restores what was encoded.
-pub(crate) const NAME: AsciiSet = ascii_set!(FRAGMENT.add(b'%'));
+const NAME: AsciiSet = ascii_set!(FRAGMENT.add(b'%'));
 
-pub(crate) const ANY: AsciiSet = AsciiSet { mask: !0 };
+/// The same and `:`, so that no directive is left.
+const COLON: AsciiSet = ascii_set!(NAME.add(b':'));
+
+const ANY: AsciiSet = AsciiSet { mask: !0 };
 
 /// Returns an `href` to a place of the same page by its name: `#`, and the name as it is, if a
 /// browser leaves it so, or else with the fragment percent-encode set of the URL Standard (1.3) and
-/// `%` encoded. It leads to the place unless another place has that spelling as its own name.
+/// `%` encoded, and `:` too if the name contains `:~:`, from which on a browser drops a fragment (URL
+/// Fragment Text Directives). It leads to the place unless another place has that spelling as its
+/// own name.
 /// Appended to the address of another page, it leads to a place there. Fails only if an allocation
 /// fails.
 ///
@@ -86,11 +90,11 @@ fn is_left(name: &str) -> bool
             return false;
         }
     }
-    true
+    !has_directive(name)
 }
 
 /// Encodes each byte that is in the set or no ASCII as `%` and two hexadecimal digits.
-pub(crate) fn encoding(alloc: Global, text: &str, set: AsciiSet) -> Result<String, AllocError>
+fn encoding(alloc: Global, text: &str, set: AsciiSet) -> Result<String, AllocError>
     ensures { IfOk result (λ made. text_view made ≡ percent_encode set text.now) }
 {
     let mut made = String::new(alloc);
@@ -98,10 +102,37 @@ pub(crate) fn encoding(alloc: Global, text: &str, set: AsciiSet) -> Result<Strin
     Ok(made)
 }
 
-fn name_encoding(alloc: Global, name: &str) -> Result<String, AllocError>
+/// Encodes what a browser would.
+pub(crate) fn fragment_encoding(alloc: Global, text: &str) -> Result<String, AllocError>
+    ensures { IfOk result (λ made.
+        text_view made ≡ encoding is_in_fragment_set (chars text.now)) }
+{
+    encoding(alloc, text, FRAGMENT)
+}
+
+fn encoding_with_colons(alloc: Global, name: &str) -> Result<String, AllocError>
     ensures { IfOk result (λ made. text_view made ≡ encoding is_in_name_set (chars name.now)) }
 {
     encoding(alloc, name, NAME)
+}
+
+fn encoding_without_colons(alloc: Global, name: &str) -> Result<String, AllocError>
+    ensures { IfOk result (λ made. text_view made ≡ encoding is_in_colon_set (chars name.now)) }
+{
+    encoding(alloc, name, COLON)
+}
+
+/// Encodes what a browser would, and `%`; `:` only where else a directive would be left.
+#[tactic(auto, unfolding(crate::specs::Spellings::name_encoding))]
+fn name_encoding(alloc: Global, name: &str) -> Result<String, AllocError>
+    ensures { IfOk result (λ made. text_view made ≡ name_encoding (chars name.now)) }
+{
+    let plain = encoding_with_colons(alloc, name)?;
+    if has_directive(plain.as_str()) {
+        encoding_without_colons(alloc, name)
+    } else {
+        Ok(plain)
+    }
 }
 
 fn full_encoding(alloc: Global, name: &str) -> Result<String, AllocError>

@@ -17,8 +17,9 @@ use std::marker::Model;
 /// each name gets the next location, from 1 on, when it is first requested, and keeps it. So a link
 /// may come before the place that it leads to.
 ///
-/// A name is a percent-decoded fragment of a link. It is the label of its place, so an element
-/// without an `id` gets it as its `id` if a link leads there.
+/// A name is that of the place to which a link leads: what html_dom's `place_in` returns for its
+/// `href`, or `decoded_fragment` where the names of places are not known. It is the label of its
+/// place, so an element without an `id` gets it as its `id` if a link leads there.
 ///
 /// A document that has locations of its own too must not use these. No name has `Location(0)`,
 /// which each link gets.

@@ -11,6 +11,11 @@
 //! For an address:
 //!
 //! - `address`: `script` or `-`
+//! - `decoded-fragment`: its decoded fragment, or `-`
+//!
+//! For an address and the names of all places of its page, as a list in JSON:
+//!
+//! - `place-in`: the name of the place to which it leads, or `-`
 //!
 //! For items, whose spelling `tests_rows_items` describes:
 //!
@@ -82,6 +87,8 @@ impl Caller for Library {
             "kinds" => kinds::of_name(alloc, row),
             "attribute" => kinds::of_attribute(alloc, row),
             "address" => checks::is_script(alloc, row),
+            "decoded-fragment" => checks::decoded_name(alloc, row),
+            "place-in" => checks::place_name(alloc, row),
             "spans" => nodes::spans(alloc, row),
             "bare" => nodes::bare(alloc, row),
             "document" => documents::text(alloc, row, false),

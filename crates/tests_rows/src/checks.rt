@@ -2,12 +2,16 @@
 
 use crate::documents::{document_of, linked_of, separate};
 use crate::pages::root_of;
-use anyhow::{Result, ensure};
+use anyhow::{Context, Result, ensure};
 use html_dom_document::HtmlDocument;
 use html_dom_findings::{dead_fragments, repeated_ids};
-use html_dom_link::{DeadLink, dead_links, href_is_script, ids_are_distinct};
+use html_dom_link::{
+    DeadLink, dead_links, decoded_fragment, href_is_script, ids_are_distinct, place_in,
+};
 use html_dom_nest::misnested;
+use serde_json::Value;
 use std::alloc::Global;
+use std::collections::BTreeSet;
 use tests_rows_run::Row;
 
 /// The result must be the same before and after links get an `href`.
@@ -65,6 +69,36 @@ pub(crate) fn misnested_list(alloc: Global, row: &Row<'_>) -> Result<String> {
         write!(text, "{:?} {:?};", node.path, node.why)?;
     }
     Ok(text)
+}
+
+/// Returns the name of the place to which an address leads, from a JSON list of the address and the
+/// names of all places.
+pub(crate) fn place_name(alloc: Global, row: &Row<'_>) -> Result<String> {
+    let value = Value::from_slice(alloc, &row.input)?;
+    let texts = value.as_array().context("no list")?;
+    let mut names = BTreeSet::new(alloc);
+    let mut href = None;
+    for text in texts {
+        let text = text.as_str().context("no text")?;
+        match href {
+            None => href = Some(text),
+            Some(_) => {
+                let _ = names.insert(text.to_string(alloc)?)?;
+            }
+        }
+    }
+    or_none(alloc, place_in(alloc, href.context("no address")?, &names)?)
+}
+
+pub(crate) fn decoded_name(alloc: Global, row: &Row<'_>) -> Result<String> {
+    or_none(alloc, decoded_fragment(alloc, row.text()?)?)
+}
+
+fn or_none(alloc: Global, name: Option<String>) -> Result<String> {
+    match name {
+        Some(name) => Ok(name),
+        None => Ok("-".to_string(alloc)?),
+    }
 }
 
 /// Returns whether an address is a script.

@@ -1,14 +1,12 @@
-use Rattle.std.proofs.Common.{string_bytes, rules}
-use Rattle.std.proofs.lemmas.Str.{IsUtf8-string_bytes}
+use Rattle.std.proofs.Common.{[], ◌∷◌, chars, refl, ap, ◌∙◌, rules}
 use Rattle.html_dom_link.proofs.TakenFragments.{none_unless, some_unless}
 use Rattle.html_dom_link.proofs.indicated.unless_empty.Goals as goal
 
 pub returns-then-is_empty : goal.returns-then-is_empty
 returns-then-is_empty c =
-    none_unless (string_bytes c.into_string-text.result) c.args.text (search rules)
-    c.into_string-text.ensures
+    none_unless c.args.text.now (chars c.args.text.now) (search rules) refl
 
-pub returns-else-is_empty : goal.returns-else-is_empty
-returns-else-is_empty c =
-    some_unless (string_bytes c.into_string-text.result) c.args.text
-    (IsUtf8-string_bytes c.into_string-text.result) (search rules) c.into_string-text.ensures
+pub returns-in_ok-from_str : goal.returns-in_ok-from_str
+returns-in_ok-from_str c =
+    ap (λ bs. chars bs ∷ []) c.in_ok-from_str.ensures.ok
+    ∙ some_unless c.args.text.now (chars c.args.text.now) c.utf8.text (search rules) refl

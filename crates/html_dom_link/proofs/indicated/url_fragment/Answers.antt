@@ -1,11 +1,16 @@
-use Rattle.std.proofs.Common.{◌≡◌, IfOk, subst}
+use Rattle.std.proofs.Common.{◌≡◌, IfOk, chars, subst}
 use Rattle.html_names.specs.Texts.{text_view}
-use Rattle.html_dom_link.specs.Spellings.{is_in_fragment_set}
-use Rattle.html_dom_link.specs.declared.spellings.TheConstants.{FRAGMENT}
-use Rattle.html_dom_link.proofs.SpelledNames.{encoding_of_bytes, fragment_set_is}
+use Rattle.html_dom_link.specs.Spellings.{encoding, is_in_fragment_set}
+use Rattle.html_dom_link.proofs.TakenFragments.{url_fragment_bytes}
 use Rattle.html_dom_link.proofs.indicated.url_fragment.Goals as goal
 
-pub returns : goal.returns
-returns c =
-    subst (λ bs. IfOk c.encoding.result (λ made. text_view made ≡ bs))
-    (encoding_of_bytes FRAGMENT is_in_fragment_set fragment_set_is c.args.fragment.now c.utf8.fragment) c.encoding.ensures
+pub returns-clause-text : goal.returns-clause-text
+returns-clause-text c =
+    subst (λ cs. IfOk c.fragment_encoding.result
+    (λ made. text_view made ≡ encoding is_in_fragment_set cs))
+    c.without_directive.ensures c.fragment_encoding.ensures
+
+pub returns-clause-bytes : goal.returns-clause-bytes
+returns-clause-bytes c =
+    url_fragment_bytes c.fragment_encoding.result (chars c.args.fragment.now)
+    (returns-clause-text c)

@@ -3,7 +3,7 @@ use Rattle.html_names.specs.Texts.{text_view}
 use Rattle.html_dom_link.specs.Spellings.{is_in_name_set}
 use Rattle.html_dom_link.specs.declared.spellings.TheConstants.{NAME}
 use Rattle.html_dom_link.proofs.SpelledNames.{encoding_of_bytes, name_set_is}
-use Rattle.html_dom_link.proofs.spellings.name_encoding.Goals as goal
+use Rattle.html_dom_link.proofs.spellings.encoding_with_colons.Goals as goal
 
 pub returns : goal.returns
 returns c =
