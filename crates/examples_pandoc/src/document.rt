@@ -29,7 +29,9 @@ pub fn page(
     let blocks = document.get("blocks").and_then(Value::as_array);
     let blocks = blocks.context("no document of pandoc: no `blocks`")?;
     let info = info(alloc, meta).context("no document of pandoc: `meta`")?;
-    let writer = written(Writer::new(alloc, raw_as_text), meta, blocks)?;
+    let mut to = Writer::new(alloc, raw_as_text);
+    to.add_ids(DEPTH_LIMIT, document)?;
+    let writer = written(to, meta, blocks)?;
     let (made, warnings) = linked(writer, &info)?;
     let html = html(alloc, &made, &HtmlOptions { pretty }, &()).map_err(with_block)?;
     Ok((html, warnings))

@@ -36,6 +36,25 @@ impl Writer {
         }
     }
 
+    /// Collects the ids in a value at most that deep, to which links may lead from anywhere.
+    pub fn add_ids(&mut self, depth: usize, value: &Value) -> Result<()> {
+        let depth = depth.checked_sub(1).context("too deep")?;
+        if let Some(id) = id_of(value) {
+            let _ = self.all_ids.insert(id.to_string(self.alloc)?)?;
+        }
+        if let Some(values) = value.as_array() {
+            for inner in values {
+                self.add_ids(depth, inner)?;
+            }
+        }
+        if let Some(values) = value.as_object() {
+            for (_, inner) in values {
+                self.add_ids(depth, inner)?;
+            }
+        }
+        Ok(())
+    }
+
     /// Returns the `id`, if there is one and no earlier element has it.
     fn new_id<'a>(&mut self, id: &'a str) -> Result<Option<&'a str>> {
         if id.is_empty() {
@@ -83,6 +102,16 @@ impl Writer {
         };
         self.warn(what, &name)?;
         Ok(elem)
+    }
+}
+
+/// Returns the `id` in a value, if that is the attributes of an element.
+fn id_of(value: &Value) -> Option<&str> {
+    let [id, classes, others] = fields::<3>(value).ok()?;
+    match (id.as_str()?, classes.as_array(), others.as_array()) {
+        ("", _, _) => None,
+        (id, Some(_), Some(_)) => Some(id),
+        _ => None,
     }
 }
 

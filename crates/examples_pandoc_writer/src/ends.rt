@@ -4,12 +4,10 @@ use crate::attributes::{Attr, with_number, with_words};
 use crate::json::{fields, joined, tag_and_content, two_texts};
 use crate::writer::Writer;
 use anyhow::{Result, bail};
-use html_dom::{fragment_in, href_is_script};
+use html_dom::{decoded_fragment, href_is_script, place_in};
 use html_flow::{Item, Pair};
 use html_names::{HtmlAttr, HtmlTag, attr, tag};
-use percent_encoding::percent_decode;
 use serde_json::Value;
-use std::alloc::Global;
 use std::mem;
 
 impl Writer {
@@ -118,7 +116,7 @@ impl Writer {
     /// Ends a link: to a place in the document, or to an address.
     pub fn end_link(&mut self, attr: &Value, target: &Value) -> Result<()> {
         let (address, title) = two_texts(target)?;
-        let name = name_in(self.alloc, address)?;
+        let name = self.name_in(address)?;
         let body = self.end_list();
         let mut link = self.empty(tag::a).with_body(body);
         if href_is_script(address) {
@@ -129,17 +127,17 @@ impl Writer {
         let link = with_words(link, attr::title, title)?;
         self.push(link, Some(attr), name.as_deref())
     }
-}
 
-/// Returns the name of the place in this document that an address leads to. The top needs none.
-fn name_in(alloc: Global, address: &str) -> Result<Option<String>> {
-    match fragment_in(alloc, address)? {
-        Some(fragment) if !fragment.eq_ignore_ascii_case("top") => {
-            let mut name = Vec::new(alloc);
-            percent_decode(fragment.as_bytes()).append_to(&mut name)?;
-            Ok(Some(String::from_utf8_lossy(alloc, &name)?))
+    /// Returns the name of the place in this document that an address leads to, or would lead to if
+    /// there were one. The top needs none.
+    fn name_in(&self, address: &str) -> Result<Option<String>> {
+        if let Some(name) = place_in(self.alloc, address, &self.all_ids)? {
+            return Ok(Some(name));
         }
-        _ => Ok(None),
+        match decoded_fragment(self.alloc, address)? {
+            Some(name) if !name.eq_ignore_ascii_case("top") => Ok(Some(name)),
+            _ => Ok(None),
+        }
     }
 }
 

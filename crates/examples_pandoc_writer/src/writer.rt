@@ -25,6 +25,9 @@ pub struct Writer {
     /// Whether the next text is the box of a task.
     pub is_task: bool,
     pub places: NamedPlaces,
+    /// The ids in the document, to which links may lead.
+    pub all_ids: BTreeSet<String>,
+    /// Those of the elements so far.
     pub ids: BTreeSet<String>,
     pub notes: Notes,
     /// The warnings of content that could not be written as it is.
@@ -43,6 +46,7 @@ impl Writer {
             line_end: None,
             is_task: false,
             places: NamedPlaces::new(alloc),
+            all_ids: BTreeSet::new(alloc),
             ids: BTreeSet::new(alloc),
             notes: Notes::new(alloc),
             warnings: Vec::new(alloc),
