@@ -1,6 +1,6 @@
 -- The texts of a tree with their paths, in document order. A path is the index of each child on the
 -- way from the root, and empty for the root.
-use Rattle.std.specs.Prelude.{◌≡◌, ℕ, suc, List, [], ◌∷◌, ◌++◌, map}
+use Rattle.std.specs.Prelude.{ℕ, suc, List, [], ◌∷◌, ◌++◌, map}
 use Rattle.html_dom_tree.specs.Frames.{HtmlFrameView}
 use Rattle.html_dom_tree.specs.Tree.{TextPair, Head, NodeView, tag_node, text_node, element_node, frame_node, NodesView, none, node, ElementView}
 
@@ -40,8 +40,3 @@ unfoldable mutual
 -- the texts of a whole tree
 abbrev pub element_placed : TextKind → ElementView → List Placed
 element_placed kind e = node_placed kind [] (element_node e.0 e.1)
-
--- the effect of taking these texts: what is made of any rest after it is what was made of these
--- texts and that rest before it
-abbrev pub Takes : {Made : Type 0} → (before after : List Placed → Made) → List Placed → Type 0
-Takes before after ps = (rest : List Placed) → after rest ≡ before (ps ++ rest)

@@ -12,6 +12,7 @@ use crate::walk::report_texts;
 use crate::wanted::Wanted;
 use html_dom_link::{fragment_leads, place_names};
 use html_dom_tree::HtmlElement;
+use html_names::Refused;
 use std::alloc::{AllocError, Global};
 use std::collections::BTreeSet;
 
@@ -56,19 +57,23 @@ pub fn dead_fragments(alloc: Global, root: &HtmlElement) -> Result<Vec<DeadFragm
 }
 
 /// Reports the links that [`dead_fragments`] returns to a sink as it finds them, each by its path
-/// and its fragment, and returns the sink.
+/// and its fragment, and returns the sink. Hands back the sink if an allocation or the sink fails.
 pub fn report_dead_fragments<S: TextSink>(
     alloc: Global,
     root: &HtmlElement,
     sink: S,
-) -> Result<S, AllocError>
+) -> Result<S, Refused<S>>
     ensures { IfOk result (λ given.
         S.made_with given [] ≡ S.made_with sink (dead_fragments (element_view root.now))) }
 {
-    let places = place_names(alloc, root)?;
+    let Ok(places) = place_names(alloc, root) else {
+        return Err(Refused { back: sink });
+    };
     let links = Links { places, dead: sink };
-    let Links { dead, .. } = report_texts(alloc, root, Wanted::Fragments, links)?;
-    Ok(dead)
+    match report_texts(alloc, root, Wanted::Fragments, links) {
+        Ok(Links { dead, .. }) => Ok(dead),
+        Err(Refused { back }) => Err(Refused { back: back.dead }),
+    }
 }
 
 impl TextSink for Vec<DeadFragment> {

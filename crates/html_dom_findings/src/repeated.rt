@@ -12,6 +12,7 @@ use crate::walk::report_texts;
 use crate::wanted::Wanted;
 use html_dom_link::{is_used, put_in_use};
 use html_dom_tree::HtmlElement;
+use html_names::Refused;
 use std::alloc::{AllocError, Global};
 use std::collections::BTreeSet;
 
@@ -56,12 +57,12 @@ pub fn repeated_ids(alloc: Global, root: &HtmlElement) -> Result<Vec<RepeatedId>
 }
 
 /// Reports the ids that [`repeated_ids`] returns to a sink as it finds them, each with its path,
-/// and returns the sink.
+/// and returns the sink. Hands back the sink if an allocation or the sink fails.
 pub fn report_repeated_ids<S: TextSink>(
     alloc: Global,
     root: &HtmlElement,
     sink: S,
-) -> Result<S, AllocError>
+) -> Result<S, Refused<S>>
     ensures { IfOk result (λ given.
         S.made_with given [] ≡ S.made_with sink (repeated_ids (element_view root.now))) }
 {
@@ -69,8 +70,12 @@ pub fn report_repeated_ids<S: TextSink>(
         passed: BTreeSet::new(alloc),
         repeated: sink,
     };
-    let Ids { repeated, .. } = report_texts(alloc, root, Wanted::Ids, ids)?;
-    Ok(repeated)
+    match report_texts(alloc, root, Wanted::Ids, ids) {
+        Ok(Ids { repeated, .. }) => Ok(repeated),
+        Err(Refused { back }) => Err(Refused {
+            back: back.repeated,
+        }),
+    }
 }
 
 impl TextSink for Vec<RepeatedId> {

@@ -2,7 +2,8 @@
 
 ghost use Rattle.std.specs.Prelude.{List, [], ◌∷◌, OnOk};
 ghost use Rattle.html_names.specs.Texts.{text_view};
-ghost use Rattle.html_dom_findings.specs.PlacedTexts.{Placed, Takes};
+ghost use Rattle.html_dom_tree.specs.Taking.{Takes};
+ghost use Rattle.html_dom_findings.specs.PlacedTexts.{Placed};
 
 use std::alloc::{AllocError, Global};
 

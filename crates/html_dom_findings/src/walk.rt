@@ -2,15 +2,17 @@
 
 ghost use Rattle.std.specs.Prelude.{◌≡◌, ◌++◌, [], ◌∷◌, ℕ, List, IfOk, OnOk, option_map, option_to_list};
 ghost use Rattle.html_dom_tree.specs.FrameViews.{anchors_view, html_frame_view};
+ghost use Rattle.html_dom_tree.specs.Taking.{Takes};
 ghost use Rattle.html_dom_tree.specs.Tree.{element_node};
 ghost use Rattle.html_dom_tree.specs.Views.{element_view, node_view, nodes_view, text_view};
 ghost use Rattle.html_dom_link.specs.NewNames.{anchor_names};
-ghost use Rattle.html_dom_findings.specs.PlacedTexts.{Takes, element_placed, head_texts, node_placed, nodes_placed, placed_at};
+ghost use Rattle.html_dom_findings.specs.PlacedTexts.{element_placed, head_texts, node_placed, nodes_placed, placed_at};
 ghost use Rattle.html_dom_findings.specs.WantedTexts.{kind_of};
 
 use crate::text_sink::TextSink;
 use crate::wanted::{Wanted, copy_of, own_text};
 use html_dom_tree::{HtmlElement, HtmlFrame, HtmlNode, Point};
+use html_names::Refused;
 use std::alloc::{AllocError, Global};
 
 /// A walk over a tree that finds its texts.
@@ -22,13 +24,14 @@ struct TextWalk<S> {
 }
 
 /// Reports the wanted texts of a tree, including the root's, to a sink in document order, and
-/// returns the sink. Fails only if an allocation or the sink fails.
+/// returns the sink. Fails only if an allocation or the sink fails, and then hands back the sink,
+/// which has taken the texts up to there.
 pub fn report_texts<S: TextSink>(
     alloc: Global,
     root: &HtmlElement,
     wanted: Wanted,
     sink: S,
-) -> Result<S, AllocError>
+) -> Result<S, Refused<S>>
     ensures { IfOk result (λ given. S.made_with given []
         ≡ S.made_with sink (element_placed (kind_of wanted) (element_view root.now))) }
 {
@@ -37,9 +40,12 @@ pub fn report_texts<S: TextSink>(
         path: Vec::new(alloc),
         sink,
     };
-    pass_element(root, wanted, &mut walk)?;
+    let passed = pass_element(root, wanted, &mut walk);
     let TextWalk { sink, .. } = walk;
-    Ok(sink)
+    match passed {
+        Ok(()) => Ok(sink),
+        Err(_) => Err(Refused { back: sink }),
+    }
 }
 
 fn leave(path: &mut Vec<usize>)

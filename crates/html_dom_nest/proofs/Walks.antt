@@ -1,5 +1,5 @@
 -- The walk finds what the definition says.
-use Rattle.std.proofs.Common.{◌≡◌, ℕ, suc, ◌+◌, ◌≤◌, ◌<◌, List, [], ◌∷◌, ◌++◌, length, get_or, drop, refl, ap, sym, ◌∙◌, add-one, append_assoc, append-nil}
+use Rattle.std.proofs.Common.{◌≡◌, ℕ, suc, ◌+◌, ◌≤◌, ◌<◌, List, [], ◌∷◌, ◌++◌, length, get_or, drop, refl, ap, sym, ◌∙◌, add-one}
 use Rattle.std.specs.Prelude.{if◌then◌else◌, Some}
 use Rattle.std.proofs.lemmas.Bool.{le-ltb, lt-ltb}
 use Rattle.std.proofs.lemmas.List.{drop_all}
@@ -7,6 +7,8 @@ use Rattle.html_dom_tree.specs.Tree.{Head, NodeView, tag_node, text_node, elemen
 use Rattle.html_dom_tree.specs.Views.{node_view, nodes_view}
 use Rattle.html_dom_tree.specs.declared.node.HtmlNode.{HtmlNode}
 use Rattle.html_dom_tree.proofs.Nodes.{nodes_view-drop}
+use Rattle.html_dom_tree.proofs.Taking.{both_taken, same_taken}
+use Rattle.html_dom_tree.specs.Taking.{Takes}
 use Rattle.html_dom_nest.specs.Ancestors.{Ancestor, ancestor}
 use Rattle.html_dom_nest.specs.Misnested.{Finding, found, misnested_nodes, node_misnested, nodes_misnested}
 use Rattle.html_dom_nest.specs.NestingRules.{element_misnesting, is_too_deep, root_misnesting}
@@ -60,38 +62,23 @@ unfolding nodes_walk
 none_walked around path ns i past =
     ap (λ xs. nodes_walk path i around (nodes_view xs)) (drop_all i ns past)
 
--- in a walk these findings are reported, and these are left
-abbrev pub FindsUpTo : (first now all left : List Finding) → Type 0
-FindsUpTo first now all left = now ++ left ≡ first ++ all
-
-pub more_found : (first old new all left here later : List Finding) → left ≡ here ++ later →
-    FindsUpTo first old all left → new ≡ old ++ here → FindsUpTo first new all later
-more_found first old new all left here later is so_far more =
-    ap (λ fs. fs ++ later) more
-    ∙ (append_assoc old here later ∙ (ap (λ fs. old ++ fs) (sym is) ∙ so_far))
-
-pub all_found : (first now all left : List Finding) → left ≡ [] → FindsUpTo first now all left →
-    now ≡ first ++ all
-all_found first now all left nothing so_far =
-    sym (append-nil now) ∙ (ap (λ fs. now ++ fs) (sym nothing) ∙ so_far)
-
 -- the findings of a whole tree: those of the root, and those of its children
-pub tree_found : (e : ElementView) (before own all : List Finding) (start path : List ℕ)
-    (inside : Surroundings) (kids : NodesView) → before ≡ [] → start ≡ [] →
-    own ≡ before ++ found start e.0.span (root_misnesting e (surroundings_of [])) → path ≡ start →
-    inside ≡ surroundings_in e.0 (surroundings_of []) → kids ≡ e.1 →
-    all ≡ own ++ nodes_walk path 0 inside kids → all ≡ misnested_nodes e
-tree_found e before own all start path inside kids nothing root own_is path_is inside_is' kids_is all_is =
+pub tree_taken : {Made : Type 0} (e : ElementView) (old between new : List Finding → Made)
+    (start path : List ℕ) (inside : Surroundings) (kids : NodesView) → start ≡ [] →
+    Takes old between (found start e.0.span (root_misnesting e (surroundings_of []))) →
+    path ≡ start → inside ≡ surroundings_in e.0 (surroundings_of []) → kids ≡ e.1 →
+    Takes between new (nodes_walk path 0 inside kids) → Takes old new (misnested_nodes e)
+tree_taken e old between new start path inside kids root own path_is inside_is' kids_is others =
     let above = ancestor e.0 [] ∷ [] in
     let why = root_misnesting e (surroundings_of []) in
-    all_is
-    ∙ (ap (λ p. own ++ nodes_walk p 0 inside kids) (path_is ∙ root)
-    ∙ (ap (λ s. own ++ nodes_walk [] 0 s kids) (inside_is' ∙ inside_is e.0 [])
-    ∙ (ap (λ ns. own ++ nodes_walk [] 0 (surroundings_of above) ns) kids_is
-    ∙ (ap (λ fs. own ++ fs) (nodes_found [] 0 above e.1)
-    ∙ ap (λ fs. fs ++ nodes_misnested [] 0 above e.1) (own_is
-    ∙ (ap (λ fs. fs ++ found start e.0.span why) nothing
-    ∙ ap (λ p. found p e.0.span why) root))))))
+    let here = found start e.0.span why in
+    same_taken old new (here ++ nodes_walk path 0 inside kids) (misnested_nodes e)
+    (both_taken old new between here (nodes_walk path 0 inside kids) own others)
+    (ap (λ p. here ++ nodes_walk p 0 inside kids) (path_is ∙ root)
+    ∙ (ap (λ s. here ++ nodes_walk [] 0 s kids) (inside_is' ∙ inside_is e.0 [])
+    ∙ (ap (λ ns. here ++ nodes_walk [] 0 (surroundings_of above) ns) kids_is
+    ∙ (ap (λ fs. here ++ fs) (nodes_found [] 0 above e.1)
+    ∙ ap (λ p. found p e.0.span why ++ nodes_misnested [] 0 above e.1) root))))
 
 module _ (path : List ℕ) (around : Surroundings) (h : Head) (kids : NodesView) where
   -- an element that stands too deep is found alone
@@ -103,7 +90,7 @@ module _ (path : List ℕ) (around : Surroundings) (h : Head) (kids : NodesView)
       ++ nodes_walk path 0 (surroundings_in h around) kids) (sym (lt-ltb 512 around.depth deep))
 
   -- another with what is in it
-  pub element_found : around.depth ≤ 512 →
+  element_found : around.depth ≤ 512 →
       found path h.span (element_misnesting h kids around)
       ++ nodes_walk path 0 (surroundings_in h around) kids
       ≡ node_walk path around (element_node h kids)
@@ -112,17 +99,18 @@ module _ (path : List ℕ) (around : Surroundings) (h : Head) (kids : NodesView)
       else found path h.span (element_misnesting h kids around)
       ++ nodes_walk path 0 (surroundings_in h around) kids) (sym (le-ltb 512 around.depth within))
 
-  pub both_found : (before own all : List Finding) (inner_path : List ℕ) (inside : Surroundings)
-      (ns : NodesView) → around.depth ≤ 512 →
-      own ≡ before ++ found path h.span (element_misnesting h kids around) → inner_path ≡ path →
-      inside ≡ surroundings_in h around → ns ≡ kids → all ≡ own ++ nodes_walk inner_path 0 inside ns →
-      all ≡ before ++ node_walk path around (element_node h kids)
-  both_found before own all inner_path inside ns within own_is path_is inside_is' kids_is all_is =
+  pub element_taken : {Made : Type 0} (old between new : List Finding → Made)
+      (inner_path : List ℕ) (inside : Surroundings) (ns : NodesView) → around.depth ≤ 512 →
+      Takes old between (found path h.span (element_misnesting h kids around)) →
+      inner_path ≡ path → inside ≡ surroundings_in h around → ns ≡ kids →
+      Takes between new (nodes_walk inner_path 0 inside ns) →
+      Takes old new (node_walk path around (element_node h kids))
+  element_taken old between new inner_path inside ns within own path_is inside_is' kids_is others =
       let here = found path h.span (element_misnesting h kids around) in
-      all_is
-      ∙ (ap (λ p. own ++ nodes_walk p 0 inside ns) path_is
-      ∙ (ap (λ s. own ++ nodes_walk path 0 s ns) inside_is'
-      ∙ (ap (λ ms. own ++ nodes_walk path 0 (surroundings_in h around) ms) kids_is
-      ∙ (ap (λ fs. fs ++ nodes_walk path 0 (surroundings_in h around) kids) own_is
-      ∙ (append_assoc before here (nodes_walk path 0 (surroundings_in h around) kids)
-      ∙ ap (λ fs. before ++ fs) (element_found within))))))
+      same_taken old new (here ++ nodes_walk inner_path 0 inside ns)
+      (node_walk path around (element_node h kids))
+      (both_taken old new between here (nodes_walk inner_path 0 inside ns) own others)
+      (ap (λ p. here ++ nodes_walk p 0 inside ns) path_is
+      ∙ (ap (λ s. here ++ nodes_walk path 0 s ns) inside_is'
+      ∙ (ap (λ ms. here ++ nodes_walk path 0 (surroundings_in h around) ms) kids_is
+      ∙ element_found within)))

@@ -1,13 +1,15 @@
 //! The nodes that make a browser build another tree of the written text.
 
-ghost use Rattle.std.specs.Prelude.{◌≡◌, IfOk};
+ghost use Rattle.std.specs.Prelude.{◌≡◌, [], IfOk};
 ghost use Rattle.html_dom_tree.specs.Views.{element_view};
 ghost use Rattle.html_dom_nest.specs.MisnestedViews.{findings_view};
 ghost use Rattle.html_dom_nest.specs.Misnested.{misnested_nodes};
 
 use crate::finding::Misnested;
+use crate::misnested_sink::MisnestedSink;
 use crate::walk::walk_tree;
 use html_dom_tree::HtmlElement;
+use html_names::Refused;
 use std::alloc::{AllocError, Global};
 
 /// Returns the nodes that make a browser build another tree of the written text, in document order,
@@ -40,5 +42,20 @@ use std::alloc::{AllocError, Global};
 pub fn misnested(alloc: Global, root: &HtmlElement) -> Result<Vec<Misnested>, AllocError>
     ensures { IfOk result (λ found. findings_view found.items ≡ misnested_nodes (element_view root.now)) }
 {
-    walk_tree(alloc, root)
+    let found = report_misnested(alloc, root, Vec::new(alloc))?;
+    Ok(found)
+}
+
+/// Reports the nodes that [`misnested`] returns to a sink as it finds them, and returns the sink.
+/// Allocates a path beside what the sink does. Fails only if an allocation or the sink fails, and
+/// then hands back the sink, which has taken the nodes up to there.
+pub fn report_misnested<S: MisnestedSink>(
+    alloc: Global,
+    root: &HtmlElement,
+    sink: S,
+) -> Result<S, Refused<S>>
+    ensures { IfOk result (λ given.
+        S.made_with given [] ≡ S.made_with sink (misnested_nodes (element_view root.now))) }
+{
+    walk_tree(alloc, root, sink)
 }

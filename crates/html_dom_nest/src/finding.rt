@@ -1,7 +1,13 @@
 //! A node that makes a browser build another tree.
 
+ghost use Rattle.std.specs.Prelude.{◌++◌, List};
+ghost use Rattle.html_dom_nest.specs.Misnested.{Finding};
+ghost use Rattle.html_dom_nest.specs.MisnestedViews.{findings_view};
+
+use crate::misnested_sink::MisnestedSink;
 use crate::misnesting::Misnesting;
 use html_dom_tree::Span;
+use std::alloc::{AllocError, Global};
 
 /// A node that makes a browser build another tree of the written text.
 #[derive(Debug, Drop, PartialEq, Eq, Hash)]
@@ -12,4 +18,22 @@ pub struct Misnested {
     pub span: Span,
     /// The first rule that it breaks.
     pub why: Misnesting,
+}
+
+impl MisnestedSink for Vec<Misnested> {
+    ghost Made = { List Finding };
+
+    ghost made_with = { λ nodes fs. findings_view nodes.items ++ fs };
+
+    fn take(
+        &mut self,
+        alloc: Global,
+        path: &[usize],
+        span: Span,
+        why: Misnesting,
+    ) -> Result<(), AllocError> {
+        let path = path.to_vec(alloc)?;
+        self.push(Misnested { path, span, why })?;
+        Ok(())
+    }
 }

@@ -9,6 +9,7 @@ pub mod content;
 mod element;
 mod finding;
 mod inside;
+mod misnested_sink;
 mod misnesting;
 pub mod page;
 pub mod reading;
@@ -18,6 +19,7 @@ mod texts;
 mod walk;
 mod written;
 
-pub use check::misnested;
+pub use check::{misnested, report_misnested};
 pub use finding::Misnested;
+pub use misnested_sink::MisnestedSink;
 pub use misnesting::Misnesting;

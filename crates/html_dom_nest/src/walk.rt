@@ -1,20 +1,21 @@
 //! The walk over a tree that finds its misnested nodes.
 
 ghost use Rattle.std.specs.Prelude.{◌≡◌, ◌≤◌, ◌++◌, [], ◌∷◌, ℕ, List, IfOk, OnOk, Some};
+ghost use Rattle.html_dom_tree.specs.Taking.{Takes};
 ghost use Rattle.html_dom_tree.specs.Tree.{element_node};
 ghost use Rattle.html_dom_tree.specs.Views.{element_view, node_view, nodes_view};
-ghost use Rattle.html_dom_nest.specs.MisnestedViews.{findings_view};
 ghost use Rattle.html_dom_nest.specs.Misnested.{found, misnested_nodes};
 ghost use Rattle.html_dom_nest.specs.NestingRules.{element_misnesting, root_misnesting};
 ghost use Rattle.html_dom_nest.specs.Surroundings.{surroundings_of};
 ghost use Rattle.html_dom_nest.specs.Walks.{node_walk, nodes_walk, surroundings_in};
 
 use crate::element::KnownElement;
-use crate::finding::Misnested;
+use crate::misnested_sink::MisnestedSink;
 use crate::misnesting::Misnesting;
 use crate::rules::{element_misnesting, frame_misnesting, root_misnesting, text_misnesting};
 use crate::surroundings::Surroundings;
 use html_dom_tree::{HtmlElement, HtmlNode, Span};
+use html_names::Refused;
 use std::alloc::{AllocError, Global};
 
 /// The greatest number of ancestors with which browsers leave an element where it is.
@@ -22,25 +23,43 @@ const MOST_ANCESTORS: usize = 512;
 
 /// A walk over a tree that finds its misnested nodes.
 #[derive(Drop)]
-struct NestingWalk {
+struct NestingWalk<S> {
     alloc: Global,
     path: Vec<usize>,
-    found: Vec<Misnested>,
+    sink: S,
 }
 
-/// Returns the misnested nodes of a tree.
-pub(crate) fn walk_tree(alloc: Global, root: &HtmlElement) -> Result<Vec<Misnested>, AllocError>
-    ensures { IfOk result (λ found. findings_view found.items ≡ misnested_nodes (element_view root.now)) }
+/// Reports the misnested nodes of a tree to a sink, and returns the sink.
+pub(crate) fn walk_tree<S: MisnestedSink>(
+    alloc: Global,
+    root: &HtmlElement,
+    sink: S,
+) -> Result<S, Refused<S>>
+    ensures { IfOk result (λ given.
+        S.made_with given [] ≡ S.made_with sink (misnested_nodes (element_view root.now))) }
 {
     let mut walk = NestingWalk {
         alloc,
         path: Vec::new(alloc),
-        found: Vec::new(alloc),
+        sink,
     };
-    let inside = pass_root(root, &mut walk)?;
-    pass_nodes(&root.children, &inside, &mut walk)?;
-    let NestingWalk { found, .. } = walk;
-    Ok(found)
+    let passed = pass_tree(root, &mut walk);
+    let NestingWalk { sink, .. } = walk;
+    match passed {
+        Ok(()) => Ok(sink),
+        Err(_) => Err(Refused { back: sink }),
+    }
+}
+
+fn pass_tree<S: MisnestedSink>(
+    root: &HtmlElement,
+    walk: &mut NestingWalk<S>,
+) -> Result<(), AllocError>
+    ensures { walk.old.path.items ≡ [] → OnOk result (Takes (S.made_with walk.old.sink)
+        (S.made_with walk.new.sink) (misnested_nodes (element_view root.now))) }
+{
+    let inside = pass_root(root, walk)?;
+    pass_nodes(&root.children, &inside, walk)
 }
 
 fn leave(path: &mut Vec<usize>)
@@ -51,21 +70,26 @@ fn leave(path: &mut Vec<usize>)
 }
 
 #[inline(never)]
-fn report(span: Span, why: Misnesting, walk: &mut NestingWalk) -> Result<(), AllocError>
+fn report<S: MisnestedSink>(
+    span: Span,
+    why: Misnesting,
+    walk: &mut NestingWalk<S>,
+) -> Result<(), AllocError>
     ensures path { OnOk result (walk.new.path.items ≡ walk.old.path.items) }
-    ensures found { OnOk result (findings_view walk.new.found.items
-        ≡ findings_view walk.old.found.items
-        ++ found walk.old.path.items span.0 (Some why)) }
+    ensures taken { OnOk result (Takes (S.made_with walk.old.sink) (S.made_with walk.new.sink)
+        (found walk.old.path.items span.0 (Some why))) }
 {
-    let path = walk.path.as_slice().to_vec(walk.alloc)?;
-    walk.found.push(Misnested { path, span, why })?;
-    Ok(())
+    walk.sink.take(walk.alloc, &walk.path, span, why)
 }
 
-fn report_any(span: Span, why: Option<Misnesting>, walk: &mut NestingWalk) -> Result<(), AllocError>
+fn report_any<S: MisnestedSink>(
+    span: Span,
+    why: Option<Misnesting>,
+    walk: &mut NestingWalk<S>,
+) -> Result<(), AllocError>
     ensures path { OnOk result (walk.new.path.items ≡ walk.old.path.items) }
-    ensures found { OnOk result (findings_view walk.new.found.items
-        ≡ findings_view walk.old.found.items ++ found walk.old.path.items span.0 why) }
+    ensures taken { OnOk result (Takes (S.made_with walk.old.sink) (S.made_with walk.new.sink)
+        (found walk.old.path.items span.0 why)) }
 {
     match why {
         Some(why) => report(span, why, walk),
@@ -73,19 +97,19 @@ fn report_any(span: Span, why: Option<Misnesting>, walk: &mut NestingWalk) -> Re
     }
 }
 
-/// Adds what an element breaks, and returns the surroundings of its children. Its locals stay out
+/// Reports what an element breaks, and returns the surroundings of its children. Its locals stay out
 /// of the frame of the recursive walk, of which each level has one.
 #[inline(never)]
-fn pass_own(
+fn pass_own<S: MisnestedSink>(
     element: &HtmlElement,
     around: &Surroundings,
-    walk: &mut NestingWalk,
+    walk: &mut NestingWalk<S>,
 ) -> Result<Surroundings, AllocError>
     requires { around.now.depth ≤ 512 }
     ensures path { OnOk result (walk.new.path.items ≡ walk.old.path.items) }
-    ensures found { let e = element_view element.now in
-        OnOk result (findings_view walk.new.found.items ≡ findings_view walk.old.found.items
-        ++ found walk.old.path.items e.0.span (element_misnesting e.0 e.1 around.now)) }
+    ensures taken { let e = element_view element.now in
+        OnOk result (Takes (S.made_with walk.old.sink) (S.made_with walk.new.sink)
+        (found walk.old.path.items e.0.span (element_misnesting e.0 e.1 around.now))) }
     ensures inside { IfOk result (λ inside.
         inside ≡ surroundings_in (element_view element.now).0 around.now) }
 {
@@ -94,12 +118,15 @@ fn pass_own(
     Ok(around.inside(&known))
 }
 
-/// Adds what a root breaks, and returns the surroundings of its children.
-fn pass_root(root: &HtmlElement, walk: &mut NestingWalk) -> Result<Surroundings, AllocError>
+/// Reports what a root breaks, and returns the surroundings of its children.
+fn pass_root<S: MisnestedSink>(
+    root: &HtmlElement,
+    walk: &mut NestingWalk<S>,
+) -> Result<Surroundings, AllocError>
     ensures path { OnOk result (walk.new.path.items ≡ walk.old.path.items) }
-    ensures found { let e = element_view root.now in
-        OnOk result (findings_view walk.new.found.items ≡ findings_view walk.old.found.items
-        ++ found walk.old.path.items e.0.span (root_misnesting e (surroundings_of []))) }
+    ensures taken { let e = element_view root.now in
+        OnOk result (Takes (S.made_with walk.old.sink) (S.made_with walk.new.sink)
+        (found walk.old.path.items e.0.span (root_misnesting e (surroundings_of [])))) }
     ensures inside { IfOk result (λ inside.
         inside ≡ surroundings_in (element_view root.now).0 (surroundings_of [])) }
 {
@@ -112,15 +139,15 @@ fn pass_root(root: &HtmlElement, walk: &mut NestingWalk) -> Result<Surroundings,
 // The node comes first among the parameters: its depth proves that the recursion ends.
 
 #[cycle(walk)]
-fn pass_element(
+fn pass_element<S: MisnestedSink>(
     element: &HtmlElement,
     around: &Surroundings,
-    walk: &mut NestingWalk,
+    walk: &mut NestingWalk<S>,
 ) -> Result<(), AllocError>
     ensures path { OnOk result (walk.new.path.items ≡ walk.old.path.items) }
-    ensures found { let e = element_view element.now in
-        OnOk result (findings_view walk.new.found.items ≡ findings_view walk.old.found.items
-        ++ node_walk walk.old.path.items around.now (element_node e.0 e.1)) }
+    ensures taken { let e = element_view element.now in
+        OnOk result (Takes (S.made_with walk.old.sink) (S.made_with walk.new.sink)
+        (node_walk walk.old.path.items around.now (element_node e.0 e.1))) }
 {
     if around.depth > MOST_ANCESTORS {
         return report(element.span, Misnesting::TooDeep, walk);
@@ -131,15 +158,14 @@ fn pass_element(
 
 #[cycle(walk)]
 #[tactic(auto, unfolding(crate::specs::Walks::node_walk))]
-fn pass_node(
+fn pass_node<S: MisnestedSink>(
     child: &HtmlNode,
     around: &Surroundings,
-    walk: &mut NestingWalk,
+    walk: &mut NestingWalk<S>,
 ) -> Result<(), AllocError>
     ensures path { OnOk result (walk.new.path.items ≡ walk.old.path.items) }
-    ensures found { OnOk result (findings_view walk.new.found.items
-        ≡ findings_view walk.old.found.items
-        ++ node_walk walk.old.path.items around.now (node_view child.now)) }
+    ensures taken { OnOk result (Takes (S.made_with walk.old.sink) (S.made_with walk.new.sink)
+        (node_walk walk.old.path.items around.now (node_view child.now))) }
 {
     match child {
         HtmlNode::Tag(_) => Ok(()),
@@ -152,15 +178,14 @@ fn pass_node(
 }
 
 #[cycle(walk)]
-fn pass_nodes(
+fn pass_nodes<S: MisnestedSink>(
     nodes: &[HtmlNode],
     around: &Surroundings,
-    walk: &mut NestingWalk,
+    walk: &mut NestingWalk<S>,
 ) -> Result<(), AllocError>
     ensures path { OnOk result (walk.new.path.items ≡ walk.old.path.items) }
-    ensures found { OnOk result (findings_view walk.new.found.items
-        ≡ findings_view walk.old.found.items
-        ++ nodes_walk walk.old.path.items 0 around.now (nodes_view nodes.now)) }
+    ensures taken { OnOk result (Takes (S.made_with walk.old.sink) (S.made_with walk.new.sink)
+        (nodes_walk walk.old.path.items 0 around.now (nodes_view nodes.now))) }
 {
     for (index, child) in nodes.iter().enumerate() {
         walk.path.push(index)?;

@@ -6,3 +6,4 @@ pub mod Frames
 pub mod Hashed
 pub mod Nodes
 pub mod Styles
+pub mod Taking

@@ -7,6 +7,7 @@ pub mod FrameViews
 pub mod Hashes
 pub mod Lending
 pub mod Tags
+pub mod Taking
 pub mod PlainTree
 pub mod Styled
 pub mod Tree

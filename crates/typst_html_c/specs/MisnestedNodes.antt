@@ -9,6 +9,7 @@ use Rattle.html_dom_nest.specs.MisnestingWords.{rule_words}
 use Rattle.html_dom_nest.specs.declared.misnesting.Misnesting.{Misnesting}
 use Rattle.html_dom_nest.specs.declared.misnesting.Misnesting.TheVariants as why
 use Rattle.typst_html_parse.specs.PagePlaces.{place_at}
+use Rattle.typst_html_read.specs.declared.place.Place.{Place}
 use Rattle.typst_html_c.specs.FindingLists.{where_behind}
 
 -- the name of a rule
@@ -41,13 +42,16 @@ rule_name why.ClosesRubyPart = codes "ClosesRubyPart"
 rule_name why.LeavesForeign = codes "LeavesForeign"
 rule_name why.Filled = codes "Filled"
 
--- the rule that a node breaks, and where it stands: its place is that of its span, which for a text
--- is that of the element that it stands in
+-- the rule that a node breaks, and where it stands
+abbrev pub node_data : (previous path : List ℕ) → Place → Misnesting → Data
+node_data previous path place why = object (
+    member (codes "rule") (string (rule_name why)) (
+    member (codes "why") (string (rule_words why)) (where_behind previous path place)))
+
+-- a node of a page: its place is that of its span, which for a text is that of the element that it
+-- stands in
 abbrev pub misnested_node : (text previous : List ℕ) → Finding → Data
-misnested_node text previous f = object (
-    member (codes "rule") (string (rule_name f.why)) (
-    member (codes "why") (string (rule_words f.why)) (
-    where_behind previous f.path (place_at text f.span))))
+misnested_node text previous f = node_data previous f.path (place_at text f.span) f.why
 
 -- the nodes, each with its place after the previous one
 abbrev pub misnested_behind : (text previous : List ℕ) → List Finding → List Data

@@ -5,6 +5,7 @@ use Rattle.serde_json.specs.Data.{Data}
 use Rattle.serde_json.specs.View.{items_of}
 use Rattle.serde_json.specs.Written.{items_text}
 use Rattle.html_dom_findings.specs.PlacedTexts.{Placed}
+use Rattle.html_dom_nest.specs.Misnested.{Finding}
 use Rattle.html_dom_tree.specs.Tree.{ElementView}
 use Rattle.html_dom_tree.specs.Views.{element_view}
 use Rattle.typst_html_parse.specs.PlaceViews.{text_of}
@@ -14,10 +15,12 @@ use Rattle.typst_html_parse_open.specs.PageRefusals.{refusal_number}
 use Rattle.typst_html_read.specs.declared.place.Place.{Place}
 use Rattle.typst_html_c.specs.CallReplies.{without_text}
 use Rattle.typst_html_c.specs.FindingLists.{element_place, findings_behind}
+use Rattle.typst_html_c.specs.MisnestedNodes.{misnested_behind}
 use Rattle.typst_html_c.specs.PageFindings.{page_findings}
 use Rattle.typst_html_c.specs.PageLinks.{page_links}
 use Rattle.typst_html_c.specs.PageReports.{Report, placed}
 use Rattle.typst_html_c.specs.declared.lists.FindingList.{FindingList}
+use Rattle.typst_html_c.specs.declared.misnested.NodeList.{NodeList}
 use Rattle.typst_html_c.specs.declared.page.Page.{Page}
 use Rattle.typst_html_c.specs.declared.reply.Reply.{Reply}
 use Rattle.typst_html_c.specs.declared.report.Asked.{Asked}
@@ -31,6 +34,11 @@ place_in page = element_place (text_of page.places) (element_view page.root.now)
 abbrev pub text_with : FindingList → List Placed → List ℕ
 text_with list ps = string_bytes list.text ++ items_text list.later (items_of
     (findings_behind (place_in list.page) (string_bytes list.name) list.previous.items ps))
+
+-- the text with the whole list of misnested nodes that is being written, if these are added to it
+abbrev pub text_with_nodes : NodeList → List Finding → List ℕ
+text_with_nodes list fs = string_bytes list.text ++ items_text list.later (items_of
+    (misnested_behind (text_of list.places) list.previous.items fs))
 
 -- the data that a call is asked for
 abbrev pub asked_data : Asked → (text : List ℕ) → ElementView → Data

@@ -7,10 +7,10 @@ ghost use Rattle.typst_html_parse.specs.PlaceViews.{text_of};
 ghost use Rattle.typst_html_c.specs.PageFindings.{page_findings};
 
 use crate::lists::{begun, ended, push_key};
-use crate::misnested::push_misnested;
+use crate::misnested;
 use crate::page::Page;
 use html_dom_findings::{report_dead_fragments, report_repeated_ids};
-use html_dom_nest::misnested;
+use html_dom_nest::report_misnested;
 use std::alloc::{AllocError, Global};
 
 pub(crate) fn findings_text(alloc: Global, page: Page) -> Result<String, AllocError>
@@ -26,8 +26,8 @@ pub(crate) fn findings_text(alloc: Global, page: Page) -> Result<String, AllocEr
     let list = begun(alloc, page, text, "id")?;
     let mut text = ended(report_repeated_ids(alloc, page.root, list)?)?;
     push_key(alloc, &mut text, true, "misnested")?;
-    let nodes = misnested(alloc, page.root)?;
-    push_misnested(alloc, page.places, &mut text, &nodes)?;
+    let list = misnested::begun(alloc, page.places, text)?;
+    let mut text = misnested::ended(report_misnested(alloc, page.root, list)?)?;
     text.push_str("}")?;
     Ok(text)
 }

@@ -1,59 +1,97 @@
 //! The misnested nodes of a page, which would make a browser build another tree, as JSON.
 
-ghost use Rattle.std.specs.Prelude.{◌≡◌, ◌++◌, chars, string_bytes, OnOk};
+ghost use Rattle.std.specs.Prelude.{◌≡◌, List, ℕ, [], ◌++◌, chars, string_bytes, IfOk, OnOk};
 ghost use Rattle.serde_json.specs.Written.{compact_text};
-ghost use Rattle.html_dom_nest.specs.MisnestedViews.{finding_view, findings_view};
+ghost use Rattle.html_dom_nest.specs.Misnested.{Finding};
 ghost use Rattle.typst_html_parse.specs.PlaceViews.{text_of};
-ghost use Rattle.typst_html_c.specs.MisnestedNodes.{misnested_data, misnested_node, rule_name};
+ghost use Rattle.typst_html_c.specs.MisnestedNodes.{misnested_data, node_data, rule_name};
+ghost use Rattle.typst_html_c.specs.PageSteps.{text_with_nodes};
 
 use crate::lists::{push_comma_if, push_key, push_string, push_where};
-use html_dom_nest::{Misnested, Misnesting};
+use html_dom_nest::{MisnestedSink, Misnesting};
+use html_dom_tree::Span;
 use std::alloc::{AllocError, Global};
 use typst_html_parse::Places;
+use typst_html_read::Place;
 
-/// Appends the list of these nodes of a page.
-pub(crate) fn push_misnested(
-    alloc: Global,
-    places: Places<'_>,
-    text: &mut String,
-    nodes: &[Misnested],
-) -> Result<(), AllocError>
-    ensures { OnOk result (string_bytes text.new ≡ string_bytes text.old
-        ++ compact_text (misnested_data (text_of places.entry) (findings_view nodes.now))) }
-{
-    let mut places = places;
-    text.push_str("[")?;
-    let mut previous: &[usize] = &[];
-    let mut later = false;
-    for node in nodes {
-        push_comma_if(text, later)?;
-        push_node(alloc, &mut places, text, previous, node)?;
-        previous = &node.path;
-        later = true;
-    }
-    text.push_str("]")?;
-    Ok(())
+/// A list of the misnested nodes of a page that is being written.
+#[derive(Drop)]
+pub(crate) struct NodeList<'a> {
+    /// The places in the page. The nodes come in document order, so one pass finds all.
+    places: Places<'a>,
+    /// The text that is written so far.
+    text: String,
+    /// The path of the previous node; empty if there is none.
+    previous: Vec<usize>,
+    /// Whether there is a previous node.
+    later: bool,
 }
 
-/// Appends a node as an object. `previous` is the path of the node before it in the list.
+pub(crate) fn begun<'a>(
+    alloc: Global,
+    places: Places<'a>,
+    text: String,
+) -> Result<NodeList<'a>, AllocError>
+    ensures { IfOk result (λ list. (fs : List Finding) → text_with_nodes list fs
+        ≡ string_bytes text ++ compact_text (misnested_data (text_of places.entry) fs)) }
+{
+    let mut text = text;
+    text.push_str("[")?;
+    Ok(NodeList {
+        places,
+        text,
+        previous: Vec::new(alloc),
+        later: false,
+    })
+}
+
+pub(crate) fn ended(list: NodeList) -> Result<String, AllocError>
+    ensures { IfOk result (λ text. string_bytes text ≡ text_with_nodes list.entry []) }
+{
+    let NodeList { mut text, .. } = list;
+    text.push_str("]")?;
+    Ok(text)
+}
+
+impl<'a> MisnestedSink for NodeList<'a> {
+    ghost Made = { List ℕ };
+
+    ghost made_with = { text_with_nodes };
+
+    fn take(
+        &mut self,
+        alloc: Global,
+        path: &[usize],
+        span: Span,
+        why: Misnesting,
+    ) -> Result<(), AllocError> {
+        push_comma_if(&mut self.text, self.later)?;
+        let place = self.places.at(span.0 as usize);
+        push_node(alloc, &mut self.text, &self.previous, path, place, why)?;
+        self.previous = path.to_vec(alloc)?;
+        self.later = true;
+        Ok(())
+    }
+}
+
+/// Appends a node as an object. `previous` is the path of the previous node.
 fn push_node(
     alloc: Global,
-    places: &mut Places<'_>,
     text: &mut String,
     previous: &[usize],
-    node: &Misnested,
+    path: &[usize],
+    place: Place,
+    why: Misnesting,
 ) -> Result<(), AllocError>
-    ensures text { OnOk result (string_bytes text.new ≡ string_bytes text.old ++ compact_text
-        (misnested_node (text_of places.old) previous.now (finding_view node.now))) }
-    ensures places { OnOk result (text_of places.new ≡ text_of places.old) }
+    ensures { OnOk result (string_bytes text.new
+        ≡ string_bytes text.old ++ compact_text (node_data previous.now path.now place why)) }
 {
-    let place = places.at(node.span.0 as usize);
     text.push_str("{")?;
     push_key(alloc, text, false, "rule")?;
-    push_string(alloc, text, rule_name(node.why))?;
+    push_string(alloc, text, rule_name(why))?;
     push_key(alloc, text, true, "why")?;
-    push_string(alloc, text, node.why.words())?;
-    push_where(alloc, text, previous, &node.path, place)?;
+    push_string(alloc, text, why.words())?;
+    push_where(alloc, text, previous, path, place)?;
     Ok(())
 }
 

@@ -1,7 +1,8 @@
 use Rattle.std.proofs.Common.{◌≡◌, ◌++◌, ◌∷◌, [], ap, ◌∙◌, append_assoc, refl}
 use Rattle.html_dom_findings.specs.PlacedTexts.{node_placed}
 use Rattle.html_dom_findings.specs.WantedTexts.{kind_of}
-use Rattle.html_dom_findings.proofs.Walks.{all_left, all_taken, more_taken, none_placed, placed_in_turn}
+use Rattle.html_dom_tree.proofs.Taking.{all_left, all_taken, more_taken}
+use Rattle.html_dom_findings.proofs.Walks.{none_placed, placed_in_turn}
 use Rattle.html_dom_findings.proofs.walk.+walk.Goals as goal
 
 pub pass_element-returns-clause-path : goal.pass_element-returns-clause-path

@@ -1,8 +1,8 @@
 use Rattle.std.proofs.Common.{◌≡◌, drop}
+use Rattle.html_dom_tree.proofs.Taking.{Left}
 use Rattle.html_dom_tree.specs.Views.{nodes_view}
 use Rattle.html_dom_findings.specs.PlacedTexts.{nodes_placed}
 use Rattle.html_dom_findings.specs.WantedTexts.{kind_of}
-use Rattle.html_dom_findings.proofs.Walks.{Left}
 use Rattle.html_dom_findings.proofs.walk.+walk.Given as goal
 
 abbrev pub invariant-pass_nodes-loop-index : goal.invariant-pass_nodes-loop-index

@@ -1,11 +1,11 @@
 use Rattle.std.proofs.Common.{◌≡◌, [], ◌∷◌, ap, ◌∙◌, refl, rules}
 use Rattle.std.proofs.lemmas.List.{drop_all}
 use Rattle.html_names.specs.Texts.{text_view}
+use Rattle.html_dom_tree.proofs.Taking.{all_left, all_taken, more_taken}
 use Rattle.html_dom_tree.specs.FrameViews.{anchors_view}
 use Rattle.html_dom_link.specs.NewNames.{anchor_names}
 use Rattle.html_dom_link.proofs.PutPlaces.{anchors_in_turn}
 use Rattle.html_dom_findings.specs.PlacedTexts.{placed_at}
-use Rattle.html_dom_findings.proofs.Walks.{all_left, all_taken, more_taken}
 use Rattle.html_dom_findings.proofs.walk.pass_anchors.Goals as goal
 
 pub loop-anchor-init : goal.loop-anchor-init

@@ -1,9 +1,9 @@
 use Rattle.std.proofs.Common.{◌≡◌, List, drop, String, Global}
+use Rattle.html_dom_tree.proofs.Taking.{Left}
 use Rattle.html_dom_tree.specs.FrameViews.{anchors_view}
 use Rattle.html_dom_tree.specs.declared.frame.Point.{Point}
 use Rattle.html_dom_link.specs.NewNames.{anchor_names}
 use Rattle.html_dom_findings.specs.PlacedTexts.{Placed, placed_at}
-use Rattle.html_dom_findings.proofs.Walks.{Left}
 use Rattle.html_dom_findings.proofs.walk.pass_anchors.Given as goal
 
 abbrev pub invariant-loop-anchor : goal.invariant-loop-anchor

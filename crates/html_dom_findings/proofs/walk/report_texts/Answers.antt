@@ -5,8 +5,8 @@ use Rattle.html_dom_findings.specs.PlacedTexts.{element_placed}
 use Rattle.html_dom_findings.specs.WantedTexts.{kind_of}
 use Rattle.html_dom_findings.proofs.walk.report_texts.Goals as goal
 
-pub returns : goal.returns
-returns g c =
+pub returns-in-Ok : goal.returns-in-Ok
+returns-in-Ok g c =
     let placed = element_placed (kind_of c.args.wanted) (element_view c.args.root.now) in
-    (rw c.new.ensures.items at c.in_ok-pass_element.ensures.taken [])
+    (rw c.new.ensures.items at c.in-Ok.ensures.taken) []
     ∙ ap (g.S.TextSink.made_with c.args.sink) (append-nil placed)

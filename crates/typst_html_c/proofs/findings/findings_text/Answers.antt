@@ -1,10 +1,8 @@
 use Rattle.std.proofs.Common.{◌≡◌, ◌++◌, ◌∷◌, [], false, true, codes, string_bytes, ap, ◌∙◌}
 use Rattle.serde_json.specs.Data.{member, no_members}
-use Rattle.serde_json.specs.Written.{compact_text}
 use Rattle.html_dom_findings.specs.Fragments.{dead_fragments}
 use Rattle.html_dom_findings.specs.RepeatedIds.{repeated_ids}
 use Rattle.html_dom_nest.specs.Misnested.{misnested_nodes}
-use Rattle.html_dom_nest.specs.MisnestedViews.{findings_view}
 use Rattle.html_dom_tree.specs.Views.{element_view}
 use Rattle.typst_html_parse.specs.PlaceViews.{text_of}
 use Rattle.typst_html_c.specs.FindingLists.{findings}
@@ -25,7 +23,6 @@ returns c =
     let later = member (codes "repeated_ids") repeated last in
     let start : string_bytes c.push_str.new.self ≡ [] ++ 123 ∷ [] =
     c.in_ok-push_str.ensures.bytes ∙ ap (λ l. l ++ 123 ∷ []) c.new-text.ensures.bytes in
-    let mid = string_bytes c.push_key-3.new.text in
     c.in_ok-push_str-2.ensures.bytes
     ∙ one_more_member true (codes "misnested") lost no_members _ _ _ _
     (one_more_member true (codes "repeated_ids") repeated last _ _ _ _
@@ -35,6 +32,5 @@ returns c =
     ∙ (c.in_ok-report_dead_fragments.ensures ∙ c.in_ok-list.ensures (dead_fragments e))))
     c.in_ok-push_key-2.ensures (c.in_ok-text-2.ensures
     ∙ (c.in_ok-report_repeated_ids.ensures ∙ c.in_ok-list-2.ensures (repeated_ids e))))
-    c.in_ok-push_key-3.ensures (c.in_ok-push_misnested.ensures
-    ∙ ap (λ fs. mid ++ compact_text (misnested_data page fs))
-    (ap findings_view c.deref.ensures.value ∙ c.in_ok-nodes.ensures))
+    c.in_ok-push_key-3.ensures (c.in_ok-text-3.ensures
+    ∙ (c.in_ok-report_misnested.ensures ∙ c.in_ok-list-3.ensures (misnested_nodes e)))

@@ -1,0 +1,30 @@
+use Rattle.std.proofs.Common.{◌≡◌, ◌++◌, ◌∷◌, true, ap, ◌∙◌, refl, string_bytes}
+use Rattle.serde_json.specs.View.{items_of}
+use Rattle.serde_json.specs.Written.{compact_text, items_text}
+use Rattle.html_dom_nest.specs.Misnested.{Finding}
+use Rattle.typst_html_parse.specs.PlaceViews.{text_of}
+use Rattle.typst_html_c.specs.MisnestedNodes.{misnested_behind, misnested_node, node_data}
+use Rattle.typst_html_c.specs.PageSteps.{text_with_nodes}
+use Rattle.typst_html_c.proofs.Pages.{one_more_item}
+use Rattle.typst_html_c.proofs.misnested.NodeListMisnestedSink.take.Goals as goal
+
+pub returns : goal.returns
+returns c rest =
+    let list = c.args.self.now in
+    let page = text_of list.places in
+    let path = c.args.path.now in
+    let here : Finding = record { path = path; span = c.args.span.0; why = c.args.why } in
+    let mid = string_bytes c.push_comma_if.new.text in
+    let new = string_bytes c.push_node.new.text in
+    let node : node_data c.deref.result.now path c.at-place.result c.args.why
+    ≡ misnested_node page list.previous.items here =
+    rw (c.deref.ensures.value, c.at-place.ensures.place) refl in
+    let after = text_of c.at-place.new.self in
+    ap (λ previous. new ++ items_text true (items_of (misnested_behind after previous rest)))
+    (c.in_ok-self.ensures.items_if_clones_equal (λ x y is. is))
+    ∙ (ap (λ text. new ++ items_text true (items_of (misnested_behind text path rest)))
+    c.at-place.ensures.text
+    ∙ one_more_item list.later (misnested_node page list.previous.items here)
+    (misnested_behind page path rest) (text_with_nodes list (here ∷ rest)) (string_bytes list.text)
+    mid new refl c.in_ok-push_comma_if.ensures
+    (c.in_ok-push_node.ensures ∙ ap (λ d. mid ++ compact_text d) node))
