@@ -245,12 +245,11 @@ struct typst_html_reply typst_html_dead_links(uint32_t limit, const uint8_t *inp
 
 /*
  * Writes as JSON the members whose information the text of the document does not show. If the items
- * have an `html` of their own, whose head is theirs too, these are all members that hold any
- * information; otherwise there are none.
+ * have an `html` of their own, whose head is theirs too, these are all members for information that
+ * the input has, also empty lists; otherwise there are none.
  *     {"unused":["title","lang"]}
- * The members are in the order of the form above, with "head" last; an empty list holds no
- * information. Input and limit are those of typst_html_document, which refuses whatever is refused
- * here.
+ * The members are in the order of the form above, with "head" last. Input and limit are those of
+ * typst_html_document, which refuses whatever is refused here.
  */
 struct typst_html_reply typst_html_unused(uint32_t limit, const uint8_t *input, size_t length,
                                           uint8_t *output, size_t room);

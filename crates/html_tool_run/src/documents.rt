@@ -30,7 +30,7 @@ use html_dom_document::HtmlDocument;
 use html_dom_link::{DeadLink, dead_links, document_with_links};
 use html_dom_tree::HtmlElement;
 use html_names::tag;
-use html_tool_spell::{Fault, SpelledDocument, document_in, parse};
+use html_tool_spell::{Fault, SpelledDocument, into_document, parse};
 use serde_json::Value;
 use std::alloc::Global;
 use std::mem;
@@ -191,7 +191,7 @@ fn spelled_text(alloc: Global, value: Value, settings: &Settings) -> Result<Docu
     ensures dead { IfOk result (λ made. dead_links_view made.dead_links.items
         ≡ dead_links_in settings.now (Some (spelled_document (view value)))) }
 {
-    let document = document_in(alloc, value)?;
+    let document = into_document(alloc, value)?;
     spelling_text(alloc, document, settings)
 }
 

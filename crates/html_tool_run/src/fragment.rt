@@ -13,7 +13,7 @@ ghost use Rattle.html_tool_spell.specs.SpelledItems.{spelled_document_items};
 
 use crate::program::fault_of;
 use html_flow_convert::{ConversionLevel, Pair};
-use html_tool_spell::{Fault, document_items_in, parse};
+use html_tool_spell::{Fault, into_document_items, parse};
 use serde_json::Value;
 use std::alloc::Global;
 use typst_html_export::export_fragment;
@@ -61,7 +61,7 @@ fn spelled_text(
     ensures { GivesAnswer result
         (answer_to (fragment_answer level limit) (spelled_document_items (view value))) }
 {
-    let items = document_items_in(alloc, value)?;
+    let items = into_document_items(alloc, value)?;
     fragment_text(alloc, &items, level, limit)
 }
 

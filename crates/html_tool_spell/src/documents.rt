@@ -119,11 +119,18 @@ pub struct SpelledDocument {
 }
 
 /// Returns the document that a value spells. Its items have the forms of documents, which are more
-/// than those of [`items_in`](crate::items_in). Consumes the value and reuses its texts.
+/// than those of [`items_in`](crate::items_in). Copies the value once.
 ///
 /// Fails with [`Fault::BadInput`] if the value spells no document, whatever its names are, and with
 /// [`Fault::Refused`] for the first name that is refused.
-pub fn document_in(alloc: Global, value: Value) -> Result<SpelledDocument, Fault>
+pub fn document_in(alloc: Global, value: &Value) -> Result<SpelledDocument, Fault>
+    ensures { GivesSpelledDocument result (spelled_document (view value.now)) }
+{
+    into_document(alloc, value.clone()?)
+}
+
+/// Does the same as [`document_in`], but consumes the value and reuses its texts.
+pub fn into_document(alloc: Global, value: Value) -> Result<SpelledDocument, Fault>
     ensures { GivesSpelledDocument result (spelled_document (view value)) }
 {
     let parts = parts_at(alloc, value)?;

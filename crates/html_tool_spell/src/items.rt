@@ -45,8 +45,15 @@ pub fn into_items(alloc: Global, value: Value) -> Result<Vec<Pair>, Fault>
 }
 
 /// Returns the items that a value spells in the forms of documents, which are more than those of
-/// [`into_items`]: those of [`document_in`](crate::document_in). Consumes the value.
-pub fn document_items_in(alloc: Global, value: Value) -> Result<Vec<Pair>, Fault>
+/// [`items_in`]: those of [`document_in`](crate::document_in). Copies the value once.
+pub fn document_items_in(alloc: Global, value: &Value) -> Result<Vec<Pair>, Fault>
+    ensures { GivesItems result (spelled_document_items (view value.now)) }
+{
+    into_document_items(alloc, value.clone()?)
+}
+
+/// Does the same as [`document_items_in`], but consumes the value and reuses its texts.
+pub fn into_document_items(alloc: Global, value: Value) -> Result<Vec<Pair>, Fault>
     ensures { GivesItems result (spelled_document_items (view value)) }
 {
     items_by(alloc, Forms::Document, value)

@@ -20,8 +20,8 @@ mod kind;
 mod nodes;
 mod reader;
 
-pub use documents::{SpelledDocument, document_in};
+pub use documents::{SpelledDocument, document_in, into_document};
 pub use fault::{Fault, InputPlace};
-pub use items::{document_items_in, into_items, items_in};
+pub use items::{document_items_in, into_document_items, into_items, items_in};
 pub use json::parse;
 pub use nodes::{element_in, tree_in};

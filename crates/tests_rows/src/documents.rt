@@ -72,7 +72,7 @@ pub(crate) fn linked_of(alloc: Global, row: &Row<'_>) -> Result<HtmlDocument> {
 fn spelled_in(alloc: Global, json: &[u8]) -> Result<SpelledDocument> {
     let value = Value::from_slice(alloc, json)?;
     if value.as_object().is_some() {
-        return document_in(alloc, value)
+        return document_in(alloc, &value)
             .ok()
             .context("a document is wanted");
     }

@@ -202,17 +202,16 @@ fn unused_of(alloc: Global, limit: u32, input: &[u8]) -> Result<String, Fault>
 
 /// Reports in JSON which members of the input hold information that the text of its document does
 /// not show. If the items have a root of their own (an `html` alone, which stays as it is), these
-/// are all members that hold any; otherwise there are none. Writes the report into the buffer, if
-/// it fits:
+/// are all members for information that the input has, also empty lists; otherwise there are none.
+/// Writes the report into the buffer, if it fits:
 ///
 /// ```json
 /// {"unused":["title","lang"]}
 /// ```
 ///
 /// The names are listed in the order `title`, `description`, `authors`, `keywords`, `lang`,
-/// `region`, `head`; a member that is an empty list holds no information. Input and limit are those
-/// of [`typst_html_document`], which refuses whatever is refused here; buffers and replies are
-/// those of [`typst_html_write`].
+/// `region`, `head`. Input and limit are those of [`typst_html_document`], which refuses whatever
+/// is refused here; buffers and replies are those of [`typst_html_write`].
 pub fn typst_html_unused(alloc: Global, limit: u32, input: &[u8], output: &mut [u8]) -> Reply
     ensures answered { RepliesAt (unused_call_answer limit input.now) output.old result output.new }
     ensures kept { ¬ (result.status ≡ 0) → output.new ≡ output.old }

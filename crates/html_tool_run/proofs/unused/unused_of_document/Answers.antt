@@ -1,9 +1,7 @@
 use Rattle.std.proofs.lemmas.Result.{err_from_is_err_and}
 use Rattle.html_tool_run.proofs.Answering.{json_said, no_json_said}
-use Rattle.html_tool_run.specs.Answers.{answer_to}
-use Rattle.html_tool_run.specs.UnusedInformation.{unused_answer, unused_input_answer}
+use Rattle.html_tool_run.specs.UnusedInformation.{unused_input_answer, unused_value_answer}
 use Rattle.html_tool_spell.specs.Json.{json_of}
-use Rattle.html_tool_spell.specs.SpelledDocuments.{spelled_document}
 use Rattle.serde_json.specs.View.{view}
 use Rattle.html_tool_run.proofs.unused.unused_of_document.Goals as goal
 
@@ -12,12 +10,12 @@ unfolding unused_input_answer
 returns-in_err-value c =
     let failed = err_from_is_err_and c.from_residual.result c.from_residual.ensures.1 in
     rw (failed.1, failed.2)
-    (no_json_said (λ d. answer_to (unused_answer c.args.limit) (spelled_document d))
-    (json_of c.args.input.now) c.in_err-value.field-0.0 c.in_err-value.ensures)
+    (no_json_said (unused_value_answer c.args.limit) (json_of c.args.input.now)
+    c.in_err-value.field-0.0 c.in_err-value.ensures)
 
 pub returns : goal.returns
 unfolding unused_input_answer
 returns c =
-    json_said (λ d. answer_to (unused_answer c.args.limit) (spelled_document d))
-    (json_of c.args.input.now) (view c.in_ok-value.value) c.unused_of_value.result
-    c.in_ok-value.ensures c.unused_of_value.ensures
+    json_said (unused_value_answer c.args.limit) (json_of c.args.input.now)
+    (view c.in_ok-value.value) c.unused_of_value.result c.in_ok-value.ensures
+    c.unused_of_value.ensures

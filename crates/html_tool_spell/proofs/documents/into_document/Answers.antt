@@ -2,7 +2,7 @@ use Rattle.std.proofs.lemmas.Result.{err_from_is_err_and}
 use Rattle.serde_json.specs.View.{view}
 use Rattle.html_tool_spell.proofs.RefusedBodies.{missing_refused}
 use Rattle.html_tool_spell.specs.SpelledDocuments.{spelling_from, parts_at, names_refusals}
-use Rattle.html_tool_spell.proofs.documents.document_in.Goals as goal
+use Rattle.html_tool_spell.proofs.documents.into_document.Goals as goal
 
 pub returns-in_err-parts : goal.returns-in_err-parts
 returns-in_err-parts c =
