@@ -143,8 +143,8 @@ fn titling(to: &mut Writer, name: &str, titles: &[Value], above: Option<&Value>)
 /// Returns the document of the written items, with links resolved, and warnings of dead ones.
 fn linked(writer: Writer, info: &DocumentInfo) -> Result<(HtmlDocument, Vec<String>)> {
     let (alloc, places, mut warnings) = (writer.alloc, writer.places, writer.warnings);
-    let notes = writer.notes.section()?;
-    let made = html_document(alloc, writer.list.items(), info, &notes, DEPTH_LIMIT);
+    let (items, notes) = (writer.list.into_block_items(), writer.notes.section()?);
+    let made = html_document(alloc, &items, info, &notes, DEPTH_LIMIT);
     let mut made = made.map_err(with_block)?;
     for link in &dead_links(alloc, &made)? {
         let (block, name) = (link.span.0, places.name(link.dest).unwrap_or_default());

@@ -221,7 +221,7 @@ fn heading(alloc: Global, level: &Value) -> Result<HtmlTag> {
 fn inline(to: &mut Writer, depth: usize, kind: &str, content: &Value) -> Result<()> {
     match kind {
         "Str" => return to.text(text(content)?),
-        "Space" | "SoftBreak" => return to.space(),
+        "Space" | "SoftBreak" => return Ok(to.list.space()?),
         "LineBreak" => return Ok(to.list.line_break()?),
         _ => {}
     }

@@ -5,7 +5,7 @@ use crate::json::{fields, joined, tag_and_content, two_texts};
 use crate::writer::Writer;
 use anyhow::{Result, bail};
 use html_dom::{decoded_fragment, href_is_script, place_in};
-use html_flow::{Item, Pair};
+use html_flow::Pair;
 use html_names::{HtmlAttr, HtmlTag, attr, tag};
 use serde_json::Value;
 use std::mem;
@@ -23,14 +23,6 @@ impl Writer {
             task = task.with_attr_text(attr::checked, "")?;
         }
         Ok(self.list.element(task)?)
-    }
-
-    /// Adds a space, except behind a line break, which raw HTML may have made.
-    pub fn space(&mut self) -> Result<()> {
-        match self.list.items().last().map(|pair| &pair.item) {
-            Some(Item::LineBreak(_)) => Ok(()),
-            _ => Ok(self.list.space()?),
-        }
     }
 
     /// Adds raw HTML as a text, or drops it, since it would not be escaped. Ignores other raw
@@ -95,7 +87,7 @@ impl Writer {
 
     /// Ends a footnote, stores it, and adds its mark.
     pub fn end_note(&mut self) -> Result<()> {
-        let content = self.end_list();
+        let content = self.end_list().into_block_items();
         if self.plain == 0 {
             let mark = self.notes.mark(content, self.list.span())?;
             self.list.item(Pair::from(mark))?;
@@ -117,7 +109,7 @@ impl Writer {
     pub fn end_link(&mut self, attr: &Value, target: &Value) -> Result<()> {
         let (address, title) = two_texts(target)?;
         let name = self.name_in(address)?;
-        let body = self.end_list();
+        let body = self.end_list().into_items();
         let mut link = self.empty(tag::a).with_body(body);
         if href_is_script(address) {
             self.warn("an address that would be run is dropped", address)?;

@@ -3,7 +3,7 @@
 use crate::attributes::{Attr, with_words};
 use anyhow::Result;
 use html_flow::{HtmlElem, Item, ItemList, NamedPlaces, Notes, Pair};
-use html_names::{HtmlTag, attr};
+use html_names::{HtmlTag, attr, tag};
 use std::alloc::Global;
 use std::collections::BTreeSet;
 use std::mem;
@@ -96,11 +96,11 @@ impl Writer {
         Ok(self.outer.push(mem::replace(&mut self.list, inside))?)
     }
 
-    /// Ends that list, and returns its items.
-    pub fn end_list(&mut self) -> Vec<Pair> {
+    /// Ends that list, and returns it.
+    pub fn end_list(&mut self) -> ItemList {
         let around = self.outer.pop().unwrap_or(self.list.new_list());
         self.line_end = None;
-        mem::replace(&mut self.list, around).into_items()
+        mem::replace(&mut self.list, around)
     }
 
     /// Ends that list, and adds an element that holds it, of a class unless that is empty.
@@ -111,7 +111,12 @@ impl Writer {
 
     /// Ends that list, and adds the element with the list in it.
     pub fn end_with(&mut self, elem: HtmlElem, attr: Attr<'_>) -> Result<()> {
-        let body = self.end_list();
+        let list = self.end_list();
+        let body = if tag::is_whitespace_collapsing(&elem.tag) {
+            list.into_block_items()
+        } else {
+            list.into_items()
+        };
         self.push(elem.with_body(body), attr, None)
     }
 
@@ -134,7 +139,7 @@ impl Writer {
     pub fn end_plain(&mut self) -> Result<String> {
         self.plain = self.plain.saturating_sub(1);
         let mut text = String::new(self.alloc);
-        push_text(&self.end_list(), &mut text)?;
+        push_text(self.end_list().items(), &mut text)?;
         Ok(text)
     }
 }

@@ -131,7 +131,7 @@ impl Site<'_> {
         for part in parts {
             self.push_part(&mut list, page, part)?;
         }
-        Ok(list.into_items())
+        Ok(list.into_block_items())
     }
 
     /// Adds the part of a text behind a `[`, up to the next one.

@@ -40,6 +40,7 @@ pub use item::{
 };
 pub use look::makes_block;
 pub use made::break_element;
+pub use one::is_one;
 pub use pieces::push_text_nodes;
 pub use protect::protect_spaces;
 pub use runs::keep_runs;

@@ -1,3 +1,4 @@
+pub mod Cuts
 pub mod LastItems
 pub mod Lines
 pub mod NoteParts

@@ -8,7 +8,12 @@ use Rattle.html_flow_lists.specs.declared.notes.Note.{Note}
 use Rattle.html_flow_lists.specs.declared.notes.Notes.{Notes}
 
 abbrev pub list_view : ItemList → ListView
-list_view l = record { items = pairs_view l.items.items; span = l.span.0 }
+list_view l = record {
+  items = pairs_view l.items.items;
+  span = l.span.0;
+  starts_spaced = l.starts_spaced;
+  ending = l.ending;
+}
 
 abbrev pub note_view : Note → NoteView
 note_view n = record { content = pairs_view n.content.items; span = n.span.0 }

@@ -15,4 +15,4 @@
 pub mod laws;
 mod named_places;
 
-pub use named_places::NamedPlaces;
+pub use named_places::{NamedPlaces, location_with_room};

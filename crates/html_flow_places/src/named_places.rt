@@ -139,7 +139,7 @@ impl NamedPlaces {
         let Ok(label) = String::from_str(*self.names.allocator(), name) else {
             return Err(Refused { back: element });
         };
-        let Ok(location) = self.location_with_room(items, name) else {
+        let Ok(location) = location_with_room(self, items, name) else {
             return Err(Refused { back: element });
         };
         let item = Item::Element(element);
@@ -175,28 +175,30 @@ impl NamedPlaces {
             ((pairs_view items.new.items ≡ pairs_view items.old.items) × (self.new ≡ self.old)) }
         ensures back { IfErr result (λ refused. refused.back ≡ element) }
     {
-        let Ok(destination) = self.location_with_room(items, name) else {
+        let Ok(destination) = location_with_room(self, items, name) else {
             return Err(Refused { back: element });
         };
         let item = Item::Element(element);
         push_located_reserved(items, Location(0), None, Some(destination), item);
         Ok(())
     }
+}
 
-    fn location_with_room(
-        &mut self,
-        items: &mut Vec<Pair>,
-        name: &str,
-    ) -> Result<Location, AllocError>
-        ensures location { IfOk result (λ l. l.0 ≡ location_in self.old (chars name.now)) }
-        ensures names { OnOk result (self.new ≡ with_name self.old (chars name.now)) }
-        ensures kept { OnErr result (self.new ≡ self.old) }
-        ensures items { items.new.items ≡ items.old.items }
-        ensures room { OnOk result (vec_len items.new + 3 ≤ vec_capacity items.new) }
-    {
-        items.reserve(3)?;
-        self.location(name)
-    }
+/// Returns the location of a name, as `NamedPlaces::location` does, and makes room in a list for
+/// the three items of a place or a link. If an allocation fails, list and names are unchanged.
+pub fn location_with_room(
+    places: &mut NamedPlaces,
+    items: &mut Vec<Pair>,
+    name: &str,
+) -> Result<Location, AllocError>
+    ensures location { IfOk result (λ l. l.0 ≡ location_in places.old (chars name.now)) }
+    ensures names { OnOk result (places.new ≡ with_name places.old (chars name.now)) }
+    ensures kept { OnErr result (places.new ≡ places.old) }
+    ensures items { items.new.items ≡ items.old.items }
+    ensures room { OnOk result (vec_len items.new + 3 ≤ vec_capacity items.new) }
+{
+    items.reserve(3)?;
+    places.location(name)
 }
 
 /// Sets the location of the name. If an allocation fails, each name keeps the one that it had.
