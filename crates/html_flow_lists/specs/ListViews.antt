@@ -1,5 +1,6 @@
 -- The lists and the notes that the program's values stand for.
 use Rattle.std.specs.Prelude.{List, map}
+use Rattle.html_dom_tree.specs.Views.{optional_text_view}
 use Rattle.html_flow_convert.specs.Views.{pairs_view}
 use Rattle.html_flow_lists.specs.ItemLists.{ListView}
 use Rattle.html_flow_lists.specs.Notes.{NoteView}
@@ -16,7 +17,11 @@ list_view l = record {
 }
 
 abbrev pub note_view : Note → NoteView
-note_view n = record { content = pairs_view n.content.items; span = n.span.0 }
+note_view n = record {
+  key = optional_text_view n.key;
+  content = pairs_view n.content.items;
+  span = n.span.0;
+}
 
 abbrev pub notes_view : Notes → List NoteView
 notes_view n = map note_view n.notes.items

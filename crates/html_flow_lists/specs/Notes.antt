@@ -1,14 +1,15 @@
 -- Footnotes (this project's rule): marks with links to notes, and one section of the notes, each
 -- with a link back to its mark. The classes are those that Pandoc writes, the roles those of
 -- DPUB-ARIA 1.0.
-use Rattle.std.specs.Prelude.{ℕ, suc, ◌+◌, ◌-◌, ◌*◌, ◌^◌, Bool, false, if◌then◌else◌, List, [], ◌∷◌, ◌++◌, Some, None, codes, bytes_eq, decimal}
+use Rattle.std.specs.Prelude.{ℕ, zero, suc, ◌+◌, ◌-◌, ◌*◌, ◌^◌, Bool, false, if◌then◌else◌, List, [], ◌∷◌, ◌++◌, Option, Some, None, codes, bytes_eq, decimal, length, nat_lt}
 use Rattle.html_names.specs.Texts.{TextPair}
 use Rattle.html_flow_convert.specs.Items.{RoleView, ItemView, element_item, text_item, ItemsView, no_items, item, absent, present, ElemView, element_as_item, new_head, inheriting, located_item}
 use Rattle.html_flow_convert.specs.Views.{items_of}
 use Rattle.html_flow_lists.specs.ItemLists.{Pairs, last_passes, with_changed_last}
 
--- a note: its content, and the span that its mark and its elements get
+-- a note: its key, if it has one, its content, and the span that its mark and its elements get
 pub record NoteView : Type 0 where
+  pub key : Option (List ℕ)
   pub content : Pairs
   pub span : ℕ
 
@@ -54,6 +55,51 @@ mark_item number span =
     plain_item (codes "sup") [] (located_item (mark_location number) (Some (mark_label number))
     (Some (note_location number))
     (note_link (codes "footnote-ref") (codes "doc-noteref") (decimal number) span)) span
+
+-- a further mark of a note: a link to the note, and no place
+abbrev pub further_mark_item : (number span : ℕ) → ItemView
+further_mark_item number span =
+    plain_item (codes "sup") [] (located_item 0 None (Some (note_location number))
+    (note_link (codes "footnote-ref") (codes "doc-noteref") (decimal number) span)) span
+
+-- whether a note has that key
+abbrev pub is_key : (key : List ℕ) → Option (List ℕ) → Bool
+is_key key None = false
+is_key key (Some own) = bytes_eq own key
+
+abbrev pub has_key : (key : List ℕ) → NoteView → Bool
+has_key key note = is_key key note.key
+
+-- the number of notes before the first with that key
+abbrev pub place_of_key : (key : List ℕ) → List NoteView → ℕ
+place_of_key key [] = 0
+place_of_key key (n ∷ ns) = if has_key key n then 0 else suc (place_of_key key ns)
+
+abbrev pub is_marked : (key : List ℕ) → List NoteView → Bool
+is_marked key notes = nat_lt (place_of_key key notes) (length notes)
+
+-- the mark of the note with that key, which is a place if it is the first one
+abbrev pub key_mark_item : (key : List ℕ) (span : ℕ) → List NoteView → ItemView
+key_mark_item key span notes =
+    let number = suc (place_of_key key notes) in
+    if is_marked key notes then further_mark_item number span else mark_item number span
+
+-- notes of which one has that key: if none had it, a last one without content
+abbrev pub with_key : (key : List ℕ) (span : ℕ) → List NoteView → List NoteView
+with_key key span notes =
+    if is_marked key notes then notes
+    else notes ++ record { key = Some key; content = []; span = span } ∷ []
+
+-- notes of which the one at a place has that content
+abbrev pub with_content_at : (place : ℕ) → Pairs → List NoteView → List NoteView
+with_content_at place content [] = []
+with_content_at zero content (n ∷ ns) = record n { content = content } ∷ ns
+with_content_at (suc place) content (n ∷ ns) = n ∷ with_content_at place content ns
+
+abbrev pub content_at : (place : ℕ) → List NoteView → Pairs
+content_at place [] = []
+content_at zero (n ∷ ns) = n.content
+content_at (suc place) (n ∷ ns) = content_at place ns
 
 -- the link back to the mark: an arrow to the left, as text rather than as a picture
 abbrev pub back_items : (number span : ℕ) → Pairs

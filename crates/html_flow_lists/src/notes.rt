@@ -1,27 +1,33 @@
 //! Footnotes.
 
-ghost use Rattle.std.specs.Prelude.{◌≡◌, ◌↔◌, ◌+◌, ◌<◌, ◌≤◌, ◌^◌, ◌++◌, ◌∷◌, [], IsTrue, OnOk, OnErr, IfOk, IfErr, decimal, length, map};
+ghost use Rattle.std.specs.Prelude.{◌≡◌, ◌↔◌, ◌+◌, ◌<◌, ◌≤◌, ◌^◌, ◌++◌, ◌∷◌, [], IsTrue, OnOk, OnErr, IfOk, IfErr, is_ok, bytes_eq, chars, decimal, length, map};
 ghost use Rattle.html_names.specs.Names.{is_ascii};
 ghost use Rattle.html_names.specs.Texts.{text_view};
 ghost use Rattle.html_flow_convert.specs.Views.{elem_view, item_view, pair_view, pairs_view};
 ghost use Rattle.html_flow_lists.specs.ItemLists.{last_passes, with_changed_last};
-ghost use Rattle.html_flow_lists.specs.Notes.{back_items, class_and_role, element_with, in_last_line, is_line, is_line_item, located_note, mark_item, mark_location, note_items, note_link, note_location, section_items, with_longer_body, with_longer_line};
+ghost use Rattle.html_flow_lists.specs.Notes.{back_items, class_and_role, content_at, element_with, further_mark_item, has_key, in_last_line, is_marked, is_line, is_line_item, key_mark_item, located_note, mark_item, mark_location, note_items, note_link, note_location, place_of_key, section_items, with_content_at, with_key, with_longer_body, with_longer_line};
 ghost use Rattle.html_flow_lists.specs.ListViews.{note_view, notes_view};
 
 use crate::item_list::text_pair;
+use html_dom_tree::text::copy_optional_text;
 use html_dom_tree::{Location, Span};
 use html_flow_convert::{HtmlElem, Item, Pair, copied_pairs, push_located};
 use html_names::{HtmlTag, Refused, attr, tag};
 use std::alloc::{AllocError, AllocFailed, Global};
+use std::mem;
 
-/// Footnotes: each mark consumes the content of the next note, and the section holds all notes.
+/// Footnotes: each mark has the number of its note, and the section holds all notes.
+///
+/// [`mark`](Notes::mark) consumes the content of the next note. Where marks have keys, as in
+/// Markdown, [`mark_key`](Notes::mark_key) numbers a key when it is first marked, and
+/// [`set`](Notes::set) stores its content later. So a note can be marked twice, or in another note.
 ///
 /// Links lead from a mark to its note and back, once the document's links are resolved
 /// (`export_linked`). Notes and marks have locations of their own, from the greatest one down: use
 /// none above 2^63 for anything else. The `id`s `fn1` and `fnref1` are requested: if one is taken,
 /// another is made from it.
 ///
-/// In contracts it is the list of notes, each with its content and its span.
+/// In contracts it is the list of notes, each with its key, if it has one, its content and its span.
 ///
 /// ```
 /// use html_dom::Span;
@@ -42,9 +48,10 @@ pub struct Notes {
     notes: Vec<Note>,
 }
 
-/// The content of a note, and its span.
+/// A note: its key, if it has one, its content, and its span.
 #[derive(Debug, Drop)]
 struct Note {
+    key: Option<String>,
     content: Vec<Pair>,
     span: Span,
 }
@@ -81,7 +88,7 @@ impl Notes {
         ensures mark { IfOk result (λ mark. item_view mark
             ≡ mark_item (length (notes_view self.old) + 1) span.0) }
         ensures notes { OnOk result (notes_view self.new ≡ notes_view self.old
-            ++ record { content = pairs_view content.items; span = span.0 } ∷ []) }
+            ++ record { key = None; content = pairs_view content.items; span = span.0 } ∷ []) }
         ensures kept { OnErr result (notes_view self.new ≡ notes_view self.old) }
         ensures back { IfErr result (λ refused. refused.back ≡ content) }
     {
@@ -90,11 +97,74 @@ impl Notes {
         let Ok(mark) = mark_of(alloc, number, span) else {
             return Err(Refused { back: content });
         };
-        match self.notes.push(Note { content, span }) {
+        let key = None;
+        match self.notes.push(Note { key, content, span }) {
             Ok(()) => Ok(mark),
             Err(AllocFailed { value }) => Err(Refused {
                 back: value.content,
             }),
+        }
+    }
+
+    /// Returns the mark of the note with that key, as [`mark`](Notes::mark) does: of the next note,
+    /// which has no content until [`set`](Notes::set) stores one, or of the one that has the key. The
+    /// link back leads to the first mark; a further one is no place and has no `id`. If an
+    /// allocation fails, the notes are unchanged.
+    ///
+    /// Takes time linear in the number of notes, as `set` does.
+    ///
+    /// ```
+    /// use html_dom::Span;
+    /// use html_flow::{ItemList, Notes, Pair};
+    ///
+    /// let alloc = rt.alloc();
+    /// let (mut notes, mut line) = (Notes::new(alloc), ItemList::new(alloc));
+    /// line.text("Vinegar")?;
+    /// line.item(Pair::from(notes.mark_key("grain", Span(3))?))?;
+    /// line.text(" and beer")?;
+    /// line.item(Pair::from(notes.mark_key("grain", Span(3))?))?; // the same number
+    /// let mut content = line.new_list();
+    /// content.text("Of barley.")?;
+    /// assert!(rt; notes.set("grain", content.into_items()).is_ok());
+    /// assert_eq!(rt; notes.len(), 1);
+    /// ```
+    pub fn mark_key(&mut self, key: &str, span: Span) -> Result<Item, AllocError>
+        ensures mark { IfOk result (λ mark. item_view mark
+            ≡ key_mark_item (chars key.now) span.0 (notes_view self.old)) }
+        ensures notes { OnOk result
+            (notes_view self.new ≡ with_key (chars key.now) span.0 (notes_view self.old)) }
+        ensures kept { OnErr result (notes_view self.new ≡ notes_view self.old) }
+    {
+        let alloc = *self.notes.allocator();
+        let notes = self.notes.as_slice();
+        let (place, count) = (place_of_key(notes, key), notes.len());
+        let number = place as u64 + 1;
+        if place < count {
+            return further_mark_of(alloc, number, span);
+        }
+        let mark = mark_of(alloc, number, span)?;
+        let key = Some(String::from_str(alloc, key)?);
+        let content = Vec::new(alloc);
+        self.notes.push(Note { key, content, span })?;
+        Ok(mark)
+    }
+
+    /// Stores the content of the note with that key, and returns the content that it had. Returns
+    /// the content itself as an error if no mark has the key: nothing refers to that note.
+    pub fn set(&mut self, key: &str, content: Vec<Pair>) -> Result<Vec<Pair>, Vec<Pair>>
+        ensures marked { is_ok result ≡ is_marked (chars key.now) (notes_view self.old) }
+        ensures notes { notes_view self.new ≡ with_content_at
+            (place_of_key (chars key.now) (notes_view self.old)) (pairs_view content.items)
+            (notes_view self.old) }
+        ensures former { IfOk result (λ former. pairs_view former.items
+            ≡ content_at (place_of_key (chars key.now) (notes_view self.old)) (notes_view self.old)) }
+        ensures back { IfErr result (λ back. back ≡ content) }
+    {
+        let place = place_of_key(&self.notes, key);
+        if place < self.notes.len() {
+            Ok(replaced_content(&mut self.notes, place, content))
+        } else {
+            Err(content)
         }
     }
 
@@ -152,14 +222,64 @@ impl Notes {
 }
 
 impl Note {
+    fn replace_content(&mut self, content: Vec<Pair>) -> Vec<Pair>
+        ensures note { note_view self.new
+            ≡ record (note_view self.old) { content = pairs_view content.items } }
+        ensures former { pairs_view result.items ≡ (note_view self.old).content }
+    {
+        mem::replace(&mut self.content, content)
+    }
+
+    fn has_key(&self, key: &str) -> bool
+        ensures { result ≡ has_key (chars key.now) (note_view self.now) }
+    {
+        match &self.key {
+            Some(own) => is_same(own.as_str(), key),
+            None => false,
+        }
+    }
+
     fn try_clone(&self) -> Result<Note, AllocError>
         ensures { IfOk result (λ copy. note_view copy ≡ note_view self.now) }
     {
         Ok(Note {
+            key: copy_optional_text(&self.key)?,
             content: copied_pairs(*self.content.allocator(), &self.content)?,
             span: self.span,
         })
     }
+}
+
+#[tactic(auto, using(html_names::proofs::Lists::in_characters))]
+fn is_same(a: &str, b: &str) -> bool
+    ensures { result ≡ bytes_eq (chars a.now) (chars b.now) }
+{
+    a == b
+}
+
+/// Returns the number of notes before the first with that key.
+fn place_of_key(notes: &[Note], key: &str) -> usize
+    ensures place { result ≡ place_of_key (chars key.now) (map note_view notes.now) }
+    ensures within { result ≤ length notes.now }
+{
+    let mut place = 0;
+    for note in notes {
+        if note.has_key(key) {
+            return place;
+        }
+        place += 1;
+    }
+    place
+}
+
+/// Stores the content of the note at that place, and returns the content that it had.
+fn replaced_content(notes: &mut [Note], place: usize, content: Vec<Pair>) -> Vec<Pair>
+    requires { place < length notes.old }
+    ensures notes { map note_view notes.new
+        ≡ with_content_at place (pairs_view content.items) (map note_view notes.old) }
+    ensures former { pairs_view result.items ≡ content_at place (map note_view notes.old) }
+{
+    notes[place].replace_content(content)
 }
 
 /// Returns the location of a note. Notes and their marks have two each, from the greatest one down.
@@ -190,6 +310,26 @@ fn mark_of(alloc: Global, number: u64, span: Span) -> Result<Item, AllocError>
     let (place, note) = (mark_location(number), note_location(number));
     let mut body = Vec::new(alloc);
     push_located(&mut body, place, Some(label), Some(note), link)?;
+    let mark = HtmlElem::new(alloc, tag::sup);
+    Ok(Item::from(mark.with_body(body).spanned(span)))
+}
+
+/// Returns a mark of a note that has one.
+#[tactic(auto, unfolding(html_names::specs::Tables::known_tags))]
+fn further_mark_of(alloc: Global, number: u64, span: Span) -> Result<Item, AllocError>
+    requires { number < 2 ^ 59 }
+    ensures { IfOk result (λ mark. item_view mark ≡ further_mark_item number span.0) }
+{
+    let text = numbered(alloc, "", number)?;
+    let link = note_link(alloc, "footnote-ref", "doc-noteref", text, span)?;
+    let mut body = Vec::new(alloc);
+    push_located(
+        &mut body,
+        Location(0),
+        None,
+        Some(note_location(number)),
+        link,
+    )?;
     let mark = HtmlElem::new(alloc, tag::sup);
     Ok(Item::from(mark.with_body(body).spanned(span)))
 }
@@ -261,7 +401,11 @@ fn push_note(
     ensures { OnOk result (pairs_view items.new.items
         ≡ pairs_view items.old.items ++ located_note number (note_view note)) }
 {
-    let Note { mut content, span } = note;
+    let Note {
+        key: _,
+        mut content,
+        span,
+    } = note;
     push_back_link(alloc, &mut content, number, span)?;
     let entry = HtmlElem::new(alloc, tag::li).with_attr_text(attr::role, "doc-endnote")?;
     let entry = Item::from(entry.with_body(content).spanned(span));

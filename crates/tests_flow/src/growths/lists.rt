@@ -134,6 +134,14 @@ fn marks_of_notes(rt: HostRuntime) -> TestResult {
 }
 
 #[test]
+fn marks_of_keys(rt: HostRuntime) -> TestResult {
+    let notes = Notes::new(rt.alloc());
+    refuses_lent(rt.alloc(), notes, |notes: &mut Notes| {
+        notes.mark_key("held", Span(4)).map(|_| notes.len() == 1)
+    })
+}
+
+#[test]
 fn sections_of_notes(rt: HostRuntime) -> TestResult {
     let alloc = rt.alloc();
     let mut notes = Notes::new(alloc);
