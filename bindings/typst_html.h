@@ -57,9 +57,9 @@ struct typst_html_reply {
     size_t line;    /* status 2, if the input is not JSON, and for a page, statuses 1 and 2: the
                        line of the place, counted from 1; otherwise 0. A line ends with a line feed,
                        in a page with LF, CR LF or CR */
-    size_t column;  /* the column there, counted from 1: for JSON in bytes, or the length of the
-                       last line if the text ends too soon; for a page in characters, without a byte
-                       order mark */
+    size_t column;  /* the column there, counted from 1: for JSON in bytes, that of the first byte
+                       with which no JSON text goes on, or the length of the last line if the text
+                       ends too soon; for a page in characters, without a byte order mark */
     uint8_t status; /* enum typst_html_status */
     uint8_t number; /* status 1: enum typst_html_refusal; otherwise 0 */
 };

@@ -5,10 +5,10 @@ use Rattle.std.proofs.lemmas.Str.{encodes-chars, IsUtf8-string_bytes}
 use lib.Utf8.{encodes}
 use Rattle.serde_json.specs.Data.{Data}
 use Rattle.html_dom_tree.specs.Views.{text_view}
-use Rattle.html_tool_run.specs.Answers.{Answer, TextPlace, in_text, text_answer, bad_input, first_refusal_or_text, answer_if, answer_to}
-use Rattle.html_tool_spell.specs.LeftForms.{Left, IsLeft, IsInText}
+use Rattle.html_tool_run.specs.Answers.{Answer, text_answer, bad_input, first_refusal_or_text, answer_if, answer_to}
+use Rattle.html_tool_spell.specs.LeftForms.{Left, IsLeft}
 use Rattle.html_tool_spell.specs.Reading.{IsNoJson}
-use Rattle.html_tool_run.specs.Replies.{GivesAnswer, GivesAnswerAt, Says}
+use Rattle.html_tool_run.specs.Replies.{GivesAnswer, Says}
 use Rattle.html_tool_spell.specs.NameRefusals.{Refusal}
 use Rattle.html_tool_spell.specs.Refusals.{Gives, IsFirst}
 use Rattle.html_tool_spell.specs.Spelling.{IsSpellingFault}
@@ -46,20 +46,13 @@ name_said names others text wanted (BadInput place) h = left_said _ wanted place
 name_said names others text (Err n) (Refused number span) h = absurd h
 name_said names others text (Ok a) (Refused number span) h = rw h.1 refl
 
-text_place : (place : InputPlace) → IsInText place → (at : TextPlace) × (in_text at ≡ place)
-text_place Unknown h = absurd h
-text_place (Text line column) h = ((line, column), refl)
-text_place (Form n) h = absurd h
+pub no_json_said : (answer : Data → Answer) (wanted : Option Data) (wrong : InputPlace) (f : Fault)
+    → IsNoJson wanted wrong f → Says (answer_if wrong answer wanted) f
+no_json_said answer wanted wrong OutOfMemory h = tt
+no_json_said answer wanted wrong (BadInput place) h = rw h.1 (ap bad_input (sym h.0))
+no_json_said answer wanted wrong (Refused number span) h = absurd h
 
-pub no_json_said : (answer : Data → Answer) (wanted : Option Data) (f : Fault)
-    → IsNoJson wanted f → (at : TextPlace) × Says (answer_if (in_text at) answer wanted) f
-no_json_said answer wanted OutOfMemory h = ((0, 0), tt)
-no_json_said answer wanted (BadInput place) h =
-    let agrees = text_place place h.0 in
-    (agrees.0, rw h.1 (ap bad_input agrees.1))
-no_json_said answer wanted (Refused number span) h = absurd h
-
-pub json_said : (answer : Data → Answer) (wanted : Option Data) (d : Data)
+pub json_said : (answer : Data → Answer) (wanted : Option Data) (wrong : InputPlace) (d : Data)
     (r : Result (String Global) Fault) → wanted ≡ Some d → GivesAnswer r (answer d)
-    → GivesAnswerAt r (λ at. answer_if (in_text at) answer wanted)
-json_said answer wanted d r is given = ((0, 0), rw is given)
+    → GivesAnswer r (answer_if wrong answer wanted)
+json_said answer wanted wrong d r is given = rw is given

@@ -2,15 +2,16 @@
 use Rattle.std.proofs.Common.{◌≡◌, ℕ, List, Bool, Option, Some, None, Result, Ok, Err, String, inl, inr, refl, sym, ap, subst, ◌∙◌}
 use Rattle.std.specs.Io.KnownBytes.{Appends}
 use Rattle.std.specs.declared.alloc.Global.{Global}
-use Rattle.html_tool_run.specs.Answers.{Answer, text_answer, refused_answer, bad_input, in_text, answer_if, input_answer, value_answer}
+use Rattle.html_tool_run.specs.Answers.{Answer, text_answer, refused_answer, bad_input, answer_if, input_answer, value_answer}
 use Rattle.html_tool_run.specs.Outputs.{Output, EndsAs, bad_input_line, output_of, output_if, input_output, words_output}
-use Rattle.html_tool_run.specs.Replies.{GivesAnswer, GivesAnswerAt, GivesOutput}
+use Rattle.html_tool_run.specs.Replies.{GivesAnswer, GivesOutput}
 use Rattle.html_tool_run.specs.Words.{wanted_task}
 use Rattle.html_tool_run.specs.declared.recorded.LastCall.{LastCall}
 use Rattle.html_tool_run.specs.declared.status.Status.{Status}
 use Rattle.html_tool_run.specs.declared.status.Status.TheVariants as status
 use Rattle.html_tool_run.specs.declared.words.Task.{Task}
 use Rattle.html_tool_spell.specs.Json.{json_of}
+use Rattle.html_tool_spell.specs.JsonPlaces.{input_place}
 use Rattle.html_tool_spell.specs.declared.fault.Fault.{Fault}
 use Rattle.html_tool_spell.specs.declared.fault.Fault.TheVariants.{OutOfMemory, BadInput, Refused}
 use Rattle.html_tool_spell.specs.declared.fault.InputPlace.{InputPlace}
@@ -32,11 +33,11 @@ without_place place answer (Some a) = refl
 -- a result that agrees with the answer to an input agrees with the output for words of that task
 pub answered : (words : List (List ℕ)) (task : Task) (pretty : Bool) (input : List ℕ)
     (r : Result (String Global) Fault) → wanted_task words ≡ Some (task, pretty)
-    → GivesAnswerAt r (input_answer task pretty input) → GivesOutput r (words_output words input)
+    → GivesAnswer r (input_answer task pretty input) → GivesOutput r (words_output words input)
 unfolding input_answer input_output
 answered words task pretty input r wanted given =
-    rw wanted (output_given r _ _ given.1
-    (without_place (in_text given.0) (value_answer task pretty) (json_of input)))
+    rw wanted (output_given r _ _ given
+    (without_place (input_place input) (value_answer task pretty) (json_of input)))
 
 pub not_failed : status.Failed ≡ status.BadInput → ⊥
 not_failed is = cc

@@ -15,12 +15,13 @@ use Rattle.typst_html_encode.specs.declared.options.HtmlOptions.{HtmlOptions}
 use Rattle.html_flow_convert.specs.Items.{ItemsView, no_items}
 use Rattle.typst_html_export.specs.Exported.{root_faults, export_faults, export_text}
 use Rattle.html_tool_spell.specs.Json.{json_of}
+use Rattle.html_tool_spell.specs.JsonPlaces.{input_place}
 use Rattle.html_tool_spell.specs.LeftForms.{Left}
 use Rattle.html_tool_spell.specs.NameRefusals.{Refusal, element_refusals, items_refusals}
 use Rattle.html_tool_spell.specs.Spelled.{spelled_element}
 use Rattle.html_tool_spell.specs.SpelledItems.{spelled_items}
 use Rattle.html_tool_spell.specs.declared.fault.InputPlace.{InputPlace}
-use Rattle.html_tool_spell.specs.declared.fault.InputPlace.TheVariants.{Text, Form}
+use Rattle.html_tool_spell.specs.declared.fault.InputPlace.TheVariants.{Form}
 use Rattle.html_tool_run.specs.declared.status.Status.{Status}
 use Rattle.html_tool_run.specs.declared.status.Status.TheVariants.{Done, Refused, BadInput, Failed}
 use Rattle.html_tool_run.specs.declared.words.Task.{Task}
@@ -116,17 +117,9 @@ abbrev pub answer_if : {A : Type 0} → InputPlace → (answer : A → Answer) �
 answer_if place answer None = bad_input place
 answer_if place answer (Some a) = answer a
 
--- a place in a text: its line and its column. `serde_json` reports where an input is not JSON, and
--- no definition says which place that is, so an answer to an input is one for some place.
-abbrev pub TextPlace : Type 0
-TextPlace = ℕ × ℕ
+unfoldable pub input_answer : Task → (pretty : Bool) (input : List ℕ) → Answer
+input_answer task pretty input =
+    answer_if (input_place input) (value_answer task pretty) (json_of input)
 
-abbrev pub in_text : TextPlace → InputPlace
-in_text at = Text at.0 at.1
-
-unfoldable pub input_answer : Task → (pretty : Bool) (input : List ℕ) → TextPlace → Answer
-input_answer task pretty input at =
-    answer_if (in_text at) (value_answer task pretty) (json_of input)
-
-abbrev pub task_answer : (input : List ℕ) → TextPlace → Task × Bool → Answer
-task_answer input at wanted = input_answer wanted.0 wanted.1 input at
+abbrev pub task_answer : (input : List ℕ) → Task × Bool → Answer
+task_answer input wanted = input_answer wanted.0 wanted.1 input

@@ -11,8 +11,9 @@ use Rattle.typst_html_encode.specs.Text as html
 use Rattle.typst_html_export.specs.Assembled.{items_document_faults}
 use Rattle.typst_html_export.specs.Exported.{root_faults}
 use Rattle.typst_html_export.specs.OwnHead.{linked_document_with_head}
-use Rattle.html_tool_run.specs.Answers.{Answer, TextPlace, in_text, answer_if, answer_to, fault_refusal, first_refusal_or_text, options_of}
+use Rattle.html_tool_run.specs.Answers.{Answer, answer_if, answer_to, fault_refusal, first_refusal_or_text, options_of}
 use Rattle.html_tool_spell.specs.Json.{json_of}
+use Rattle.html_tool_spell.specs.JsonPlaces.{input_place}
 use Rattle.html_tool_spell.specs.LeftForms.{Left}
 use Rattle.html_tool_spell.specs.NameRefusals.{Refusal}
 use Rattle.html_tool_spell.specs.SpelledDocuments.{Spelling, names_refusals, spelled_document}
@@ -47,9 +48,9 @@ unfoldable pub document_answer : Settings → Spelling → Answer
 document_answer w s =
     first_refusal_or_text (names_refusals s ++ document_refusals w s) (spelling_text w s)
 
-unfoldable pub document_input_answer : Settings → (input : List ℕ) → TextPlace → Answer
-document_input_answer w input at =
-    answer_if (in_text at) (λ d. answer_to (document_answer w) (spelled_document d)) (json_of input)
+unfoldable pub document_input_answer : Settings → (input : List ℕ) → Answer
+document_input_answer w input = answer_if (input_place input)
+    (λ d. answer_to (document_answer w) (spelled_document d)) (json_of input)
 
 -- the links of a document that lead nowhere, if links are wanted, and otherwise none
 abbrev pub dead_links : Settings → Spelling → List DeadLinkView

@@ -4,8 +4,9 @@ use Rattle.html_flow_convert.specs.Items.{ItemsView}
 use Rattle.html_flow_convert.specs.declared.convert.ConversionLevel.{ConversionLevel}
 use Rattle.typst_html_encode.specs.FrameWriters.{no_frames}
 use Rattle.typst_html_export.specs.Fragments.{export_fragment_faults, export_fragment_text}
-use Rattle.html_tool_run.specs.Answers.{Answer, TextPlace, in_text, answer_if, answer_to, fault_refusal, first_refusal_or_text}
+use Rattle.html_tool_run.specs.Answers.{Answer, answer_if, answer_to, fault_refusal, first_refusal_or_text}
 use Rattle.html_tool_spell.specs.Json.{json_of}
+use Rattle.html_tool_spell.specs.JsonPlaces.{input_place}
 use Rattle.html_tool_spell.specs.NameRefusals.{Refusal, items_refusals}
 use Rattle.html_tool_spell.specs.SpelledItems.{spelled_document_items}
 
@@ -21,8 +22,6 @@ unfoldable pub fragment_answer : ConversionLevel → (limit : ℕ) → ItemsView
 fragment_answer level limit items = first_refusal_or_text
     (items_refusals items ++ fragment_refusals level limit items) (fragment_text level items)
 
-unfoldable pub fragment_input_answer : ConversionLevel → (limit : ℕ) (input : List ℕ) → TextPlace
-    → Answer
-fragment_input_answer level limit input at =
-    answer_if (in_text at) (λ d. answer_to (fragment_answer level limit) (spelled_document_items d))
-    (json_of input)
+unfoldable pub fragment_input_answer : ConversionLevel → (limit : ℕ) (input : List ℕ) → Answer
+fragment_input_answer level limit input = answer_if (input_place input)
+    (λ d. answer_to (fragment_answer level limit) (spelled_document_items d)) (json_of input)

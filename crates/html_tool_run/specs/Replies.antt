@@ -1,7 +1,7 @@
 -- The answers that a text or a fault stand for, and the outputs of replies.
 use Rattle.std.specs.Prelude.{◌≡◌, ℕ, List, Option, Result, MatchResult, String, string_bytes}
 use Rattle.std.specs.declared.alloc.Global.{Global}
-use Rattle.html_tool_run.specs.Answers.{Answer, TextPlace, text_answer, refused_answer, bad_input}
+use Rattle.html_tool_run.specs.Answers.{Answer, text_answer, refused_answer, bad_input}
 use Rattle.html_tool_run.specs.Outputs.{Output, IsAll, output_of, words_output}
 use Rattle.html_tool_run.specs.declared.program.Reply.{Reply}
 use Rattle.html_tool_spell.specs.declared.fault.Fault.{Fault}
@@ -22,10 +22,6 @@ Says a (Refused number span) = a ≡ refused_answer (number, span.0)
 -- the text is the whole answer, or the fault is what the answer says
 abbrev pub GivesAnswer : Result (String Global) Fault → Answer → Type 0
 GivesAnswer r a = MatchResult r (λ text. a ≡ text_answer (string_bytes text)) (Says a)
-
--- the result agrees with the answer for some place in the input
-abbrev pub GivesAnswerAt : Result (String Global) Fault → (TextPlace → Answer) → Type 0
-GivesAnswerAt r answer = (at : TextPlace) × GivesAnswer r (answer at)
 
 -- the output says why there is no text, unless an allocation failed
 abbrev pub IsFaultOutput : Output → Fault → Type 0

@@ -9,8 +9,9 @@ use Rattle.serde_json.specs.Written.{compact_text}
 use Rattle.html_flow_convert.specs.Items.{no_items}
 use Rattle.typst_html_export.specs.Assembled.{items_document_faults}
 use Rattle.typst_html_export.specs.OwnHead.{have_own_root}
-use Rattle.html_tool_run.specs.Answers.{Answer, TextPlace, in_text, answer_if, answer_to, fault_refusal, first_refusal_or_text}
+use Rattle.html_tool_run.specs.Answers.{Answer, answer_if, answer_to, fault_refusal, first_refusal_or_text}
 use Rattle.html_tool_spell.specs.Json.{json_of}
+use Rattle.html_tool_spell.specs.JsonPlaces.{input_place}
 use Rattle.html_tool_spell.specs.NameRefusals.{Refusal}
 use Rattle.html_tool_spell.specs.SpelledDocuments.{Spelling, names_refusals, spelled_document}
 
@@ -49,6 +50,6 @@ unused_answer limit given s =
 abbrev pub unused_value_answer : (limit : ℕ) → Data → Answer
 unused_value_answer limit d = answer_to (unused_answer limit (given_names d)) (spelled_document d)
 
-unfoldable pub unused_input_answer : (limit : ℕ) (input : List ℕ) → TextPlace → Answer
-unused_input_answer limit input at =
-    answer_if (in_text at) (unused_value_answer limit) (json_of input)
+unfoldable pub unused_input_answer : (limit : ℕ) (input : List ℕ) → Answer
+unused_input_answer limit input =
+    answer_if (input_place input) (unused_value_answer limit) (json_of input)

@@ -20,7 +20,7 @@ ghost use Rattle.typst_html_export.specs.Assembled.{items_document_faults};
 ghost use Rattle.typst_html_export.specs.Assembles.{GivesDocument};
 ghost use Rattle.typst_html_export.specs.Exported.{root_faults};
 ghost use Rattle.html_tool_spell.specs.Refusals.{Gives};
-ghost use Rattle.html_tool_run.specs.Replies.{GivesAnswer, GivesAnswerAt};
+ghost use Rattle.html_tool_run.specs.Replies.{GivesAnswer};
 ghost use Rattle.html_tool_spell.specs.SpelledDocuments.{spelled_document};
 ghost use Rattle.html_tool_spell.specs.Spelling.{spelling_view};
 
@@ -237,7 +237,7 @@ pub fn text_of_document(
 ) -> Result<DocumentText, Fault>
     requires some_limit { 1 ≤ settings.now.limit }
     requires low_limit { settings.now.limit ≤ 10000 }
-    ensures text { GivesAnswerAt (text_given result) (document_input_answer settings.now input.now) }
+    ensures text { GivesAnswer (text_given result) (document_input_answer settings.now input.now) }
     ensures dead { IfOk result (λ made.
         dead_links_view made.dead_links.items ≡ input_dead_links settings.now input.now) }
 {

@@ -7,7 +7,7 @@ ghost use Rattle.html_flow_convert.specs.Views.{items_view};
 ghost use Rattle.html_tool_run.specs.Answers.{answer_to};
 ghost use Rattle.html_tool_run.specs.FragmentAnswers.{fragment_answer, fragment_input_answer};
 ghost use Rattle.html_tool_run.specs.FragmentAnswers.{fragment_refusals, fragment_text};
-ghost use Rattle.html_tool_run.specs.Replies.{GivesAnswer, GivesAnswerAt};
+ghost use Rattle.html_tool_run.specs.Replies.{GivesAnswer};
 ghost use Rattle.html_tool_spell.specs.Refusals.{Gives};
 ghost use Rattle.html_tool_spell.specs.SpelledItems.{spelled_document_items};
 
@@ -44,7 +44,7 @@ pub fn text_of_fragment(
 ) -> Result<String, Fault>
     requires some_limit { 1 ≤ limit }
     requires low_limit { limit ≤ 10000 }
-    ensures { GivesAnswerAt result (fragment_input_answer level limit input.now) }
+    ensures { GivesAnswer result (fragment_input_answer level limit input.now) }
 {
     let value = parse(alloc, input)?;
     spelled_text(alloc, value, level, limit)

@@ -14,7 +14,7 @@ ghost use Rattle.html_tool_spell.specs.Refusals.{Gives};
 ghost use Rattle.html_tool_run.specs.ExportRefusals.{export_refusal};
 ghost use Rattle.html_tool_run.specs.Outputs.{EndsAs, EndsOn, RunsAs, RunsOn};
 ghost use Rattle.html_tool_run.specs.Outputs.{Output, bad_input_output, output_of};
-ghost use Rattle.html_tool_run.specs.Replies.{GivesAnswer, GivesAnswerAt, GivesOutput, GivesOutputOn};
+ghost use Rattle.html_tool_run.specs.Replies.{GivesAnswer, GivesOutput, GivesOutputOn};
 ghost use Rattle.html_tool_run.specs.Replies.{IsReply, reply_output};
 ghost use Rattle.html_tool_spell.specs.Spelled.{spelled_element};
 ghost use Rattle.html_tool_spell.specs.SpelledItems.{spelled_items};
@@ -183,7 +183,7 @@ fn value_text(alloc: Global, value: Value, task: Task, pretty: bool) -> Result<S
 /// assert!(rt; fault == Err(Fault::BadInput(InputPlace::Text(1, 15)))); // a bracket is missing
 /// ```
 pub fn text_of_input(alloc: Global, input: &[u8], task: Task, pretty: bool) -> Result<String, Fault>
-    ensures { GivesAnswerAt result (input_answer task pretty input.now) }
+    ensures { GivesAnswer result (input_answer task pretty input.now) }
 {
     let value = parse(alloc, input)?;
     value_text(alloc, value, task, pretty)
@@ -191,7 +191,7 @@ pub fn text_of_input(alloc: Global, input: &[u8], task: Task, pretty: bool) -> R
 
 /// Drops the input before it makes anything of its value.
 fn answer(alloc: Global, input: Vec<u8>, task: Task, pretty: bool) -> Result<String, Fault>
-    ensures { GivesAnswerAt result (input_answer task pretty input.items) }
+    ensures { GivesAnswer result (input_answer task pretty input.items) }
 {
     let value = parse(alloc, &input)?;
     drop(input);

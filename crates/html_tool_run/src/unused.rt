@@ -5,7 +5,7 @@ ghost use Rattle.serde_json.specs.View.{view};
 ghost use Rattle.serde_json.specs.Written.{compact_text};
 ghost use Rattle.html_dom_tree.specs.Views.{nodes_view, text_view};
 ghost use Rattle.html_flow_convert.specs.LoneNode.{node_list};
-ghost use Rattle.html_tool_run.specs.Replies.{GivesAnswer, GivesAnswerAt};
+ghost use Rattle.html_tool_run.specs.Replies.{GivesAnswer};
 ghost use Rattle.html_tool_run.specs.UnusedInformation.{given_name, given_names, unused_data, unused_text};
 ghost use Rattle.html_tool_run.specs.UnusedInformation.{unused_input_answer, unused_refusals, unused_value_answer};
 ghost use Rattle.html_tool_run.specs.Words.{texts_of};
@@ -41,7 +41,7 @@ use typst_html_export::has_own_root;
 pub fn unused_of_document(alloc: Global, input: &[u8], limit: usize) -> Result<String, Fault>
     requires some_limit { 1 ≤ limit }
     requires low_limit { limit ≤ 10000 }
-    ensures { GivesAnswerAt result (unused_input_answer limit input.now) }
+    ensures { GivesAnswer result (unused_input_answer limit input.now) }
 {
     let value = parse(alloc, input)?;
     unused_of_value(alloc, value, limit)

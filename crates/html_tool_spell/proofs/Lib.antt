@@ -2,6 +2,7 @@ pub mod Bytes
 pub mod Forms
 pub mod ItemForms
 pub mod ItemRows
+pub mod JsonPlaces
 pub mod KindForms
 pub mod NodeRows
 pub mod PairRows

@@ -28,9 +28,3 @@ abbrev pub IsLeft : {A : Type 0} → Left A → InputPlace → Type 0
 IsLeft wanted Unknown = ⊥
 IsLeft wanted (Text line column) = ⊥
 IsLeft wanted (Form n) = wanted ≡ Err n
-
--- the place is one in a text that is not JSON
-abbrev pub IsInText : InputPlace → Type 0
-IsInText Unknown = ⊥
-IsInText (Text line column) = Unit {0}
-IsInText (Form n) = ⊥

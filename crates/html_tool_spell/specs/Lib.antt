@@ -1,6 +1,7 @@
 pub mod Fields
 pub mod FormKinds
 pub mod Json
+pub mod JsonPlaces
 pub mod LeftForms
 pub mod Marks
 pub mod NameRefusals

@@ -25,12 +25,13 @@ use Rattle.html_flow_convert.specs.Views.{item_view, items_view}
 use Rattle.html_flow_convert.specs.declared.item.Item.{Item}
 use Rattle.html_flow_convert.specs.declared.item.Pair.{Pair}
 use Rattle.html_flow_places.specs.NamedLocations.{location_in}
-use Rattle.html_tool_spell.specs.LeftForms.{Left, IsLeft, IsInText, from_part}
+use Rattle.html_tool_spell.specs.LeftForms.{Left, IsLeft, from_part}
 use Rattle.html_tool_spell.specs.Marks.{Mark}
 use Rattle.html_tool_spell.specs.NameRefusals.{Refusal, refusals, pairs_refusals, name_refusals, all_name_refusals, item_refusals, items_refusals}
 use Rattle.html_tool_spell.specs.SpelledItems.{Part}
 use Rattle.html_tool_spell.specs.declared.fault.Fault.{Fault}
 use Rattle.html_tool_spell.specs.declared.fault.Fault.TheVariants.{OutOfMemory, BadInput, Refused}
+use Rattle.html_tool_spell.specs.declared.fault.InputPlace.{InputPlace}
 use Rattle.html_tool_spell.specs.declared.fault.InputPlace.TheVariants.{Form}
 use Rattle.html_tool_spell.specs.declared.reader.Reader.{Reader}
 
@@ -64,14 +65,16 @@ IsMissing wanted (Refused number span) = ⊥
 abbrev pub ReadsMember : {A B : Type 0} → (view : A → B) → Result A Fault → Option B → Type 0
 ReadsMember view r wanted = MatchResult r (λ a. wanted ≡ Some (view a)) (IsMissing wanted)
 
--- the text is not a JSON value and the fault has a place in it, or an allocation failed
-abbrev pub IsNoJson : Option Data → Fault → Type 0
-IsNoJson wanted OutOfMemory = Unit {0}
-IsNoJson wanted (BadInput place) = IsInText place × (wanted ≡ None)
-IsNoJson wanted (Refused number span) = ⊥
+-- the text is not a JSON value and the fault has the place where it is wrong, or an allocation
+-- failed
+abbrev pub IsNoJson : Option Data → (wrong : InputPlace) → Fault → Type 0
+IsNoJson wanted wrong OutOfMemory = Unit {0}
+IsNoJson wanted wrong (BadInput place) = (place ≡ wrong) × (wanted ≡ None)
+IsNoJson wanted wrong (Refused number span) = ⊥
 
-abbrev pub ReadsJson : Result Value Fault → Option Data → Type 0
-ReadsJson r wanted = MatchResult r (λ value. wanted ≡ Some (view value)) (IsNoJson wanted)
+abbrev pub ReadsJson : Result Value Fault → Option Data → (wrong : InputPlace) → Type 0
+ReadsJson r wanted wrong =
+    MatchResult r (λ value. wanted ≡ Some (view value)) (IsNoJson wanted wrong)
 
 -- the fault of a name was remembered
 abbrev pub Notes : (number : ℕ) → Span → Result (Unit {0}) Fault → (before after : Reader) → Type 0

@@ -8,8 +8,10 @@ pub enum InputPlace {
     /// There is no place: the words or the numbers of the call are wrong.
     Unknown,
     /// The place where the text is not a JSON value or not UTF-8: the line, counted from 1, and the
-    /// column, counted in bytes from 1, as `serde_json` reports them. If the text ends too soon,
-    /// the column is the length of its last line.
+    /// column, counted in bytes from 1, of the first byte with which no JSON text goes on. Arrays
+    /// and objects are nested at most 127 levels deep, and surrogates stand in pairs alone. If the
+    /// text ends too soon, or a number in it is too large for a float, this is the end of the text,
+    /// and the column is the length of its last line.
     Text(usize, usize),
     /// The place where the value leaves the form: how many lists of nodes or items are opened up to
     /// the first value that does not fit the form, which is the number of the last of them.

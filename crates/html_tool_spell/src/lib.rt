@@ -16,6 +16,8 @@ mod info_members;
 mod input_forms;
 mod items;
 mod json;
+mod json_place;
+mod json_stage;
 mod kind;
 mod nodes;
 mod reader;

@@ -1,7 +1,7 @@
 -- The reply of a call, and what the call leaves in the caller's buffer.
 use Rattle.std.specs.Prelude.{◌≡◌, ◌==◌, ◌&&◌, ℕ, Bool, true, false, List, [], ◌∷◌, ◌++◌, length, drop, nat_le, Option, Some, None, option_map, option_and_then, if◌then◌else◌}
 use Rattle.html_dom_link.specs.Links.{DeadLinkView}
-use Rattle.html_tool_run.specs.Answers.{Answer, TextPlace, text_answer, refused_answer, bad_input, answer_if, task_answer}
+use Rattle.html_tool_run.specs.Answers.{Answer, text_answer, refused_answer, bad_input, answer_if, task_answer}
 use Rattle.html_tool_run.specs.DocumentAnswers.{document_input_answer, input_dead_links}
 use Rattle.html_tool_run.specs.declared.documents.Settings.{Settings}
 use Rattle.html_tool_spell.specs.declared.fault.Fault.{Fault}
@@ -30,9 +30,8 @@ wanted_task kind layout =
     option_and_then (λ task. option_map (λ pretty. (task, pretty)) (pretty_of layout)) (task_of kind)
 
 -- the answer to an input: that of the program, or bad input if a number is invalid
-abbrev pub write_answer : (kind layout : ℕ) (input : List ℕ) → TextPlace → Answer
-write_answer kind layout input at =
-    answer_if Unknown (task_answer input at) (wanted_task kind layout)
+abbrev pub write_answer : (kind layout : ℕ) (input : List ℕ) → Answer
+write_answer kind layout input = answer_if Unknown (task_answer input) (wanted_task kind layout)
 
 -- how deep the bodies of items may be nested: from 1 to 10,000
 abbrev pub limit_of : (limit : ℕ) → Option ℕ
@@ -49,10 +48,9 @@ wanted_settings layout links limit = option_and_then (λ pretty. option_and_then
     (limit_of limit)) (yes_or_no links)) (pretty_of layout)
 
 -- the answer to an input that spells a document, or bad input if a number is invalid
-abbrev pub document_call_answer : (layout links limit : ℕ) (input : List ℕ) → TextPlace → Answer
-document_call_answer layout links limit input at =
-    answer_if Unknown (λ settings. document_input_answer settings input at)
-    (wanted_settings layout links limit)
+abbrev pub document_call_answer : (layout links limit : ℕ) (input : List ℕ) → Answer
+document_call_answer layout links limit input = answer_if Unknown
+    (λ settings. document_input_answer settings input) (wanted_settings layout links limit)
 
 -- the links of that document that lead nowhere; none if a number is invalid
 abbrev pub dead_links_with : Option Settings → (input : List ℕ) → List DeadLinkView
@@ -113,10 +111,6 @@ pub data Replies (a : Answer) (old : List ℕ) (reply : Reply) (new : List ℕ) 
       → Replies a old reply new
   failed : reply ≡ without_text 3 0 0 → new ≡ old → Replies a old reply new
 
--- the call replies with the answer for some place in the input
-abbrev pub RepliesAt : (TextPlace → Answer) → (old : List ℕ) (reply : Reply) (new : List ℕ) → Type 0
-RepliesAt answer old reply new = (at : TextPlace) × Replies (answer at) old reply new
-
 -- the reply for a text in which these links lead nowhere: status 5 instead of 0, and the span of
 -- the first
 abbrev pub with_dead_links : List DeadLinkView → Reply → Reply
@@ -129,8 +123,3 @@ abbrev pub RepliesWith : List DeadLinkView → Answer → (old : List ℕ) (repl
     → Type 0
 RepliesWith links answer old reply new =
     (plain : Reply) × Replies answer old plain new × (reply ≡ with_dead_links links plain)
-
-abbrev pub RepliesWithAt : List DeadLinkView → (TextPlace → Answer) → (old : List ℕ) (reply : Reply)
-    (new : List ℕ) → Type 0
-RepliesWithAt links answer old reply new =
-    (at : TextPlace) × RepliesWith links (answer at) old reply new

@@ -5,7 +5,7 @@ use Rattle.serde_json.specs.Data.{Data, number, array, object, unsigned, member,
 use Rattle.serde_json.specs.View.{items_of}
 use Rattle.serde_json.specs.Written.{compact_text}
 use Rattle.html_dom_link.specs.Links.{DeadLinkView}
-use Rattle.html_tool_run.specs.Answers.{Answer, TextPlace, text_answer, refused_answer, bad_input}
+use Rattle.html_tool_run.specs.Answers.{Answer, text_answer, refused_answer, bad_input}
 use Rattle.typst_html_c.specs.CallReplies.{call_dead_links, document_call_answer}
 
 -- the destination and the span of a link, as JSON
@@ -25,7 +25,7 @@ in_place_of_text bytes (refused_answer r) = refused_answer r
 in_place_of_text bytes (bad_input place) = bad_input place
 
 -- the answer to an input that spells a document, with its dead links instead of its text
-abbrev pub dead_links_answer : (limit : ℕ) (input : List ℕ) → TextPlace → Answer
-dead_links_answer limit input at =
+abbrev pub dead_links_answer : (limit : ℕ) (input : List ℕ) → Answer
+dead_links_answer limit input =
     in_place_of_text (compact_text (dead_links_data (call_dead_links 0 1 limit input)))
-    (document_call_answer 0 1 limit input at)
+    (document_call_answer 0 1 limit input)

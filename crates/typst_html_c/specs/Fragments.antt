@@ -3,7 +3,7 @@
 use Rattle.std.specs.Prelude.{◌==◌, ℕ, List, Option, Some, None, option_and_then, option_map, if◌then◌else◌}
 use Rattle.html_flow_convert.specs.declared.convert.ConversionLevel.{ConversionLevel}
 use Rattle.html_flow_convert.specs.declared.convert.ConversionLevel.TheVariants.{Block, Inline}
-use Rattle.html_tool_run.specs.Answers.{Answer, TextPlace, answer_if}
+use Rattle.html_tool_run.specs.Answers.{Answer, answer_if}
 use Rattle.html_tool_run.specs.FragmentAnswers.{fragment_input_answer}
 use Rattle.html_tool_spell.specs.declared.fault.InputPlace.TheVariants.{Unknown}
 use Rattle.typst_html_c.specs.CallReplies.{limit_of}
@@ -17,7 +17,6 @@ abbrev pub wanted_fragment : (level limit : ℕ) → Option (ConversionLevel × 
 wanted_fragment level limit =
     option_and_then (λ here. option_map (λ most. (here, most)) (limit_of limit)) (level_of level)
 
-abbrev pub fragment_call_answer : (level limit : ℕ) (input : List ℕ) → TextPlace → Answer
-fragment_call_answer level limit input at =
-    answer_if Unknown (λ how. fragment_input_answer how.0 how.1 input at)
-    (wanted_fragment level limit)
+abbrev pub fragment_call_answer : (level limit : ℕ) (input : List ℕ) → Answer
+fragment_call_answer level limit input =
+    answer_if Unknown (λ how. fragment_input_answer how.0 how.1 input) (wanted_fragment level limit)

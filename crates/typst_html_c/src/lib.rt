@@ -9,8 +9,8 @@
 ghost use Rattle.std.specs.Prelude.{◌≡◌, IfOk};
 ghost use Rattle.html_dom_link.specs.DeadLinks.{dead_links_view};
 ghost use Rattle.html_tool_run.specs.DocumentAnswers.{text_given};
-ghost use Rattle.html_tool_run.specs.Replies.{GivesAnswerAt};
-ghost use Rattle.typst_html_c.specs.CallReplies.{RepliesAt, RepliesWithAt, call_dead_links, document_call_answer, write_answer};
+ghost use Rattle.html_tool_run.specs.Replies.{GivesAnswer};
+ghost use Rattle.typst_html_c.specs.CallReplies.{Replies, RepliesWith, call_dead_links, document_call_answer, write_answer};
 ghost use Rattle.typst_html_c.specs.DeadLinks.{dead_links_answer};
 ghost use Rattle.typst_html_c.specs.Fragments.{fragment_call_answer};
 ghost use Rattle.typst_html_c.specs.PageFindings.{check_report};
@@ -53,7 +53,7 @@ pub fn typst_html_version() -> u32
 /// Returns the text of what the input spells. Fails with bad input if the kind or the layout is
 /// invalid.
 fn text_of(alloc: Global, kind: u8, layout: u8, input: &[u8]) -> Result<String, Fault>
-    ensures { GivesAnswerAt result (write_answer kind layout input.now) }
+    ensures { GivesAnswer result (write_answer kind layout input.now) }
 {
     match wanted_task(kind, layout) {
         Some((task, pretty)) => text_of_input(alloc, input, task, pretty),
@@ -77,7 +77,7 @@ pub fn typst_html_write(
     input: &[u8],
     output: &mut [u8],
 ) -> Reply
-    ensures answered { RepliesAt (write_answer kind layout input.now) output.old result output.new }
+    ensures answered { Replies (write_answer kind layout input.now) output.old result output.new }
     ensures kept { ¬ (result.status ≡ 0) → output.new ≡ output.old }
 {
     reply_with(text_of(alloc, kind, layout, input), output)
@@ -90,7 +90,7 @@ fn text_of_settings(
     limit: u32,
     input: &[u8],
 ) -> Result<DocumentText, Fault>
-    ensures text { GivesAnswerAt (text_given result) (document_call_answer layout links limit input.now) }
+    ensures text { GivesAnswer (text_given result) (document_call_answer layout links limit input.now) }
     ensures dead { IfOk result (λ made.
         dead_links_view made.dead_links.items ≡ call_dead_links layout links limit input.now) }
 {
@@ -121,7 +121,7 @@ pub fn typst_html_document(
     input: &[u8],
     output: &mut [u8],
 ) -> Reply
-    ensures answered { RepliesWithAt (call_dead_links layout links limit input.now)
+    ensures answered { RepliesWith (call_dead_links layout links limit input.now)
         (document_call_answer layout links limit input.now) output.old result output.new }
     ensures kept { ¬ (result.status ≡ 0) → ¬ (result.status ≡ 5) → output.new ≡ output.old }
 {
@@ -132,7 +132,7 @@ pub fn typst_html_document(
 /// Returns the text of the items that the input spells, without a document around them. Fails with
 /// bad input if the level or the limit is invalid.
 fn fragment_of(alloc: Global, level: u8, limit: u32, input: &[u8]) -> Result<String, Fault>
-    ensures { GivesAnswerAt result (fragment_call_answer level limit input.now) }
+    ensures { GivesAnswer result (fragment_call_answer level limit input.now) }
 {
     match wanted_fragment(level, limit) {
         Some((level, limit)) => text_of_fragment(alloc, input, level, limit),
@@ -156,7 +156,7 @@ pub fn typst_html_fragment(
     input: &[u8],
     output: &mut [u8],
 ) -> Reply
-    ensures answered { RepliesAt (fragment_call_answer level limit input.now)
+    ensures answered { Replies (fragment_call_answer level limit input.now)
         output.old result output.new }
     ensures kept { ¬ (result.status ≡ 0) → output.new ≡ output.old }
 {
@@ -165,7 +165,7 @@ pub fn typst_html_fragment(
 
 /// Returns the links that lead nowhere in the document that the input spells, as JSON.
 fn dead_links_of(alloc: Global, limit: u32, input: &[u8]) -> Result<String, Fault>
-    ensures { GivesAnswerAt result (dead_links_answer limit input.now) }
+    ensures { GivesAnswer result (dead_links_answer limit input.now) }
 {
     let made = text_of_settings(alloc, 0, 1, limit, input)?;
     Ok(dead_links_text(alloc, &made.dead_links)?)
@@ -183,7 +183,7 @@ fn dead_links_of(alloc: Global, limit: u32, input: &[u8]) -> Result<String, Faul
 /// span of its `a`. Input, limit and refusals are those of [`typst_html_document`], buffers and
 /// replies those of [`typst_html_write`].
 pub fn typst_html_dead_links(alloc: Global, limit: u32, input: &[u8], output: &mut [u8]) -> Reply
-    ensures answered { RepliesAt (dead_links_answer limit input.now) output.old result output.new }
+    ensures answered { Replies (dead_links_answer limit input.now) output.old result output.new }
     ensures kept { ¬ (result.status ≡ 0) → output.new ≡ output.old }
 {
     reply_with(dead_links_of(alloc, limit, input), output)
@@ -192,7 +192,7 @@ pub fn typst_html_dead_links(alloc: Global, limit: u32, input: &[u8], output: &m
 /// Returns the names of the members whose information the text of the document does not show, as
 /// JSON. Fails with bad input if the limit is invalid.
 fn unused_of(alloc: Global, limit: u32, input: &[u8]) -> Result<String, Fault>
-    ensures { GivesAnswerAt result (unused_call_answer limit input.now) }
+    ensures { GivesAnswer result (unused_call_answer limit input.now) }
 {
     match limit_of(limit) {
         Some(limit) => unused_of_document(alloc, input, limit),
@@ -213,7 +213,7 @@ fn unused_of(alloc: Global, limit: u32, input: &[u8]) -> Result<String, Fault>
 /// `region`, `head`. Input and limit are those of [`typst_html_document`], which refuses whatever
 /// is refused here; buffers and replies are those of [`typst_html_write`].
 pub fn typst_html_unused(alloc: Global, limit: u32, input: &[u8], output: &mut [u8]) -> Reply
-    ensures answered { RepliesAt (unused_call_answer limit input.now) output.old result output.new }
+    ensures answered { Replies (unused_call_answer limit input.now) output.old result output.new }
     ensures kept { ¬ (result.status ≡ 0) → output.new ≡ output.old }
 {
     reply_with(unused_of(alloc, limit, input), output)

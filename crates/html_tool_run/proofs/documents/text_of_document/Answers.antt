@@ -3,6 +3,7 @@ use Rattle.html_tool_run.proofs.Answering.{json_said, no_json_said}
 use Rattle.html_tool_run.specs.Answers.{answer_to}
 use Rattle.html_tool_run.specs.DocumentAnswers.{document_answer, document_input_answer, input_dead_links, text_given}
 use Rattle.html_tool_spell.specs.Json.{json_of}
+use Rattle.html_tool_spell.specs.JsonPlaces.{input_place}
 use Rattle.html_tool_spell.specs.SpelledDocuments.{spelled_document}
 use Rattle.serde_json.specs.View.{view}
 use Rattle.html_tool_run.proofs.documents.text_of_document.Goals as goal
@@ -13,13 +14,13 @@ returns-in_err-value-clause-text c =
     let failed = err_from_is_err_and c.from_residual.result c.from_residual.ensures.1 in
     rw (failed.1, failed.2)
     (no_json_said (λ d. answer_to (document_answer c.args.settings.now) (spelled_document d))
-    (json_of c.args.input.now) c.in_err-value.field-0.0 c.in_err-value.ensures)
+    (json_of c.args.input.now) (input_place c.args.input.now) c.in_err-value.field-0.0 c.in_err-value.ensures)
 
 pub returns-clause-text : goal.returns-clause-text
 unfolding document_input_answer
 returns-clause-text c =
     json_said (λ d. answer_to (document_answer c.args.settings.now) (spelled_document d))
-    (json_of c.args.input.now) (view c.in_ok-value.value) (text_given c.spelled_text.result)
+    (json_of c.args.input.now) (input_place c.args.input.now) (view c.in_ok-value.value) (text_given c.spelled_text.result)
     c.in_ok-value.ensures c.spelled_text.ensures.text
 
 pub returns-clause-dead : goal.returns-clause-dead

@@ -3,6 +3,7 @@ use Rattle.html_tool_run.proofs.Answering.{json_said, no_json_said}
 use Rattle.html_tool_run.specs.Answers.{answer_to}
 use Rattle.html_tool_run.specs.FragmentAnswers.{fragment_answer, fragment_input_answer}
 use Rattle.html_tool_spell.specs.Json.{json_of}
+use Rattle.html_tool_spell.specs.JsonPlaces.{input_place}
 use Rattle.html_tool_spell.specs.SpelledItems.{spelled_document_items}
 use Rattle.serde_json.specs.View.{view}
 use Rattle.html_tool_run.proofs.fragment.text_of_fragment.Goals as goal
@@ -14,12 +15,12 @@ returns-in_err-value c =
     rw (failed.1, failed.2)
     (no_json_said
     (λ d. answer_to (fragment_answer c.args.level c.args.limit) (spelled_document_items d))
-    (json_of c.args.input.now) c.in_err-value.field-0.0 c.in_err-value.ensures)
+    (json_of c.args.input.now) (input_place c.args.input.now) c.in_err-value.field-0.0 c.in_err-value.ensures)
 
 pub returns : goal.returns
 unfolding fragment_input_answer
 returns c =
     json_said
     (λ d. answer_to (fragment_answer c.args.level c.args.limit) (spelled_document_items d))
-    (json_of c.args.input.now) (view c.in_ok-value.value) c.spelled_text.result
+    (json_of c.args.input.now) (input_place c.args.input.now) (view c.in_ok-value.value) c.spelled_text.result
     c.in_ok-value.ensures c.spelled_text.ensures
