@@ -293,7 +293,8 @@ root_mode false lang kids inside = refl
 head_mode : (pretty : Bool) (more : NodesView) →
     (pretty && is_pretty_inside (plain_made (codes "head") []) (node (styled_node charset_node) more))
     ≡ pretty
-unfolding styled_node is_pretty_inside allows_pretty_inside wants_pretty_around is_mathml is_token is_metadata_content default_display stands_in
+unfolding styled_node is_pretty_inside allows_pretty_inside wants_pretty_around is_mathml is_token
+    is_metadata_content default_display stands_in
 head_mode true more = refl
 head_mode false more = refl
 
