@@ -13,7 +13,7 @@
 //!
 //! - `dead-fragment`: the `href` of an `a` or an `area` has a fragment that leads to no place of a
 //!   page that was read, this one or another (HTML Standard 7.4.6.3, with ids, names of `a`,
-//!   percent-encoding and `top`).
+//!   percent-encoding and `top`; URL Fragment Text Directives).
 //! - `missing-file`: the target of such an `href` does not exist, or that of the `href` of a
 //!   `link`, the `src` of an `img`, `script`, `iframe`, `embed`, `source`, `track`, `audio` or
 //!   `video`, or the `data` of an `object`. A folder stands for its `index.html` or `index.htm`.
