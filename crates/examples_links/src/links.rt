@@ -2,7 +2,7 @@
 
 use examples_links_files::{cleaned, is_external, scheme_of};
 use std::alloc::{AllocError, Global};
-use typst_html::{HtmlElement, HtmlNode, Place, Places, attr};
+use typst_html::{HtmlElement, HtmlNode, Place, Places, attr, base_of};
 
 /// A link within the site.
 #[derive(Drop)]
@@ -33,7 +33,7 @@ impl<'a> Links<'a> {
             alloc,
             places: Places::new(text),
             found: Vec::new(alloc),
-            base: None,
+            base: base_address(alloc, root)?,
         };
         add_element(root, false, &mut links)?;
         Ok(links)
@@ -45,43 +45,37 @@ impl<'a> Links<'a> {
             return Ok(());
         };
         let address = cleaned(self.alloc, address.as_str())?;
-        let name = element.tag.resolve();
-        if name == "base" {
-            self.set_base(address);
-        } else if !is_external(address.as_str()) {
+        if !is_external(address.as_str()) {
             self.found.push(Link {
                 place: self.places.at(element.span.0 as usize),
                 address,
-                is_followed: matches!(name, "a" | "area"),
+                is_followed: matches!(element.tag.resolve(), "a" | "area"),
             })?;
         }
         Ok(())
     }
-
-    /// Sets the base, unless an earlier one is set. If no link can lead from it, links are resolved
-    /// against the page (HTML Standard 4.2.3).
-    fn set_base(&mut self, address: String) {
-        if self.base.is_some() {
-            return;
-        }
-        let leads = match scheme_of(address.as_str()) {
-            Some(scheme) => {
-                !scheme.eq_ignore_ascii_case("data") && !scheme.eq_ignore_ascii_case("javascript")
-            }
-            None => true,
-        };
-        self.base = Some(if leads {
-            address
-        } else {
-            String::new(self.alloc)
-        });
-    }
 }
 
-/// Returns the address in an element that is a link or a base.
+/// Returns the base of a page's links, unless no link can lead from it: then they are resolved
+/// against the page (HTML Standard 4.2.3).
+fn base_address(alloc: Global, root: &HtmlElement) -> Result<Option<String>, AllocError> {
+    let Some(href) = base_of(root) else {
+        return Ok(None);
+    };
+    let address = cleaned(alloc, href.as_str())?;
+    let leads = match scheme_of(address.as_str()) {
+        Some(scheme) => {
+            !scheme.eq_ignore_ascii_case("data") && !scheme.eq_ignore_ascii_case("javascript")
+        }
+        None => true,
+    };
+    Ok(if leads { Some(address) } else { None })
+}
+
+/// Returns the address in an element that is a link.
 fn address_of(element: &HtmlElement) -> Option<&String> {
     match element.tag.resolve() {
-        "a" | "area" | "base" | "link" => element.attrs.get(&attr::href),
+        "a" | "area" | "link" => element.attrs.get(&attr::href),
         "img" | "script" | "iframe" | "embed" | "source" | "track" | "audio" | "video" => {
             element.attrs.get(&attr::src)
         }

@@ -29,9 +29,9 @@ pub use html_dom_document::{
 pub use html_dom_findings::{DeadFragment, RepeatedId, dead_fragments, element_at, repeated_ids};
 pub use html_dom_flat::{FlatElement, FlatNode, FlatTree};
 pub use html_dom_link::{
-    DeadLink, create_link_anchors, dead_links, decoded_fragment, fragment_in, fragment_leads,
-    href_is_script, href_to, ids_are_distinct, place_in, place_names, resolve_links,
-    with_resolved_links,
+    DeadLink, base_of, create_link_anchors, dead_links, decoded_fragment, fragment_in,
+    fragment_leads, href_is_script, href_to, ids_are_distinct, place_in, place_names,
+    resolve_links, with_resolved_links,
 };
 pub use html_dom_nest::{Misnested, Misnesting, misnested};
 pub use html_dom_tree::{

@@ -9,20 +9,24 @@ use Rattle.html_dom_tree.specs.Tree.{Head, element_node, none, node, ElementView
 use Rattle.html_dom_document.specs.Documents.{DocumentView, document_root}
 use Rattle.html_dom_document.specs.Views.{document_view}
 use Rattle.html_dom_document.specs.declared.document.HtmlDocument.{HtmlDocument}
-use Rattle.html_dom_link.specs.Answered.{shown_names}
 use Rattle.html_dom_link.specs.Distinct.{are_distinct, occurrences}
-use Rattle.html_dom_link.specs.GivenLinks.{AnchorsAreTexts, KnownAnchorsAreShown, LeadsTo}
+use Rattle.html_dom_link.specs.GivenLinks.{AnchorsAreTexts, KnownAnchorsArePlaces, LeadsTo}
+use Rattle.html_dom_link.specs.Bases.{base_is_elsewhere}
+use Rattle.html_dom_link.specs.InDocument.{document_places, in_document}
 use Rattle.html_dom_link.specs.Indicated.{element_places, indicated_name, leads, leads_to_top, place_names, url_fragment}
 use Rattle.html_dom_link.specs.Links.{Hrefs, attrs_with_href, document_hrefs, head_with_link, href_of, is_open, root_with_links}
 use Rattle.html_dom_link.specs.NewNames.{Name, all_ids, element_names, nodes_names, with_used_name, gathered_names}
+use Rattle.html_dom_link.proofs.KeptBases.{base_stays_elsewhere}
 use Rattle.html_dom_link.proofs.ChangedRoots.{root_has_links}
 use Rattle.html_dom_link.proofs.Counting.{shown_count}
 use Rattle.html_dom_link.proofs.Differing.{are_new, at_most_one, distinct_once, new_distinct, once_distinct}
-use Rattle.html_dom_link.proofs.GivenLinks.{location_leads, no_href, shown_is_place, texts_in}
+use Rattle.html_dom_link.proofs.GivenLinks.{location_leads, no_href, texts_in}
+use Rattle.html_dom_link.proofs.InDocument.{document_links, document_occurs, place_in_tree}
 use Rattle.html_dom_link.proofs.LeadingLinks.{id_stays, names_stay}
+use Rattle.html_dom_link.proofs.Narrowed.{leads_within}
 use Rattle.html_dom_findings.specs.CheckLaws.{DistinctAreNotRepeated, HrefsLead, LinksAddNoDeadFragment, LinksRepeatNoId, LinksStaySound, ResolvedStaySound, texts_of}
 use Rattle.html_dom_findings.specs.Fragments.{dead_among, dead_fragments, fragment_links, fragments}
-use Rattle.html_dom_findings.specs.PlacedTexts.{Placed, head_texts, placed_at}
+use Rattle.html_dom_findings.specs.PlacedTexts.{Placed, element_placed, head_texts, placed_at}
 use Rattle.html_dom_findings.specs.RepeatedIds.{ids, placed_ids, repeated, repeated_ids, tree_ids}
 use Rattle.html_dom_findings.proofs.TreeTexts.{placed_ids_are_ids, tree_stays}
 
@@ -56,18 +60,31 @@ ids_differ e distinct = once_distinct (tree_ids e) (λ n.
       at_most_one (stands_in (element_names e) n),
     ))
 
+-- and so do those of the document
+fewer_differ : (e : ElementView) → are_distinct (tree_ids e) ≡ true →
+    are_distinct (tree_ids (in_document e)) ≡ true
+fewer_differ e distinct = once_distinct (tree_ids (in_document e)) (λ n.
+    omega (
+      arith,
+      document_occurs e n,
+      distinct_once (tree_ids e) n distinct,
+      at_most_one (stands_in (tree_ids e) n),
+    ))
+
 pub distinct_are_not_repeated : DistinctAreNotRepeated
 distinct_are_not_repeated e distinct =
     none_repeated (stands_in []) (placed_ids e)
     (ap (are_new (stands_in [])) (placed_ids_are_ids e)
-    ∙ (new_distinct (tree_ids e) ∙ ids_differ e distinct))
+    ∙ (new_distinct (tree_ids (in_document e)) ∙ fewer_differ e (ids_differ e distinct)))
 
 -- the `href` of a link is no `id`
 pub links_repeat_no_id : LinksRepeatNoId
 links_repeat_no_id hrefs e =
     ap (repeated (stands_in []))
-    (tree_stays ids hrefs (λ ps. ps) (λ ps qs. refl)
-    (λ path dest h. ap (λ id. placed_at path (option_to_list id)) (id_stays hrefs dest h)) e)
+    (ap (element_placed ids) (document_links hrefs e)
+    ∙ tree_stays ids hrefs (λ ps. ps) (λ ps qs. refl)
+    (λ path dest h. ap (λ id. placed_at path (option_to_list id)) (id_stays hrefs dest h))
+    (in_document e))
 
 module _ (hrefs : Hrefs) (is_place : Name → Bool)
     (lead : (location : ℕ) (href : List ℕ) → hrefs location ≡ Some href →
@@ -116,29 +133,38 @@ module _ (hrefs : Hrefs) (is_place : Name → Bool)
 
   pub dead_stay : (e : ElementView) → dead_among is_place (fragment_links (root_with_links hrefs e))
       ≡ dead_among is_place (fragment_links e)
-  dead_stay =
+  dead_stay e =
       let made = dead_among is_place in
-      tree_stays fragments hrefs made (filter-append (λ (link : Placed). not (leads is_place link.1)))
-      head_stays
+      ap (λ d. made (element_placed fragments d)) (document_links hrefs e)
+      ∙ tree_stays fragments hrefs made (filter-append (λ (link : Placed). not (leads is_place link.1)))
+      head_stays (in_document e)
 
 places_stay : (hrefs : Hrefs) (e : ElementView) →
-    element_places (root_with_links hrefs e) ≡ element_places e
+    document_places (root_with_links hrefs e) ≡ document_places e
 places_stay hrefs e =
-    ap (λ names. place_names e.0.name e.0.attrs ++ names) (names_stay hrefs [] e.1).places
+    ap element_places (document_links hrefs e)
+    ∙ ap (λ names. place_names e.0.name e.0.attrs ++ names) (names_stay hrefs [] (in_document e).1).places
 
 pub links_add_no_dead_fragment : LinksAddNoDeadFragment
 links_add_no_dead_fragment hrefs e lead =
-    ap (λ names. dead_among (stands_in names) (fragment_links (root_with_links hrefs e)))
+    let made = dead_among (stands_in (document_places (root_with_links hrefs e)))
+    (fragment_links (root_with_links hrefs e)) in
+    ap (λ (base : Bool). if base then [] else made) (base_stays_elsewhere hrefs e)
+    ∙ ap (λ dead. if base_is_elsewhere e then [] else dead)
+    (ap (λ names. dead_among (stands_in names) (fragment_links (root_with_links hrefs e)))
     (places_stay hrefs e)
-    ∙ dead_stay hrefs (stands_in (element_places e)) lead e
+    ∙ dead_stay hrefs (stands_in (document_places e)) lead e)
 
-hrefs_lead : (d : DocumentView) → AnchorsAreTexts d.introspector.anchor → KnownAnchorsAreShown d →
+hrefs_lead : (d : DocumentView) → AnchorsAreTexts d.introspector.anchor → KnownAnchorsArePlaces d →
     HrefsLead (document_hrefs d) (document_root d)
-hrefs_lead d texts shown location href is =
+hrefs_lead d texts known location href is =
     let root = document_root d in
-    let leading = location_leads d.introspector.anchor (element_places root) (shown_names root.1)
-    texts shown (shown_is_place root) location href is in
-    (leading.name, leading.leads)
+    let leading = location_leads d.introspector.anchor (element_places root) (document_places root)
+    texts known (place_in_tree root) location href is in (
+      leading.name,
+      leads_within (stands_in (document_places root)) (stands_in (element_places root))
+          (place_in_tree root) leading.name leading.stands href leading.leads,
+    )
 
 pub resolved_stay_sound : ResolvedStaySound
 resolved_stay_sound d texts =
@@ -146,8 +172,8 @@ resolved_stay_sound d texts =
     let root = document_root d in
     let same = ap repeated_ids (root_has_links d) ∙ links_repeat_no_id hrefs root in
     record {
-      dead = λ shown. ap dead_fragments (root_has_links d)
-          ∙ links_add_no_dead_fragment hrefs root (hrefs_lead d texts shown);
+      dead = λ known. ap dead_fragments (root_has_links d)
+          ∙ links_add_no_dead_fragment hrefs root (hrefs_lead d texts known);
       repeated = same;
       distinct = λ distinct. same ∙ distinct_are_not_repeated root distinct;
     }

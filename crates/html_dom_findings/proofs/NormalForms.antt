@@ -1,17 +1,21 @@
 -- What is found in a tree without frames is found in its normal form.
-use Rattle.std.proofs.Common.{◌≡◌, ℕ, Bool, true, false, not, cond, List, [], ◌∷◌, ◌++◌, refl, ap, sym, ◌∙◌}
+use Rattle.std.proofs.Common.{◌≡◌, ℕ, Bool, true, false, not, cond, List, [], ◌∷◌, ◌++◌, Option, None, refl, ap, sym, ◌∙◌}
 use Rattle.std.specs.List.{filter}
 use Rattle.std.specs.Prelude.{if◌then◌else◌}
 use Rattle.html_names.specs.Names.{stands_in}
+use Rattle.html_dom_tree.specs.Attributes.{or_else}
 use Rattle.html_dom_tree.specs.FrameFree.{NodeIsFrameFree, NodesAreFrameFree, ElementIsFrameFree}
 use Rattle.html_dom_tree.specs.PlainTree.{Plain, words, branch, Plains, no_plains, plain, put_words, nodes_normal, element_normal}
 use Rattle.html_dom_tree.specs.Tree.{tag_node, text_node, element_node, frame_node, NodesView, none, node, ElementView}
+use Rattle.html_dom_link.specs.Bases.{base_of, base_is_elsewhere, leads_away, node_base, nodes_base, own_base}
+use Rattle.html_dom_link.specs.InDocument.{document_places, in_document, kept, keeps, node_part, nodes_part}
 use Rattle.html_dom_link.specs.Indicated.{element_places, leads, nodes_places, place_names}
 use Rattle.html_dom_link.specs.NewNames.{Name, frame_names, with_used_name, gathered_names}
 use Rattle.html_dom_findings.specs.CheckLaws.{NormalFormsAgree, texts_of}
 use Rattle.html_dom_findings.specs.Fragments.{dead_among, dead_fragments, fragment_links, fragments}
 use Rattle.html_dom_findings.specs.PlacedTexts.{Placed, TextKind}
 use Rattle.html_dom_findings.specs.RepeatedIds.{ids, placed_ids, repeated}
+use Rattle.html_dom_findings.proofs.FindingPlaces.{document_frame_free}
 use Rattle.html_dom_findings.proofs.TreeTexts.{element_texts, gathered, nodes_texts}
 
 module _ (kind : TextKind) where
@@ -98,21 +102,138 @@ again_are_repeated is_passed (p ∷ ps) =
     by true so = ap (λ l. p.1 ∷ l) so
     by false so = so
 
-dead_texts : (e : ElementView) → texts_of (dead_fragments e)
-    ≡ lost (stands_in (element_texts places e)) (element_texts fragments e)
-dead_texts e =
-    lost_are_dead (stands_in (element_places e)) (fragment_links e)
-    ∙ rw (places_stand, gathered) refl
+-- the normal form of the part in the document is that part of the normal form
+
+abbrev kept_plains : Bool → Plains → Plains
+kept_plains true ps = ps
+kept_plains false ps = no_plains
+
+abbrev plains_part : Plains → Plains
+plains_part no_plains = no_plains
+plains_part (plain (words text) ps) = plain (words text) (plains_part ps)
+plains_part (plain (branch name attrs kids) ps) =
+    plain (branch name attrs (kept_plains (keeps false name) (plains_part kids))) (plains_part ps)
+
+abbrev plain_part : Plain → Plain
+plain_part (words text) = words text
+plain_part (branch name attrs kids) =
+    branch name attrs (kept_plains (keeps false name) (plains_part kids))
+
+part_words : (s : List ℕ) (ps : Plains) → plains_part (put_words s ps) ≡ put_words s (plains_part ps)
+part_words [] ps = refl
+part_words (c ∷ cs) no_plains = refl
+part_words (c ∷ cs) (plain (words text) ps) = refl
+part_words (c ∷ cs) (plain (branch name attrs kids) ps) = refl
+
+kept_normal : (b : Bool) (ns : NodesView) (ps : Plains) → nodes_normal ns ≡ ps →
+    nodes_normal (kept b ns) ≡ kept_plains b ps
+unfolding nodes_normal
+kept_normal true ns ps is = is
+kept_normal false ns ps is = refl
+
+part_normal : (ns : NodesView) → nodes_normal (nodes_part false ns) ≡ plains_part (nodes_normal ns)
+unfolding nodes_normal nodes_part node_part
+part_normal none = refl
+part_normal (node (tag_node t) ns) = part_normal ns
+part_normal (node (text_node s span) ns) =
+    ap (put_words s) (part_normal ns) ∙ sym (part_words s (nodes_normal ns))
+part_normal (node (element_node h kids) ns) =
+    rw (
+      kept_normal (keeps false h.name) (nodes_part false kids) _ (part_normal kids),
+      part_normal ns,
+    ) refl
+part_normal (node (frame_node f) ns) = part_normal ns
+
+document_normal : (e : ElementView) → element_normal (in_document e) ≡ plain_part (element_normal e)
+document_normal e =
+    ap (branch e.0.name e.0.attrs)
+    (kept_normal (keeps false e.0.name) (nodes_part false e.1) (plains_part (nodes_normal e.1))
+    (part_normal e.1))
+
+same_parts : (e f : ElementView) → element_normal e ≡ element_normal f →
+    element_normal (in_document e) ≡ element_normal (in_document f)
+same_parts e f same = document_normal e ∙ (ap plain_part same ∙ sym (document_normal f))
+
+-- so is its base
+
+abbrev plains_base : Plains → Option (List ℕ)
+plains_base no_plains = None
+plains_base (plain (words text) ps) = plains_base ps
+plains_base (plain (branch name attrs kids) ps) = or_else
+    (or_else (own_base name attrs) (if keeps false name then plains_base kids else None))
+    (plains_base ps)
+
+abbrev plain_base : Plain → Option (List ℕ)
+plain_base (words text) = None
+plain_base (branch name attrs kids) =
+    or_else (own_base name attrs) (if keeps false name then plains_base kids else None)
+
+words_have_no_base : (s : List ℕ) (ps : Plains) → plains_base (put_words s ps) ≡ plains_base ps
+words_have_no_base [] ps = refl
+words_have_no_base (c ∷ cs) no_plains = refl
+words_have_no_base (c ∷ cs) (plain (words text) ps) = refl
+words_have_no_base (c ∷ cs) (plain (branch name attrs kids) ps) = refl
+
+normal_base : (ns : NodesView) → nodes_base ns ≡ plains_base (nodes_normal ns)
+unfolding nodes_normal nodes_base node_base
+normal_base none = refl
+normal_base (node (tag_node t) ns) = normal_base ns
+normal_base (node (text_node s span) ns) =
+    normal_base ns ∙ sym (words_have_no_base s (nodes_normal ns))
+normal_base (node (element_node h kids) ns) = rw (normal_base kids, normal_base ns) refl
+normal_base (node (frame_node f) ns) = normal_base ns
+
+base_in_normal : (e : ElementView) → base_of e ≡ plain_base (element_normal e)
+unfolding node_base
+base_in_normal e =
+    ap (λ base. or_else (own_base e.0.name e.0.attrs) (if keeps false e.0.name then base else None))
+    (normal_base e.1)
+
+same_base : (e f : ElementView) → element_normal e ≡ element_normal f →
+    base_is_elsewhere e ≡ base_is_elsewhere f
+same_base e f same =
+    ap leads_away (base_in_normal e ∙ (ap plain_base same ∙ sym (base_in_normal f)))
+
+-- the fragments that don't lead in a document, unless it has a base
+abbrev lost_in : (base : Bool) → ElementView → List Name
+lost_in base e = if base then []
+    else lost (stands_in (element_texts places e)) (element_texts fragments e)
+
+dead_texts : (e : ElementView) →
+    texts_of (dead_fragments e) ≡ lost_in (base_is_elsewhere e) (in_document e)
+dead_texts e = by (base_is_elsewhere e)
+  where
+    by : (b : Bool) → texts_of (if b then []
+        else dead_among (stands_in (document_places e)) (fragment_links e))
+        ≡ lost_in b (in_document e)
+    by true = refl
+    by false =
+        lost_are_dead (stands_in (document_places e)) (fragment_links e)
+        ∙ (ap (λ names. lost (stands_in names) (texts_of (fragment_links e)))
+        (places_stand (in_document e))
+        ∙ ap (lost (stands_in (element_texts places (in_document e))))
+        (gathered fragments (in_document e)))
 
 repeated_texts : (e : ElementView) →
-    texts_of (repeated (stands_in []) (placed_ids e)) ≡ again (stands_in []) (element_texts ids e)
-repeated_texts e = again_are_repeated (stands_in []) (placed_ids e) ∙ rw gathered refl
+    texts_of (repeated (stands_in []) (placed_ids e))
+    ≡ again (stands_in []) (element_texts ids (in_document e))
+repeated_texts e =
+    again_are_repeated (stands_in []) (placed_ids e)
+    ∙ ap (again (stands_in [])) (gathered ids (in_document e))
 
 pub normal_forms_agree : NormalFormsAgree
 normal_forms_agree e f e_free f_free same =
-    let as' : (kind : TextKind) → element_texts kind e ≡ element_texts kind f =
-    λ kind. same_texts kind e f e_free f_free same in
+    let as' : (kind : TextKind) → element_texts kind (in_document e)
+    ≡ element_texts kind (in_document f) =
+    λ kind. same_texts kind (in_document e) (in_document f) (document_frame_free e e_free)
+    (document_frame_free f f_free) (same_parts e f same) in
+    let lost_same = ap (λ names. lost (stands_in names) (element_texts fragments (in_document e)))
+    (as' places)
+    ∙ ap (lost (stands_in (element_texts places (in_document f)))) (as' fragments) in
     record {
-      dead = dead_texts e ∙ (rw (as' places, as' fragments) refl ∙ sym (dead_texts f));
-      repeated = repeated_texts e ∙ (rw (as' ids) refl ∙ sym (repeated_texts f));
+      dead = dead_texts e
+          ∙ (ap (λ base. lost_in base (in_document e)) (same_base e f same)
+          ∙ (ap (λ l. if base_is_elsewhere f then [] else l) lost_same ∙ sym (dead_texts f)));
+      repeated = repeated_texts e
+          ∙ (ap (again (stands_in [])) (as' ids) ∙ sym (repeated_texts f));
     }

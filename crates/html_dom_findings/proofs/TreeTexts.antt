@@ -1,9 +1,10 @@
 -- The texts of a tree, apart from their places, and where its links are given an `href`.
-use Rattle.std.proofs.Common.{◌≡◌, ℕ, suc, List, [], ◌∷◌, ◌++◌, Option, refl, ap, append_assoc}
+use Rattle.std.proofs.Common.{◌≡◌, ℕ, suc, List, [], ◌∷◌, ◌++◌, Option, refl, ap, sym, ◌∙◌, append_assoc}
 use Rattle.std.proofs.lemmas.List.{append-nil, map-append}
 use Rattle.html_dom_tree.specs.FrameFree.{NodeIsFrameFree, NodesAreFrameFree}
 use Rattle.html_dom_tree.specs.Tree.{Head, NodeView, tag_node, text_node, element_node, frame_node, NodesView, none, node, ElementView}
 use Rattle.html_dom_link.specs.Answered.{shown_names}
+use Rattle.html_dom_link.specs.InDocument.{in_document}
 use Rattle.html_dom_link.specs.Links.{Hrefs, dest_before, head_with_link, node_with_links, nodes_with_links, root_with_links}
 use Rattle.html_dom_link.specs.NewNames.{Name, gathered_names}
 use Rattle.html_dom_findings.specs.CheckLaws.{PlacedIdsAreIds, texts_of}
@@ -62,7 +63,10 @@ shown_are (node (frame_node f) ns) = rw (shown_are ns) refl
 
 pub placed_ids_are_ids : PlacedIdsAreIds
 unfolding gathered_names
-placed_ids_are_ids e = rw (gathered, shown_are, append-nil) refl
+placed_ids_are_ids e =
+    let d = in_document e in
+    gathered ids d
+    ∙ ap (λ names. head_texts ids d.0 ++ names) (shown_are d.1 ∙ sym (append-nil (shown_names d.1)))
 
 -- where no frame stands, only elements have texts
 pub without_frames : (kind : TextKind) (path : List ℕ) (i : ℕ) (ns : NodesView) → NodesAreFrameFree ns →

@@ -7,8 +7,8 @@ use Rattle.html_dom_tree.specs.PlainTree.{element_normal}
 use Rattle.html_dom_tree.specs.Tree.{ElementView}
 use Rattle.html_dom_document.specs.Documents.{DocumentView, document_root}
 use Rattle.html_dom_link.specs.Distinct.{IdsAreDistinct, are_distinct}
-use Rattle.html_dom_link.specs.GivenLinks.{AnchorsAreTexts, KnownAnchorsAreShown, LeadsTo}
-use Rattle.html_dom_link.specs.Indicated.{element_places}
+use Rattle.html_dom_link.specs.GivenLinks.{AnchorsAreTexts, KnownAnchorsArePlaces, LeadsTo}
+use Rattle.html_dom_link.specs.InDocument.{document_places, in_document}
 use Rattle.html_dom_link.specs.Links.{Hrefs, document_with_links, root_with_links}
 use Rattle.html_dom_link.specs.NewNames.{Name, element_names}
 use Rattle.html_dom_findings.specs.ElementPaths.{element_at}
@@ -21,27 +21,27 @@ use Rattle.html_dom_findings.specs.RepeatedIds.{ids, placed_ids, repeated_ids, t
 abbrev pub texts_of : List Placed → List Name
 texts_of = map (λ (p : Placed). p.1)
 
--- the ids that are found with their paths are the ids of the tree
+-- the ids that are found with their paths are the ids of the document
 abbrev pub PlacedIdsAreIds : Type 0
-PlacedIdsAreIds = (e : ElementView) → texts_of (placed_ids e) ≡ tree_ids e
+PlacedIdsAreIds = (e : ElementView) → texts_of (placed_ids e) ≡ tree_ids (in_document e)
 
 -- no id is repeated if all names of a tree differ
 abbrev pub DistinctAreNotRepeated : Type 0
 DistinctAreNotRepeated = (e : ElementView) → are_distinct (element_names e) ≡ true →
     repeated_ids e ≡ []
 
--- each `href` leads to a name in a tree
+-- each `href` leads to a name in the document
 abbrev pub HrefsLead : Hrefs → ElementView → Type 0
 HrefsLead hrefs e = (location : ℕ) (href : List ℕ) → hrefs location ≡ Some href →
-    (name : Name) × LeadsTo (stands_in (element_places e)) href name
+    (name : Name) × LeadsTo (stands_in (document_places e)) href name
 
 -- an element is at the path, and the text that is found is one of its texts
 abbrev pub StandsAt : TextKind → ElementView → Placed → Type 0
 StandsAt kind e p =
     (a : ElementView) × (element_at p.0 e ≡ Some a) × Contains (head_texts kind a.0) p.1
 
--- the path of each dead fragment leads to its `a`, and in a tree without frames that of each repeated id
--- to an element with that id
+-- the path of each dead fragment leads to its link, and in a tree without frames that of each
+-- repeated id to an element with that id
 pub record FindingsStand (e : ElementView) : Type 0 where
   pub dead : All (StandsAt fragments e) (dead_fragments e)
   pub repeated : ElementIsFrameFree e → All (StandsAt ids e) (repeated_ids e)
@@ -64,10 +64,9 @@ LinksRepeatNoId = (hrefs : Hrefs) (e : ElementView) →
     repeated_ids (root_with_links hrefs e) ≡ repeated_ids e
 
 -- once the links of a document are resolved, its dead fragments are those that it had, if the known
--- anchors stand in its tree; its repeated ids are those that it had, and there are none if all ids
--- differ
+-- anchors are places; its repeated ids are those that it had, and there are none if all ids differ
 pub record LinksStaySound (d : DocumentView) : Type 0 where
-  pub dead : KnownAnchorsAreShown d →
+  pub dead : KnownAnchorsArePlaces d →
       dead_fragments (document_root (document_with_links d)) ≡ dead_fragments (document_root d)
   pub repeated :
       repeated_ids (document_root (document_with_links d)) ≡ repeated_ids (document_root d)

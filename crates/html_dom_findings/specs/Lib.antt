@@ -1,6 +1,6 @@
 pub mod PlacedTexts
-pub mod Fragments
 pub mod Hyperlinks
+pub mod Fragments
 pub mod RepeatedIds
 pub mod ElementPaths
 pub mod Findings

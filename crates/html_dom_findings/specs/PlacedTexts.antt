@@ -3,6 +3,7 @@
 use Rattle.std.specs.Prelude.{ℕ, suc, List, [], ◌∷◌, ◌++◌, map}
 use Rattle.html_dom_tree.specs.Frames.{HtmlFrameView}
 use Rattle.html_dom_tree.specs.Tree.{TextPair, Head, NodeView, tag_node, text_node, element_node, frame_node, NodesView, none, node, ElementView}
+use Rattle.html_dom_link.specs.InDocument.{in_document}
 
 -- a path, and a text of the node at that path
 abbrev pub Placed : Type 0
@@ -40,3 +41,7 @@ unfoldable mutual
 -- the texts of a whole tree
 abbrev pub element_placed : TextKind → ElementView → List Placed
 element_placed kind e = node_placed kind [] (element_node e.0 e.1)
+
+-- those of its document: all but those in each `template`
+abbrev pub document_placed : TextKind → ElementView → List Placed
+document_placed kind e = element_placed kind (in_document e)

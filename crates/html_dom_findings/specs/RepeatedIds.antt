@@ -1,11 +1,12 @@
--- Ids that occur earlier in their tree (HTML Standard 3.2.6: an `id` is unique in its tree).
+-- Ids that occur earlier in their document (HTML Standard 3.2.6: an `id` is unique in its tree;
+-- 4.12.3: what a `template` contains is a tree of its own).
 use Rattle.std.specs.Prelude.{Bool, List, [], ◌∷◌, ◌++◌, codes, if◌then◌else◌, option_to_list}
 use Rattle.html_names.specs.Names.{stands_in}
 use Rattle.html_dom_tree.specs.Attributes.{first}
 use Rattle.html_dom_tree.specs.Tree.{element_node, node, none, ElementView}
 use Rattle.html_dom_link.specs.Answered.{shown_names}
 use Rattle.html_dom_link.specs.NewNames.{Name, frame_names, with_used_name}
-use Rattle.html_dom_findings.specs.PlacedTexts.{Placed, TextKind, element_placed}
+use Rattle.html_dom_findings.specs.PlacedTexts.{Placed, TextKind, document_placed}
 
 -- the first `id` of an element, and the id and the anchors of a frame
 abbrev pub ids : TextKind
@@ -14,9 +15,9 @@ ids = record {
   framed = frame_names;
 }
 
--- the ids of a tree with their paths
+-- the ids of a document with their paths
 abbrev pub placed_ids : ElementView → List Placed
-placed_ids = element_placed ids
+placed_ids = document_placed ids
 
 -- the first `id` of each element, the root among them, and the ids and anchors of frames
 abbrev pub tree_ids : ElementView → List Name

@@ -1,8 +1,9 @@
 -- The wanted texts of a tree. Those of its elements alone show where links between pages lead.
-use Rattle.std.specs.Prelude.{ℕ, Bool, ◌||◌, List, [], codes, bytes_eq, if◌then◌else◌, Option, Some, None, option_to_list}
+use Rattle.std.specs.Prelude.{ℕ, List, [], codes, if◌then◌else◌, Option, Some, None, option_to_list}
 use Rattle.html_dom_tree.specs.Attributes.{first}
 use Rattle.html_dom_link.specs.Indicated.{link_name, unless_empty}
 use Rattle.html_dom_findings.specs.Fragments.{fragments}
+use Rattle.html_dom_findings.specs.Hyperlinks.{may_link}
 use Rattle.html_dom_findings.specs.PlacedTexts.{TextKind, of_elements}
 use Rattle.html_dom_findings.specs.RepeatedIds.{ids}
 use Rattle.html_dom_findings.specs.declared.wanted.Wanted.{Wanted}
@@ -19,10 +20,6 @@ linked_ids = of_elements (λ name attrs. filled (first attrs (codes "id")))
 -- the first `name` of an `a`, unless it is empty: a place too (HTML Standard 7.4.6.3)
 abbrev pub linked_names : TextKind
 linked_names = of_elements (λ name attrs. filled (link_name name attrs))
-
--- whether an element of that name is a link if it has an `href` (HTML Standard 4.6.1)
-abbrev pub may_link : (name : List ℕ) → Bool
-may_link name = bytes_eq name (codes "a") || bytes_eq name (codes "area")
 
 -- the first `href` of a link
 abbrev pub hrefs : TextKind

@@ -10,7 +10,7 @@ ghost use Rattle.html_dom_findings.specs.PlacedTexts.{Placed};
 use crate::text_sink::TextSink;
 use crate::walk::report_texts;
 use crate::wanted::Wanted;
-use html_dom_link::{fragment_leads, place_names};
+use html_dom_link::{base_is_elsewhere, fragment_leads, place_names};
 use html_dom_tree::HtmlElement;
 use html_names::Refused;
 use std::alloc::{AllocError, Global};
@@ -28,9 +28,14 @@ pub struct DeadFragment {
 }
 
 /// Returns the links of a tree to fragments of their own page that lead nowhere, in document order,
-/// including the root. Such a link is an `a` whose first `href` has a fragment
+/// including the root. Such a link is an `a` or `area` whose first `href` has a fragment
 /// ([`fragment_in`](html_dom_link::fragment_in)) that leads neither to a place of the tree
-/// ([`place_names`]) nor to the top in a browser ([`fragment_leads`]).
+/// ([`place_names`]) nor to the top in a browser ([`fragment_leads`]). What a `template` contains
+/// is neither a link nor a place.
+///
+/// Returns none if a `base` leads links to fragments to another address: if the tree has one
+/// ([`base_of`](html_dom_link::base_of)) that is neither empty nor a fragment alone. To check such
+/// a page, resolve its links against its address.
 ///
 /// Takes time logarithmic in the number of places for each place and each link to a fragment, and
 /// time linear in its depth for each dead link. Holds a copy of the places' names besides the
@@ -66,6 +71,9 @@ pub fn report_dead_fragments<S: TextSink>(
     ensures { IfOk result (λ given.
         S.made_with given [] ≡ S.made_with sink (dead_fragments (element_view root.now))) }
 {
+    if base_is_elsewhere(root) {
+        return Ok(sink);
+    }
     let Ok(places) = place_names(alloc, root) else {
         return Err(Refused { back: sink });
     };

@@ -6,28 +6,28 @@ ghost use Rattle.html_dom_document.specs.Views.{document_view};
 
 use html_dom_document::HtmlDocument;
 
-/// The ids that are checked for repetition are those of the tree. If all names of a tree differ, as
-/// `ids_are_distinct` reports for a document's tree, none is repeated.
+/// The ids that are checked for repetition are those of the document. If all names of a tree differ,
+/// as `ids_are_distinct` reports for a document's tree, none is repeated.
 #[tactic(auto, using(crate::proofs::TreeTexts::placed_ids_are_ids, crate::proofs::LinkedChecks::distinct_are_not_repeated))]
 pub fn repeated()
     ensures ids { PlacedIdsAreIds }
     ensures distinct { DistinctAreNotRepeated }
 {}
 
-/// [`element_at`](crate::element_at) returns an `a` with the fragment for the path of each dead
+/// [`element_at`](crate::element_at) returns the link with the fragment for the path of each dead
 /// fragment. In a tree without frames, it returns an element with the id for the path of each
 /// repeated id.
 pub fn paths_lead_to_findings()
     ensures { AllFindingsStand }
 {}
 
-/// A tree in which no `a` has an `href` has no dead fragment.
+/// A tree in which no `a` or `area` has an `href` has no dead fragment.
 #[tactic(auto, using(crate::proofs::Hyperlinks::no_hyperlink_no_dead_fragment))]
 pub fn no_hyperlink_is_dead()
     ensures { NoHyperlinkNoDeadFragment }
 {}
 
-/// New `href`s, as `resolve_links` adds them, add no dead fragment if each leads to a name in the
+/// New `href`s, as `resolve_links` adds them, add no dead fragment if each leads to a place of the
 /// tree: the dead fragments of the new tree are exactly those of the old one, and so there are none
 /// if no link had an `href` before. The repeated ids stay the same in any case.
 #[tactic(auto, using(crate::proofs::LinkedChecks::links_add_no_dead_fragment, crate::proofs::LinkedChecks::links_repeat_no_id))]
@@ -43,8 +43,8 @@ pub fn resolved_links_lead()
 {}
 
 /// Resolving the links of a document adds no dead fragment if the anchors that its introspector
-/// knows stand in its tree, as they do in a document of `html_document`. The repeated ids stay the
-/// same in any case, and there are none if all ids of the document differ.
+/// knows are places, as those of `html_document` are unless they stand in a `template`. The
+/// repeated ids stay the same in any case, and there are none if all ids of the document differ.
 pub fn links_stay_sound(document: &HtmlDocument)
     ensures { LinksStaySound (document_view document.now) }
 {

@@ -30,7 +30,8 @@ pub struct RepeatedId {
 /// (3.2.6) requires each `id` to be unique in its tree; a link leads to the first.
 ///
 /// An id is the first `id` of an element, including the root, the `id` of a frame, or the name of a
-/// frame's anchor. Empty ones count too.
+/// frame's anchor. Empty ones count too. Those in a `template` don't, as its contents are a tree of
+/// their own (4.12.3).
 ///
 /// Takes time logarithmic in the number of ids for each id, and time linear in its depth for each
 /// repeated one. Holds a copy of the ids besides the result. Fails only if an allocation fails.

@@ -1,16 +1,18 @@
 //! The walk over a tree that finds its texts.
 
-ghost use Rattle.std.specs.Prelude.{◌≡◌, ◌++◌, [], ◌∷◌, ℕ, List, IfOk, OnOk, option_map, option_to_list};
+ghost use Rattle.std.specs.Prelude.{◌≡◌, ◌++◌, [], ◌∷◌, ℕ, List, IfOk, OnOk, false, option_map, option_to_list};
 ghost use Rattle.html_dom_tree.specs.FrameViews.{anchors_view, html_frame_view};
 ghost use Rattle.html_dom_tree.specs.Taking.{Takes};
 ghost use Rattle.html_dom_tree.specs.Tree.{element_node};
 ghost use Rattle.html_dom_tree.specs.Views.{element_view, node_view, nodes_view, text_view};
+ghost use Rattle.html_dom_link.specs.InDocument.{node_part, nodes_part};
 ghost use Rattle.html_dom_link.specs.NewNames.{anchor_names};
-ghost use Rattle.html_dom_findings.specs.PlacedTexts.{element_placed, head_texts, node_placed, nodes_placed, placed_at};
+ghost use Rattle.html_dom_findings.specs.PlacedTexts.{document_placed, head_texts, node_placed, nodes_placed, placed_at};
 ghost use Rattle.html_dom_findings.specs.WantedTexts.{kind_of};
 
 use crate::text_sink::TextSink;
 use crate::wanted::{Wanted, copy_of, own_text};
+use html_dom_link::keeps_children;
 use html_dom_tree::{HtmlElement, HtmlFrame, HtmlNode, Point};
 use html_names::Refused;
 use std::alloc::{AllocError, Global};
@@ -24,8 +26,9 @@ struct TextWalk<S> {
 }
 
 /// Reports the wanted texts of a tree, including the root's, to a sink in document order, and
-/// returns the sink. Fails only if an allocation or the sink fails, and then hands back the sink,
-/// which has taken the texts up to there.
+/// returns the sink. What a `template` contains is not in the document, and not looked at. Fails
+/// only if an allocation or the sink fails, and then hands back the sink, which has taken the texts
+/// up to there.
 pub fn report_texts<S: TextSink>(
     alloc: Global,
     root: &HtmlElement,
@@ -33,7 +36,7 @@ pub fn report_texts<S: TextSink>(
     sink: S,
 ) -> Result<S, Refused<S>>
     ensures { IfOk result (λ given. S.made_with given []
-        ≡ S.made_with sink (element_placed (kind_of wanted) (element_view root.now))) }
+        ≡ S.made_with sink (document_placed (kind_of wanted) (element_view root.now))) }
 {
     let mut walk = TextWalk {
         alloc,
@@ -137,15 +140,19 @@ fn pass_element<S: TextSink>(
     ensures path { OnOk result (walk.new.path.items ≡ walk.old.path.items) }
     ensures taken { let e = element_view element.now in
         OnOk result (Takes (S.made_with walk.old.sink) (S.made_with walk.new.sink)
-        (node_placed (kind_of wanted) walk.old.path.items (element_node e.0 e.1))) }
+        (node_placed (kind_of wanted) walk.old.path.items
+        (node_part false (element_node e.0 e.1)))) }
 {
     pass_own(element, wanted, walk)?;
+    if !keeps_children(element, false) {
+        return Ok(());
+    }
     pass_nodes(&element.children, wanted, walk)?;
     Ok(())
 }
 
 #[cycle(walk)]
-#[tactic(auto, unfolding(crate::specs::PlacedTexts::node_placed))]
+#[tactic(auto, unfolding(crate::specs::PlacedTexts::node_placed, html_dom_link::specs::InDocument::node_part))]
 fn pass_node<S: TextSink>(
     child: &HtmlNode,
     wanted: Wanted,
@@ -153,7 +160,8 @@ fn pass_node<S: TextSink>(
 ) -> Result<(), AllocError>
     ensures path { OnOk result (walk.new.path.items ≡ walk.old.path.items) }
     ensures taken { OnOk result (Takes (S.made_with walk.old.sink) (S.made_with walk.new.sink)
-        (node_placed (kind_of wanted) walk.old.path.items (node_view child.now))) }
+        (node_placed (kind_of wanted) walk.old.path.items
+        (node_part false (node_view child.now)))) }
 {
     match child {
         HtmlNode::Tag(_) | HtmlNode::Text(_, _) => Ok(()),
@@ -170,7 +178,8 @@ fn pass_nodes<S: TextSink>(
 ) -> Result<(), AllocError>
     ensures path { OnOk result (walk.new.path.items ≡ walk.old.path.items) }
     ensures taken { OnOk result (Takes (S.made_with walk.old.sink) (S.made_with walk.new.sink)
-        (nodes_placed (kind_of wanted) walk.old.path.items 0 (nodes_view nodes.now))) }
+        (nodes_placed (kind_of wanted) walk.old.path.items 0
+        (nodes_part false (nodes_view nodes.now)))) }
 {
     for (index, child) in nodes.iter().enumerate() {
         walk.path.push(index)?;

@@ -5,7 +5,8 @@ ghost use Rattle.html_dom_tree.specs.Views.{element_view, text_view};
 ghost use Rattle.html_dom_link.specs.Indicated.{unless_empty};
 ghost use Rattle.html_dom_findings.specs.Fragments.{fragments};
 ghost use Rattle.html_dom_findings.specs.PlacedTexts.{head_texts};
-ghost use Rattle.html_dom_findings.specs.WantedTexts.{filled, hrefs, kind_of, may_link};
+ghost use Rattle.html_dom_findings.specs.Hyperlinks.{may_link};
+ghost use Rattle.html_dom_findings.specs.WantedTexts.{filled, hrefs, kind_of};
 
 use html_dom_link::{first_id, fragment_in, link_name};
 use html_dom_tree::HtmlElement;
@@ -15,7 +16,7 @@ use std::alloc::{AllocError, Global};
 /// The texts to look for. If an element has several attributes of one name, the first counts.
 #[derive(Clone, Copy)]
 pub enum Wanted {
-    /// The fragments of their page to which `a` elements lead.
+    /// The fragments of their page to which `a` and `area` elements lead.
     Fragments,
     /// The ids of elements, and the ids and anchors of frames, including empty ones.
     Ids,
@@ -45,16 +46,13 @@ pub(crate) fn own_text(
     }
 }
 
-/// Returns the fragment to which an `a` leads, by its first `href`.
-#[tactic(auto, unfolding(html_names::specs::Tables::known_tags, html_names::specs::Tables::known_attrs))]
+/// Returns the fragment to which an `a` or `area` leads, by its first `href`.
+#[tactic(auto, unfolding(html_names::specs::Tables::known_attrs))]
 fn fragment(alloc: Global, element: &HtmlElement) -> Result<Option<String>, AllocError>
     ensures { IfOk result (λ fragment. option_to_list (option_map text_view fragment)
         ≡ head_texts fragments (element_view element.now).0) }
 {
-    if element.tag != tag::a {
-        return Ok(None);
-    }
-    match element.attrs.get(&attr::href) {
+    match link_href(element) {
         Some(href) => fragment_in(alloc, href.as_str()),
         None => Ok(None),
     }

@@ -8,11 +8,14 @@ pub mod DocumentNames
 pub mod Freshes
 pub mod Gathering
 pub mod GivenLinks
+pub mod InDocument
 pub mod InFrames
+pub mod KeptBases
 pub mod LeadingLinks
 pub mod Linking
 pub mod LocationMaps
 pub mod MovedRoots
+pub mod Narrowed
 pub mod Numbers
 pub mod PutPlaces
 pub mod Seeing

@@ -7,6 +7,7 @@ use Rattle.html_dom_tree.specs.Tree.{Head, NodeView, tag_node, text_node, elemen
 use Rattle.html_dom_document.specs.Documents.{DocumentView, document_root}
 use Rattle.html_dom_link.specs.Answered.{shown_names}
 use Rattle.html_dom_link.specs.DocumentNames.{AnchorsAreShown}
+use Rattle.html_dom_link.specs.InDocument.{document_places}
 use Rattle.html_dom_link.specs.Indicated.{element_places, fragments_in, indicated_name}
 use Rattle.html_dom_link.specs.Links.{Anchors, DeadLinkView, dest_before, document_with_links, is_open, nodes_dead_links}
 use Rattle.html_dom_link.specs.NewNames.{Name}
@@ -66,6 +67,12 @@ pub record LeadsAmong (anchor : Anchors) (places ids : List Name) (link : GivenL
 -- each anchor that the introspector knows stands in the tree
 abbrev pub KnownAnchorsAreShown : DocumentView → Type 0
 KnownAnchorsAreShown d = AnchorsAreShown d.introspector.anchor d
+
+-- each anchor that the introspector knows is the name of a place, and so in no `template`
+abbrev pub KnownAnchorsArePlaces : DocumentView → Type 0
+KnownAnchorsArePlaces d =
+    (location : ℕ) (name : Name) → d.introspector.anchor location ≡ Some name →
+    stands_in (document_places (document_root d)) name ≡ true
 
 abbrev pub AnchorsAreTexts : Anchors → Type 0
 AnchorsAreTexts anchor =

@@ -25,4 +25,6 @@ pub mod Spellings
 pub mod Undone
 pub mod UsedNames
 pub mod AnchorWalk
+pub mod Bases
+pub mod InDocument
 pub mod WalkViews

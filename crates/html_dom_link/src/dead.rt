@@ -10,7 +10,7 @@ ghost use Rattle.html_dom_link.specs.LinkTargets.{hrefs_view};
 ghost use Rattle.html_dom_link.specs.Links.{dead_link, document_dead_links, node_dead_links, nodes_dead_links};
 
 use crate::links::{LinkTargets, dest_past, open_dest};
-use crate::places::place_names;
+use crate::places::all_place_names;
 use html_dom_document::HtmlDocument;
 use html_dom_tree::{HtmlElement, HtmlNode, Location, Span};
 use std::alloc::{AllocError, Global};
@@ -51,7 +51,7 @@ pub fn dead_links(alloc: Global, document: &HtmlDocument) -> Result<Vec<DeadLink
     ensures leads { IfOk result (λ links.
         links.items ≡ [] → EveryLinkLeads (document_view document.now)) }
 {
-    let places = place_names(alloc, document.root())?;
+    let places = all_place_names(alloc, document.root())?;
     let targets = LinkTargets {
         known: document.introspector(),
         places: &places,

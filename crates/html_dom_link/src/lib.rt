@@ -2,6 +2,7 @@
 #![tactic(auto)]
 
 mod anchors;
+mod bases;
 mod changes;
 mod dead;
 mod directives;
@@ -23,11 +24,12 @@ mod spellings;
 mod state;
 
 pub use anchors::{create_link_anchors, with_link_anchors};
+pub use bases::{base_is_elsewhere, base_of};
 pub use dead::{DeadLink, dead_links};
 pub use distinct::ids_are_distinct;
 pub use indicated::{decoded_fragment, fragment_in, fragment_leads, place_in};
 pub use links::{document_with_links, resolve_links, with_resolved_links};
 pub use names::{is_used, put_in_use};
-pub use places::{first_id, link_name, place_names};
+pub use places::{first_id, keeps_children, link_name, place_names};
 pub use scripts::href_is_script;
 pub use spellings::href_to;

@@ -9,7 +9,7 @@ ghost use Rattle.html_dom_link.specs.LinkTargets.{hrefs_view};
 ghost use Rattle.html_dom_link.specs.Links.{attrs_with_href, dest_before, href_of, is_open, name_of, node_with_links, nodes_with_links, open_dest};
 ghost use Rattle.html_dom_link.specs.MadeDocuments.{HasItsLinks};
 
-use crate::places::place_names;
+use crate::places::all_place_names;
 use crate::root_children::{put_children, take_children};
 use crate::spellings::leading_href;
 use html_dom_document::{HtmlDocument, HtmlIntrospector};
@@ -66,6 +66,9 @@ impl LinkTargets<'_> {
 /// `id` differ ([`ids_are_distinct`](crate::ids_are_distinct)), they still do, and exactly one of
 /// them is that name.
 ///
+/// Names in a `template` count here, but a browser finds none there; and a `base` that leads
+/// elsewhere ([`base_of`](crate::base_of)) counts for nothing here, but leads all these links away.
+///
 /// Takes time linear in the size of the tree, and for each place and each link logarithmic in the
 /// number of places.
 ///
@@ -106,7 +109,7 @@ pub fn document_with_links(
 ) -> Result<HtmlDocument, AllocError>
     ensures { IfOk result (λ made. HasItsLinks (document_view document) (document_view made)) }
 {
-    let places = place_names(alloc, document.root())?;
+    let places = all_place_names(alloc, document.root())?;
     let children = take_children(alloc, &mut document);
     let targets = LinkTargets {
         known: document.introspector(),

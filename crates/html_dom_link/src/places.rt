@@ -6,6 +6,7 @@ ghost use Rattle.html_names.specs.Texts.{text_view};
 ghost use Rattle.html_dom_tree.specs.FrameViews.{anchors_view, html_frame_view};
 ghost use Rattle.html_dom_tree.specs.Tree.{element_node, frame_node, node, none};
 ghost use Rattle.html_dom_tree.specs.Views.{element_view, node_view, nodes_view};
+ghost use Rattle.html_dom_link.specs.InDocument.{document_places, element_part, keeps, node_part, nodes_part};
 ghost use Rattle.html_dom_link.specs.Indicated.{element_places, link_name, nodes_places};
 ghost use Rattle.html_dom_link.specs.NewNames.{anchor_names, first_id};
 ghost use Rattle.html_dom_link.specs.UsedNames.{used_in, with_names};
@@ -18,14 +19,45 @@ use std::collections::BTreeSet;
 
 /// Returns the names of the places of a tree, to which fragments lead (HTML Standard 7.4.6.3): the
 /// first `id` of each element, including the root, the first `name` of each `a`, and the ids and
-/// anchors of frames. Takes logarithmic time for each. Fails only if an allocation fails.
+/// anchors of frames. What a `template` contains is not in the document (4.12.3), and no place.
+/// Takes logarithmic time for each. Fails only if an allocation fails.
 pub fn place_names(alloc: Global, root: &HtmlElement) -> Result<BTreeSet<String>, AllocError>
+    ensures { IfOk result (λ names.
+        used_in names ≡ stands_in (document_places (element_view root.now))) }
+{
+    names_in_part(alloc, root, false)
+}
+
+/// Returns the names that [`place_names`] returns, and those in each `template`.
+pub(crate) fn all_place_names(
+    alloc: Global,
+    root: &HtmlElement,
+) -> Result<BTreeSet<String>, AllocError>
     ensures { IfOk result (λ names.
         used_in names ≡ stands_in (element_places (element_view root.now))) }
 {
+    names_in_part(alloc, root, true)
+}
+
+fn names_in_part(
+    alloc: Global,
+    root: &HtmlElement,
+    is_whole: bool,
+) -> Result<BTreeSet<String>, AllocError>
+    ensures { IfOk result (λ names. used_in names
+        ≡ stands_in (element_places (element_part is_whole (element_view root.now)))) }
+{
     let mut names = BTreeSet::new(alloc);
-    add_element(root, &mut names)?;
+    add_element(root, is_whole, &mut names)?;
     Ok(names)
+}
+
+/// Returns whether the children of an element belong to the whole tree, or to its document.
+#[tactic(auto, unfolding(html_names::specs::Tables::known_tags))]
+pub fn keeps_children(element: &HtmlElement, is_whole: bool) -> bool
+    ensures { result ≡ keeps is_whole (element_view element.now).0.name }
+{
+    is_whole || element.tag != tag::template
 }
 
 /// Returns the first `id` of an element, which may be empty.
@@ -89,36 +121,52 @@ fn add_frame(frame: &HtmlFrame, names: &mut BTreeSet<String>) -> Result<(), Allo
 // The node comes first among the parameters: its depth proves that the recursion ends.
 
 #[cycle(places)]
-fn add_element(element: &HtmlElement, names: &mut BTreeSet<String>) -> Result<(), AllocError>
-    ensures { let e = element_view element.now in OnOk result (used_in names.new
-        ≡ with_names (nodes_places (node (element_node e.0 e.1) none)) (used_in names.old)) }
+fn add_element(
+    element: &HtmlElement,
+    is_whole: bool,
+    names: &mut BTreeSet<String>,
+) -> Result<(), AllocError>
+    ensures { let e = element_view element.now in OnOk result (used_in names.new ≡ with_names
+        (nodes_places (node (node_part is_whole (element_node e.0 e.1)) none)) (used_in names.old)) }
 {
     add_optional(first_id(element), names)?;
     add_optional(link_name(element), names)?;
-    add_nodes(&element.children, names)?;
+    if !keeps_children(element, is_whole) {
+        return Ok(());
+    }
+    add_nodes(&element.children, is_whole, names)?;
     Ok(())
 }
 
 #[cycle(places)]
-fn add_node(child: &HtmlNode, names: &mut BTreeSet<String>) -> Result<(), AllocError>
-    ensures { OnOk result (used_in names.new
-        ≡ with_names (nodes_places (node (node_view child.now) none)) (used_in names.old)) }
+#[tactic(auto, unfolding(crate::specs::InDocument::node_part))]
+fn add_node(
+    child: &HtmlNode,
+    is_whole: bool,
+    names: &mut BTreeSet<String>,
+) -> Result<(), AllocError>
+    ensures { OnOk result (used_in names.new ≡ with_names
+        (nodes_places (node (node_part is_whole (node_view child.now)) none)) (used_in names.old)) }
 {
     match child {
         HtmlNode::Tag(_) => Ok(()),
         HtmlNode::Text(_, _) => Ok(()),
-        HtmlNode::Element(element) => add_element(element, names),
+        HtmlNode::Element(element) => add_element(element, is_whole, names),
         HtmlNode::Frame(frame) => add_frame(frame, names),
     }
 }
 
 #[cycle(places)]
-fn add_nodes(nodes: &[HtmlNode], names: &mut BTreeSet<String>) -> Result<(), AllocError>
-    ensures { OnOk result (used_in names.new
-        ≡ with_names (nodes_places (nodes_view nodes.now)) (used_in names.old)) }
+fn add_nodes(
+    nodes: &[HtmlNode],
+    is_whole: bool,
+    names: &mut BTreeSet<String>,
+) -> Result<(), AllocError>
+    ensures { OnOk result (used_in names.new ≡ with_names
+        (nodes_places (nodes_part is_whole (nodes_view nodes.now))) (used_in names.old)) }
 {
     for child in nodes {
-        add_node(child, names)?;
+        add_node(child, is_whole, names)?;
     }
     Ok(())
 }

@@ -27,7 +27,8 @@ pub fn href_is_script(href: &str) -> bool
     begins("javascript:", url) || begins("data:", url) || begins("vbscript:", url)
 }
 
-fn past_blanks(text: &str) -> &str
+/// Returns the text behind leading controls and spaces.
+pub(crate) fn past_blanks(text: &str) -> &str
     ensures { chars result.now ≡ past_blanks (chars text.now) }
 {
     let mut left = text;

@@ -6,10 +6,10 @@ mod trees {
         DeadFragment, DeadLink, DocumentInfo, DomIndices, FlatElement, FlatNode, FlatTree, Frame,
         FrameItem, HtmlAttrs, HtmlDocument, HtmlElement, HtmlFrame, HtmlIntrospector, HtmlNode,
         HtmlOutput, HtmlPosition, HtmlSliceExt, Locale, Location, Misnested, Misnesting, Point,
-        RepeatedId, Span, Tag, create_link_anchors, dead_fragments, dead_links, decoded_fragment,
-        element_at, fragment_in, fragment_leads, href_is_script, href_to, ids_are_distinct, laws,
-        misnested, place_in, place_names, repeated_ids, resolve_inline_styles, resolve_links,
-        with_resolved_links,
+        RepeatedId, Span, Tag, base_of, create_link_anchors, dead_fragments, dead_links,
+        decoded_fragment, element_at, fragment_in, fragment_leads, href_is_script, href_to,
+        ids_are_distinct, laws, misnested, place_in, place_names, repeated_ids,
+        resolve_inline_styles, resolve_links, with_resolved_links,
     };
     use html_flow::{
         Arg, ArgValue, Args, Bareness, ConstructFault, ConversionLevel, ElementInfo, FlowFault,
@@ -74,13 +74,13 @@ mod all_values {
 /// Calls and modules of all layers, in typst_html.
 mod all_calls {
     use typst_html::{
-        attr, bare_spaces, charsets, civil, construct, convert_to_nodes, create_link_anchors,
-        dead_fragments, dead_links, decoded_fragment, element_at, export, export_linked,
-        export_with_head, fragment_in, fragment_leads, has_own_root, href_is_script, href_to, html,
-        html_block_fragment, html_document, html_document_for_bundle, html_document_with_head,
-        html_in_bundle, html_inline_fragment, html_math_fragment, ids_are_distinct, is_depth_limit,
-        laws, misnested, page_text, place_in, place_names, property, push_located, read_html,
-        read_page, read_page_bytes, repeated_ids, resolve_inline_styles, resolve_links, tag,
-        text_writer, with_resolved_links,
+        attr, bare_spaces, base_of, charsets, civil, construct, convert_to_nodes,
+        create_link_anchors, dead_fragments, dead_links, decoded_fragment, element_at, export,
+        export_linked, export_with_head, fragment_in, fragment_leads, has_own_root, href_is_script,
+        href_to, html, html_block_fragment, html_document, html_document_for_bundle,
+        html_document_with_head, html_in_bundle, html_inline_fragment, html_math_fragment,
+        ids_are_distinct, is_depth_limit, laws, misnested, page_text, place_in, place_names,
+        property, push_located, read_html, read_page, read_page_bytes, repeated_ids,
+        resolve_inline_styles, resolve_links, tag, text_writer, with_resolved_links,
     };
 }

@@ -48,6 +48,7 @@ pub use html_dom::Point;
 pub use html_dom::RepeatedId;
 pub use html_dom::Span;
 pub use html_dom::Tag;
+pub use html_dom::base_of;
 pub use html_dom::create_link_anchors;
 pub use html_dom::dead_fragments;
 pub use html_dom::dead_links;

@@ -3,7 +3,7 @@
 --     {"ids":[{"id":t,..},..],"names":[{"name":t,..},..],"links":[{"href":t,..},..]}
 use Rattle.std.specs.Prelude.{ℕ, List, codes}
 use Rattle.serde_json.specs.Data.{Data, object, member, no_members}
-use Rattle.html_dom_findings.specs.PlacedTexts.{TextKind, element_placed}
+use Rattle.html_dom_findings.specs.PlacedTexts.{TextKind, document_placed}
 use Rattle.html_dom_findings.specs.WantedTexts.{hrefs, linked_ids, linked_names}
 use Rattle.html_dom_tree.specs.Tree.{ElementView}
 use Rattle.typst_html_c.specs.FindingLists.{element_place, findings}
@@ -11,7 +11,7 @@ use Rattle.typst_html_c.specs.PageReports.{Report, report_by}
 
 -- the list of the texts of that kind in a page, in document order, each as the member of that name
 abbrev pub listed : (text : List ℕ) → ElementView → (name : List ℕ) → TextKind → Data
-listed text root name kind = findings (element_place text root) name (element_placed kind root)
+listed text root name kind = findings (element_place text root) name (document_placed kind root)
 
 -- the ids, the names and the links of a page with that text and that element
 abbrev pub page_links : (text : List ℕ) → ElementView → Data

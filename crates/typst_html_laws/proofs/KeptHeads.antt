@@ -7,7 +7,7 @@ use Rattle.html_dom_tree.proofs.Folds.{first-append}
 use Rattle.html_dom_tree.specs.Attributes.{first, has_name, or_else, with_value}
 use Rattle.html_dom_tree.specs.Styled.{attrs_with_style, head_with_style, styled_attrs}
 use Rattle.html_dom_tree.specs.Tree.{TextPair, Head}
-use Rattle.html_dom_findings.specs.Hyperlinks.{is_hyperlink, HeadIsNoHyperlink}
+use Rattle.html_dom_findings.specs.Hyperlinks.{is_hyperlink, HeadIsNoHyperlink, may_link}
 use Rattle.html_flow_convert.specs.Converted.{RoleText, passes_role, role_pairs, element_head}
 use Rattle.html_flow_convert.specs.Items.{ElemHead}
 
@@ -43,7 +43,7 @@ new_style (p ∷ ps) attrs = by (first attrs (codes "style"))
     by (Some value) = new_value attrs (codes "style") _ (codes "href")
 
 pub styled_head : (h : Head) → HeadIsNoHyperlink h → HeadIsNoHyperlink (head_with_style h)
-styled_head h e = ap (λ b. bytes_eq h.name (codes "a") && b) (new_style h.css h.attrs) ∙ e
+styled_head h e = ap (λ b. may_link h.name && b) (new_style h.css h.attrs) ∙ e
 
 pub head_with_role : (role : RoleText) (h : ElemHead) → is_hyperlink h.name h.attrs ≡ false →
     HeadIsNoHyperlink (element_head role h)
@@ -56,5 +56,5 @@ head_with_role role h e = by (passes_role h.name)
     by : (passes : Bool) →
         is_hyperlink h.name (if passes then h.attrs else h.attrs ++ role_pairs role) ≡ false
     by true = e
-    by false = ap (λ b. bytes_eq h.name (codes "a") && b)
+    by false = ap (λ b. may_link h.name && b)
         (more_behind h.attrs (role_pairs role) (codes "href") (no_href role)) ∙ e

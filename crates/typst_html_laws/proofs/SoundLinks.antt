@@ -7,19 +7,16 @@ use Rattle.html_dom_link.specs.GivenLinks.{AnchorsAreTexts}
 use Rattle.html_dom_link.proofs.GivenLinks.{texts_in}
 use Rattle.html_dom_findings.proofs.Hyperlinks.{no_hyperlink_no_dead_fragment}
 use Rattle.html_dom_findings.proofs.LinkedChecks.{distinct_are_not_repeated, resolved_stay_sound}
-use Rattle.typst_html_export.specs.Assembled.{assembled_document}
 use Rattle.typst_html_export.specs.Exported.{linked_root, resolved_root}
 use Rattle.typst_html_export.specs.Linked.{linked_document}
-use Rattle.typst_html_export.proofs.Anchors.{known_anchors_are_shown}
 use Rattle.typst_html_laws.specs.SoundLinks.{ExportedLinksAreSound, MadeLinksAreSound}
 use Rattle.typst_html_laws.proofs.MadeDocuments.{no_hyperlink_is_made}
 
 pub exported_links_are_sound : ExportedLinksAreSound
 exported_links_are_sound info items notes texts =
     let d : DocumentView = linked_document info items notes in
-    let shown = known_anchors_are_shown (assembled_document info items notes) in
     record {
-      dead = λ free more. (resolved_stay_sound d texts).dead shown
+      dead = λ free more known. (resolved_stay_sound d texts).dead known
           ∙ no_hyperlink_no_dead_fragment (linked_root info items notes)
           (no_hyperlink_is_made info items notes free more);
       repeated = distinct_are_not_repeated (resolved_root info items notes);

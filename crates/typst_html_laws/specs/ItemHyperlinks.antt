@@ -1,4 +1,4 @@
--- Items without hyperlinks: none is an `a` with an `href` (HTML Standard 4.6.1).
+-- Items without hyperlinks: none is an `a` or `area` with an `href` (HTML Standard 4.6.1).
 use Rattle.std.specs.Prelude.{◌≡◌, false}
 use Rattle.html_dom_findings.specs.Hyperlinks.{is_hyperlink}
 use Rattle.html_flow_convert.specs.Items.{ItemView, element_item, box_item, block_item, ItemsView, no_items, item, BodyView, absent, present}

@@ -2,7 +2,7 @@
 use Rattle.std.specs.Prelude.{◌≡◌, []}
 use Rattle.html_dom_document.specs.Documents.{InfoView, DocumentView}
 use Rattle.html_dom_link.specs.Distinct.{IdsAreDistinct}
-use Rattle.html_dom_link.specs.GivenLinks.{AnchorsAreTexts}
+use Rattle.html_dom_link.specs.GivenLinks.{AnchorsAreTexts, KnownAnchorsArePlaces}
 use Rattle.html_dom_findings.specs.Fragments.{dead_fragments}
 use Rattle.html_dom_findings.specs.Hyperlinks.{ElementHasNoHyperlink}
 use Rattle.html_dom_findings.specs.RepeatedIds.{repeated_ids}
@@ -16,10 +16,11 @@ abbrev pub NoHyperlinkIsMade : Type 0
 NoHyperlinkIsMade = (info : InfoView) (items notes : ItemsView) → ItemsHaveNoHyperlink items →
     ItemsHaveNoHyperlink notes → ElementHasNoHyperlink (linked_root info items notes)
 
--- once the links of their document are resolved, no fragment is dead, and no id is repeated if all
--- names of the tree differ
+-- once the links of their document are resolved, no fragment is dead if all its anchors are places,
+-- and no id is repeated if all names of the tree differ
 pub record LinksAreSound (info : InfoView) (items notes : ItemsView) : Type 0 where
   pub dead : ItemsHaveNoHyperlink items → ItemsHaveNoHyperlink notes →
+      KnownAnchorsArePlaces (linked_document info items notes) →
       dead_fragments (resolved_root info items notes) ≡ []
   pub repeated : IdsAreDistinct (resolved_document info items notes) →
       repeated_ids (resolved_root info items notes) ≡ []

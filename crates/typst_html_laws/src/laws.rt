@@ -6,17 +6,17 @@ ghost use Rattle.typst_html_laws.specs.SoundLinks.{ExportedLinksAreSound, MadeLi
 
 use html_dom_document::HtmlDocument;
 
-/// If no `a` among items and footnotes, at any depth, has an `href`, none in the tree of their
-/// document has one, with its styles and its anchors.
+/// If no `a` or `area` among items and footnotes, at any depth, has an `href`, none in the tree of
+/// their document has one, with its styles and its anchors.
 pub fn no_hyperlink_is_made()
     ensures { NoHyperlinkIsMade }
 {}
 
-/// If no `a` among items and footnotes has an `href`, the tree of their document, as
+/// If no `a` or `area` among items and footnotes has an `href`, the tree of their document, as
 /// `export_linked` writes it once links are resolved, has no dead fragment, provided that its
-/// anchors are texts (`texts` of `export_linked`): links that got no `href` lead to no fragment,
-/// and `dead_links` reports them. If all names of that document differ (`distinct` of
-/// `export_linked`), no id is repeated.
+/// anchors are texts (`texts` of `export_linked`) and places (none stands in a `template`): links
+/// that got no `href` lead to no fragment, and `dead_links` reports them. If all names of that
+/// document differ (`distinct` of `export_linked`), no id is repeated.
 pub fn exported_links_are_sound()
     ensures { ExportedLinksAreSound }
 {}

@@ -1,5 +1,7 @@
-use Rattle.std.proofs.Common.{◌≡◌, ◌++◌, ◌∷◌, [], ap, ◌∙◌, append_assoc, refl}
-use Rattle.html_dom_findings.specs.PlacedTexts.{node_placed}
+use Rattle.std.proofs.Common.{◌≡◌, ◌++◌, ◌∷◌, [], ap, sym, ◌∙◌, append_assoc, refl}
+use Rattle.std.proofs.lemmas.List.{append-nil}
+use Rattle.html_dom_link.specs.InDocument.{node_part}
+use Rattle.html_dom_findings.specs.PlacedTexts.{node_placed, nodes_placed}
 use Rattle.html_dom_findings.specs.WantedTexts.{kind_of}
 use Rattle.html_dom_tree.proofs.Taking.{all_left, all_taken, more_taken}
 use Rattle.html_dom_findings.proofs.Walks.{none_placed, placed_in_turn}
@@ -9,11 +11,17 @@ pub pass_element-returns-clause-path : goal.pass_element-returns-clause-path
 pass_element-returns-clause-path g t c =
     c.in_ok-pass_nodes.ensures.path ∙ c.in_ok-pass_own.ensures.path
 
+pub pass_element-returns-then-not-keeps_children-clause-taken : goal.pass_element-returns-then-not-keeps_children-clause-taken
+unfolding node_placed nodes_placed node_part
+pass_element-returns-then-not-keeps_children-clause-taken g t c rest =
+    rw (sym c.keeps_children.ensures ∙ c.if-not-keeps_children.true, append-nil)
+    (c.in_ok-pass_own.ensures.taken rest)
+
 pub pass_element-returns-clause-taken : goal.pass_element-returns-clause-taken
-unfolding node_placed
+unfolding node_placed node_part
 pass_element-returns-clause-taken g t c rest =
     let own = c.in_ok-pass_own.ensures in
-    rw append_assoc
+    rw (sym c.keeps_children.ensures ∙ c.if-not-keeps_children.false, append_assoc)
     ((rw (own.path, c.deref.ensures.value) at c.in_ok-pass_nodes.ensures.taken rest) ∙ own.taken _)
 
 pub pass_nodes-loop-index-init : goal.pass_nodes-loop-index-init

@@ -3,16 +3,17 @@ use Rattle.html_names.specs.Names.{stands_in}
 use Rattle.html_names.specs.Texts.{text_view}
 use Rattle.html_dom_tree.specs.Tree.{element_node, node, none}
 use Rattle.html_dom_tree.specs.Views.{element_view}
+use Rattle.html_dom_link.specs.InDocument.{node_part}
 use Rattle.html_dom_link.specs.Indicated.{nodes_places}
 use Rattle.html_dom_link.specs.UsedNames.{with_names}
 use Rattle.html_dom_link.proofs.Gathering.{with-all}
-use Rattle.html_dom_link.proofs.PutPlaces.{places_of_root}
-use Rattle.html_dom_link.proofs.places.place_names.Goals as goal
+use Rattle.html_dom_link.proofs.PutPlaces.{places_of_part}
+use Rattle.html_dom_link.proofs.places.names_in_part.Goals as goal
 
 pub returns : goal.returns
 returns c =
     let e = element_view c.args.root.now in
-    let names = nodes_places (node (element_node e.0 e.1) none) in
+    let names = nodes_places (node (node_part c.args.is_whole (element_node e.0 e.1)) none) in
     c.in_ok-add_element.ensures
     ∙ (ap (λ keys. with_names names (stands_in (map text_view keys))) c.new-names.ensures.empty
-    ∙ (with-all names ∙ ap stands_in (places_of_root e)))
+    ∙ (with-all names ∙ ap stands_in (places_of_part c.args.is_whole e)))
