@@ -22,7 +22,7 @@ returns-then-is_used c =
     (λ e. some (ap length c.in_ok-as_it_is.ensures.bytes ∙ e))
     (ap places (sym c.in_ok-as_it_is.ensures.text) ∙ (sym c.is_used.ensures ∙ found))
 
-pub returns : goal.returns-in_ok-decoded
+pub returns : goal.returns
 unfolding indicated_name
 returns c =
     let places = used_in c.args.places.now in

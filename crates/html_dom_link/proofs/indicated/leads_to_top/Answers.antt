@@ -9,7 +9,7 @@ returns-then-is_empty c =
     empty_leads (url_fragment (chars c.args.fragment.now))
     (ap length (sym c.in_ok-fragment.ensures.bytes) ∙ none)
 
-pub returns : goal.returns-in_ok-decoded
+pub returns : goal.returns
 returns c =
     let some : length (string_bytes c.in_ok-fragment.fragment) ≡ 0 → ⊥ = search rules in
     c.is_top.ensures
