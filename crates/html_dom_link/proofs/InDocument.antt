@@ -1,14 +1,14 @@
 -- The part of a tree that stands in its document.
-use Rattle.std.proofs.Common.{◌≡◌, ◌≤◌, ℕ, Bool, true, false, ◌||◌, List, [], ◌∷◌, ◌++◌, Option, Some, None, refl, sym, ap, ◌∙◌, arith}
+use Rattle.std.proofs.Common.{◌≡◌, ◌≤◌, Bool, true, false, ◌||◌, List, [], ◌∷◌, ◌++◌, Some, None, refl, sym, ap, ◌∙◌, arith}
 use Rattle.std.proofs.Math.Bool.{or-true}
 use Rattle.html_names.specs.Names.{stands_in}
 use Rattle.html_dom_tree.specs.Tags.{starts, ends}
-use Rattle.html_dom_tree.specs.Tree.{Head, NodeView, tag_node, text_node, element_node, frame_node, NodesView, none, node, ElementView}
+use Rattle.html_dom_tree.specs.Tree.{NodeView, tag_node, text_node, element_node, frame_node, NodesView, none, node, ElementView}
 use Rattle.html_dom_link.specs.Answered.{id_names, shown_names}
 use Rattle.html_dom_link.specs.Distinct.{occurrences}
 use Rattle.html_dom_link.specs.Indicated.{element_places, nodes_places, place_names}
 use Rattle.html_dom_link.specs.InDocument.{document_places, element_part, in_document, kept, keeps, node_part, nodes_part}
-use Rattle.html_dom_link.specs.Links.{Hrefs, dest_before, head_with_link, node_with_links, nodes_with_links, root_with_links}
+use Rattle.html_dom_link.specs.Links.{Hrefs, dest_before, node_with_links, nodes_with_links, root_with_links}
 use Rattle.html_dom_link.specs.NewNames.{Name, frame_names, gathered_names}
 use Rattle.html_dom_link.proofs.Differing.{occurrences-append, occurrences-none}
 use Rattle.html_dom_link.proofs.Gathering.{stands-append}

@@ -4,13 +4,12 @@ use Rattle.std.specs.Prelude.{if◌then◌else◌}
 use Rattle.std.proofs.lemmas.List.{drop_all}
 use Rattle.std.proofs.lemmas.Slice.Eq.{bytes_eq-Decides}
 use Rattle.html_dom_tree.specs.Attributes.{first, has_name, or_else}
-use Rattle.html_dom_tree.specs.Tree.{TextPair, Head, NodeView, tag_node, text_node, element_node, frame_node, NodesView, none, node, ElementView}
+use Rattle.html_dom_tree.specs.Tree.{Head, NodeView, tag_node, text_node, element_node, frame_node, NodesView, none, node, ElementView}
 use Rattle.html_dom_tree.specs.Views.{node_view, nodes_view}
 use Rattle.html_dom_tree.specs.declared.node.HtmlNode.{HtmlNode}
 use Rattle.html_dom_tree.proofs.Nodes.{nodes_view-drop}
-use Rattle.html_dom_link.specs.Bases.{base_of, base_is_elsewhere, leads_away, node_base, nodes_base, own_base}
-use Rattle.html_dom_link.specs.InDocument.{keeps}
-use Rattle.html_dom_link.specs.Links.{Hrefs, attrs_with_href, dest_before, head_with_link, href_of, node_with_links, nodes_with_links, open_dest, root_with_links}
+use Rattle.html_dom_link.specs.Bases.{base_is_elsewhere, node_base, nodes_base, own_base}
+use Rattle.html_dom_link.specs.Links.{Hrefs, attrs_with_href, dest_before, head_with_link, href_of, node_with_links, nodes_with_links, root_with_links}
 
 -- a `base` is no link
 own_stays : (hrefs : Hrefs) (dest : Option ℕ) (h : Head) →

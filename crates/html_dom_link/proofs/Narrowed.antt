@@ -1,5 +1,5 @@
 -- A link that leads among the names of a tree leads among fewer of them, its own being one.
-use Rattle.std.proofs.Common.{◌≡◌, ℕ, Bool, true, false, true≢false, List, chars, Option, Some, None, refl, sym, ap, ◌∙◌}
+use Rattle.std.proofs.Common.{◌≡◌, ℕ, Bool, true, false, true≢false, List, chars, Some, None, refl, sym, ap, ◌∙◌}
 use Rattle.std.specs.Prelude.{if◌then◌else◌}
 use Rattle.html_dom_link.specs.GivenLinks.{LeadsTo}
 use Rattle.html_dom_link.specs.Indicated.{decoding, indicated_by, indicated_name, url_fragment}

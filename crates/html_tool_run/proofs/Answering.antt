@@ -5,7 +5,7 @@ use Rattle.std.proofs.lemmas.Str.{encodes-chars, IsUtf8-string_bytes}
 use lib.Utf8.{encodes}
 use Rattle.serde_json.specs.Data.{Data}
 use Rattle.html_dom_tree.specs.Views.{text_view}
-use Rattle.html_tool_run.specs.Answers.{Answer, text_answer, bad_input, first_refusal_or_text, answer_if, answer_to}
+use Rattle.html_tool_run.specs.Answers.{Answer, bad_input, first_refusal_or_text, answer_if, answer_to}
 use Rattle.html_tool_spell.specs.LeftForms.{Left, IsLeft}
 use Rattle.html_tool_spell.specs.Reading.{IsNoJson}
 use Rattle.html_tool_run.specs.Replies.{GivesAnswer, Says}

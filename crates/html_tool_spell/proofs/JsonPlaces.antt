@@ -4,7 +4,6 @@ use Rattle.std.specs.Prelude.{if◌then◌else◌}
 use Rattle.std.proofs.lemmas.Bool.{le-ltb, lt-ltb}
 use Rattle.html_tool_spell.specs.JsonPlaces.{begun, behind_byte, first_stage, innermost_of, max_depth, move_at}
 use Rattle.html_tool_spell.specs.declared.json_stage.Bracket.{Bracket}
-use Rattle.html_tool_spell.specs.declared.json_stage.Move.{Move}
 use Rattle.html_tool_spell.specs.declared.json_stage.Move.TheVariants.{GoOn, Open, Close}
 use Rattle.html_tool_spell.specs.declared.json_stage.Stage.{Stage}
 use Rattle.html_tool_spell.specs.declared.json_stage.Stage.TheVariants.{Behind}

@@ -1,5 +1,6 @@
 //! Faults of calls, by their numbers.
 
+use html_names::Refused;
 use html_tool_spell::Fault;
 use std::alloc::AllocError;
 use typst_html_encode::ExportFault;
@@ -14,6 +15,12 @@ const BAD_INPUT: u8 = 255;
 
 impl From<AllocError> for Answer {
     fn from(_error: AllocError) -> Answer {
+        Answer(0)
+    }
+}
+
+impl<T: Drop> From<Refused<T>> for Answer {
+    fn from(_refused: Refused<T>) -> Answer {
         Answer(0)
     }
 }

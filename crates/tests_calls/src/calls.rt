@@ -5,7 +5,7 @@ use crate::given::{DOCUMENT, Given, ITEMS, OWN_ROOT, PAGE, TREE};
 use html_dom_findings::{
     DeadFragment, RepeatedId, Wanted, report_dead_fragments, report_repeated_ids, report_texts,
 };
-use html_dom_link::{fragment_in, fragment_leads, place_names};
+use html_dom_link::{decoded_fragment, fragment_in, fragment_leads, place_in, place_names};
 use html_dom_nest::misnested;
 use html_flow_convert::ConversionLevel;
 use html_tool_run::{Settings, text_of_document, text_of_fragment, unused_of_document};
@@ -39,7 +39,9 @@ pub(crate) enum TreeCall {
 #[derive(Clone, Copy, Debug)]
 pub(crate) enum LinkCall {
     FragmentIn,
+    DecodedFragment,
     FragmentLeads,
+    PlaceIn,
 }
 
 /// A call that makes a text or a document from nodes or items, or a tree from a text.
@@ -92,14 +94,16 @@ pub(crate) enum Call {
 }
 
 /// All of these calls.
-pub(crate) const CALLS: [Call; 25] = [
+pub(crate) const CALLS: [Call; 27] = [
     Call::Tree(TreeCall::Misnested),
     Call::Tree(TreeCall::PlaceNames),
     Call::Tree(TreeCall::ReportDeadFragments),
     Call::Tree(TreeCall::ReportRepeatedIds),
     Call::Tree(TreeCall::ReportTexts),
     Call::Link(LinkCall::FragmentIn),
+    Call::Link(LinkCall::DecodedFragment),
     Call::Link(LinkCall::FragmentLeads),
+    Call::Link(LinkCall::PlaceIn),
     Call::Text(TextCall::HtmlFragment),
     Call::Text(TextCall::ExportFragment),
     Call::Text(TextCall::HtmlDocumentWithHead),
@@ -163,7 +167,15 @@ impl LinkCall {
                 let fragment = fragment_in(alloc, " #n%61 med\n")?;
                 Ok(fragment.is_some_and(|text| text.as_str() == "n%61 med"))
             }
+            LinkCall::DecodedFragment => {
+                let name = decoded_fragment(alloc, "#n%61med:~:text=four")?;
+                Ok(name.is_some_and(|text| text.as_str() == "named"))
+            }
             LinkCall::FragmentLeads => Ok(fragment_leads(alloc, &given.places, "n%61med")?),
+            LinkCall::PlaceIn => {
+                let name = place_in(alloc, "#n%61med", &given.places)?;
+                Ok(name.is_some_and(|text| text.as_str() == "named"))
+            }
         }
     }
 }
@@ -201,12 +213,10 @@ impl ValueCall {
             ValueCall::ElementIn => Ok(element_in(alloc, &given.tree)?.children.len() == 2),
             ValueCall::ItemsIn => Ok(items_in(alloc, &given.list)?.len() == 2),
             ValueCall::DocumentIn => {
-                let document = document_in(alloc, given.document.clone()?)?;
+                let document = document_in(alloc, &given.document)?;
                 Ok(document.items.len() == 1 && document.head.len() == 1)
             }
-            ValueCall::DocumentItemsIn => {
-                Ok(document_items_in(alloc, given.list.clone()?)?.len() == 2)
-            }
+            ValueCall::DocumentItemsIn => { Ok(document_items_in(alloc, &given.list)?.len() == 2) }
         }
     }
 }

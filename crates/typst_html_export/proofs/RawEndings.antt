@@ -1,6 +1,6 @@
 -- The raw texts of a head end as they did before css came into `style` and anchors were added, if
 -- nothing is wrong with the tree that is written: an anchor in a raw text would be a fault.
-use Rattle.std.proofs.Common.{◌≡◌, ℕ, Bool, true, false, not, ◌&&◌, ◌||◌, List, [], ◌∷◌, ◌++◌, Option, None, Some, inl, inr, refl, ap, sym, ◌∙◌, codes, bytes_eq}
+use Rattle.std.proofs.Common.{◌≡◌, ℕ, Bool, true, false, ◌&&◌, List, [], ◌∷◌, ◌++◌, Option, None, Some, inl, inr, refl, ap, sym, ◌∙◌, codes, bytes_eq}
 use Rattle.std.proofs.lemmas.Bool.{both_ways, cases_Bool, false≢true}
 use Rattle.std.proofs.lemmas.Slice.Eq.{bytes_eq-Decides}
 use Rattle.html_names.specs.Displays.{default_display}
@@ -17,7 +17,7 @@ use Rattle.typst_html_encode.specs.Indented.{NodeEndsWell, NodesEndWell, RawEnds
 use Rattle.typst_html_encode.specs.Layout.{allows_pretty_inside, has_other_type, is_by_lines, is_pretty_inside, nodes_want_pretty, wants_pretty_around}
 use Rattle.typst_html_encode.specs.Text.{ends_at_once, escaping_of, nodes_raw_text}
 use Rattle.typst_html_encode.proofs.Runs.{left_empty, right_empty}
-use Rattle.typst_html_spaces.specs.Anchored.{NewAttribute, new_id, new_href, with_front_attribute, IsAnchor, anchor, IsGiven, nothing, given, Anchored, IsAny}
+use Rattle.typst_html_spaces.specs.Anchored.{new_id, new_href, with_front_attribute, IsAnchor, anchor, IsGiven, nothing, given, Anchored, IsAny}
 use Rattle.typst_html_spaces.specs.Changed.{Change, Changed, at_end, at_tag, after_tag, at_text, around_text, at_element, at_frame}
 use Rattle.typst_html_spaces.proofs.ReadableNodes.{span_not_raw}
 

@@ -1,4 +1,4 @@
-use Rattle.std.proofs.Common.{◌≡◌, refl, inl, inr, subst}
+use Rattle.std.proofs.Common.{refl, inl, inr, subst}
 use Rattle.std.proofs.KnownBytes.{Keeps-refl}
 use Rattle.html_tool_run.specs.Outputs.{Output, EndsAs, bad_input_output, words_output}
 use Rattle.html_tool_run.specs.Words.{texts_of}

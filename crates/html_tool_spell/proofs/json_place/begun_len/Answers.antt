@@ -1,4 +1,4 @@
-use Rattle.std.proofs.Common.{◌≡◌, [], drop, ap, arith}
+use Rattle.std.proofs.Common.{◌≡◌, drop, ap, arith}
 use Rattle.std.proofs.lemmas.List.{drop_all}
 use Rattle.html_tool_spell.specs.JsonPlaces.{begun}
 use Rattle.html_tool_spell.proofs.json_place.begun_len.Goals as goal

@@ -1,4 +1,4 @@
-use Rattle.std.proofs.Common.{◌≡◌, true, false, List, [], Some, refl, ap, subst, map, Result, Ok, Err, IfOk, OnOk, String, Global}
+use Rattle.std.proofs.Common.{◌≡◌, true, false, [], Some, refl, ap, subst, map, Result, Ok, Err, IfOk, OnOk, String, Global}
 use Rattle.std.proofs.lemmas.Result.{err_from_is_err_and}
 use Rattle.html_dom_document.specs.Documents.{document_root}
 use Rattle.html_dom_document.specs.Views.{document_view, info_view}
