@@ -1,8 +1,8 @@
 -- A link that leads among the names of a tree leads among fewer of them, its own being one.
-use Rattle.std.proofs.Common.{◌≡◌, ℕ, Bool, true, false, true≢false, List, chars, Some, None, refl, sym, ap, ◌∙◌}
+use Rattle.std.proofs.Common.{◌≡◌, ℕ, Bool, true, false, true≢false, List, [], ◌∷◌, chars, Some, None, refl, sym, ap, ◌∙◌}
 use Rattle.std.specs.Prelude.{if◌then◌else◌}
 use Rattle.html_dom_link.specs.GivenLinks.{LeadsTo}
-use Rattle.html_dom_link.specs.Indicated.{decoding, indicated_by, indicated_name, url_fragment}
+use Rattle.html_dom_link.specs.Indicated.{decoding, indicated_at, indicated_by, indicated_name, url_fragment}
 use Rattle.html_dom_link.specs.NewNames.{Name}
 
 module _ (few many : Name → Bool) (among : (n : Name) → few n ≡ true → many n ≡ true)
@@ -26,11 +26,15 @@ module _ (few many : Name → Bool) (among : (n : Name) → few n ≡ true → m
           rw (ap few same ∙ there) is
       by false false m_is false f_is is = cc
 
+  at_within : (fragment : List ℕ) → indicated_at many fragment ≡ Some name →
+      indicated_at few fragment ≡ Some name
+  at_within [] is = is
+  at_within (c ∷ cs) is = indicated_within (c ∷ cs) (chars (decoding (c ∷ cs))) is
+
   pub leads_within : (href : List ℕ) → LeadsTo many href name → LeadsTo few href name
   unfolding indicated_name
   leads_within href lead = record {
     fragment = lead.fragment;
     taken = lead.taken;
-    indicates = indicated_within (url_fragment lead.fragment)
-        (chars (decoding (url_fragment lead.fragment))) lead.indicates;
+    indicates = at_within (url_fragment lead.fragment) lead.indicates;
   }
