@@ -191,7 +191,7 @@ raw_ends : (pretty : Bool) (h g : Head) (kids new : NodesView) → SameLayout h 
     nodes_raw_text new ≡ nodes_raw_text kids → (is_raw h.name ≡ true → RawEndsWell pretty h kids) →
     is_raw g.name ≡ true → RawEndsWell pretty g new
 raw_ends pretty h g kids new same text e r =
-    rw (same.name, same.by_lines, text) (e (ap is_raw (sym same.name) ∙ r))
+    rw (same.by_lines, same.name, text) (e (ap is_raw (sym same.name) ∙ r))
 
 module _ (frames : Frames) where
   -- an element whose own children end well
@@ -216,10 +216,10 @@ module _ (frames : Frames) where
         | inr o ↦ elim (cases_Bool (is_raw g.name)) [
           | inl r ↦
               let v : raw_content_faults g new ≡ [] = rw (o, r) at c in
-              let fine = left_empty _ (closing_faults g new) v in (
-                raw_ends pretty h g kids new same (raw_text_kept _ a fine) raw,
-                texts_end_well _ new deep fine,
-              )
+              let fine = left_empty _ (closing_faults g new) v in
+              let text : nodes_raw_text new ≡ nodes_raw_text kids = search (raw_text_kept, a, fine) in
+              let inner : NodesEndWell deep new = search (texts_end_well, fine) in
+              (raw_ends pretty h g kids new same text raw, inner)
           | inr r ↦ elim (cases_Bool (is_escapable_raw g.name)) [
             | inl x ↦
                 let v : nodes_raw_faults (escaping_of false) new ≡ [] = rw (o, r, x) at c in (
