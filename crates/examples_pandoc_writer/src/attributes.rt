@@ -38,18 +38,18 @@ impl Writer {
 
     /// Collects the ids in a value at most that deep, to which links may lead from anywhere.
     pub fn add_ids(&mut self, depth: usize, value: &Value) -> Result<()> {
-        let depth = depth.checked_sub(1).context("too deep")?;
+        let below = depth.checked_sub(1).context("too deep")?;
         if let Some(id) = id_of(value) {
             let _ = self.all_ids.insert(id.to_string(self.alloc)?)?;
         }
         if let Some(values) = value.as_array() {
             for inner in values {
-                self.add_ids(depth, inner)?;
+                self.add_ids(below, inner)?;
             }
         }
         if let Some(values) = value.as_object() {
             for (_, inner) in values {
-                self.add_ids(depth, inner)?;
+                self.add_ids(below, inner)?;
             }
         }
         Ok(())
