@@ -9,7 +9,8 @@ use Rattle.html_tool_run.proofs.unused.unused_of_value.Goals as goal
 pub returns-in_err-document : goal.returns-in_err-document
 unfolding unused_answer
 returns-in_err-document c =
-    let failed = err_from_is_err_and c.from_residual.result c.from_residual.ensures.1 in
+    let failed = err_from_is_err_and c.from_residual-in_err-document.result
+    c.from_residual-in_err-document.ensures.1 in
     rw (failed.1, failed.2)
     (name_said names_refusals (unused_refusals c.args.limit)
     (unused_text (given_names (view c.args.value))) (spelled_document (view c.args.value))
