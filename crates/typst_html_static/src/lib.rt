@@ -3,7 +3,7 @@
 #![tactic(auto)]
 
 ghost use Rattle.std.specs.Prelude.{◌≡◌};
-ghost use Rattle.typst_html_c.specs.CallReplies.{RepliesAt, RepliesWithAt, call_dead_links, document_call_answer, write_answer};
+ghost use Rattle.typst_html_c.specs.CallReplies.{Replies, RepliesWith, call_dead_links, document_call_answer, write_answer};
 ghost use Rattle.typst_html_c.specs.DeadLinks.{dead_links_answer};
 ghost use Rattle.typst_html_c.specs.Fragments.{fragment_call_answer};
 ghost use Rattle.typst_html_c.specs.PageFindings.{check_report};
@@ -31,7 +31,7 @@ pub extern "C" fn typst_html_write(
     input: &[u8],
     output: &mut [u8],
 ) -> Reply
-    ensures answered { RepliesAt (write_answer kind layout input.now) output.old result output.new }
+    ensures answered { Replies (write_answer kind layout input.now) output.old result output.new }
     ensures kept { ¬ (result.status ≡ 0) → output.new ≡ output.old }
 {
     typst_html_c::typst_html_write(alloc, kind, layout, input, output)
@@ -47,7 +47,7 @@ pub extern "C" fn typst_html_document(
     input: &[u8],
     output: &mut [u8],
 ) -> Reply
-    ensures answered { RepliesWithAt (call_dead_links layout links limit input.now)
+    ensures answered { RepliesWith (call_dead_links layout links limit input.now)
         (document_call_answer layout links limit input.now) output.old result output.new }
     ensures kept { ¬ (result.status ≡ 0) → ¬ (result.status ≡ 5) → output.new ≡ output.old }
 {
@@ -63,7 +63,7 @@ pub extern "C" fn typst_html_fragment(
     input: &[u8],
     output: &mut [u8],
 ) -> Reply
-    ensures answered { RepliesAt (fragment_call_answer level limit input.now)
+    ensures answered { Replies (fragment_call_answer level limit input.now)
         output.old result output.new }
     ensures kept { ¬ (result.status ≡ 0) → output.new ≡ output.old }
 {
@@ -78,7 +78,7 @@ pub extern "C" fn typst_html_dead_links(
     input: &[u8],
     output: &mut [u8],
 ) -> Reply
-    ensures answered { RepliesAt (dead_links_answer limit input.now) output.old result output.new }
+    ensures answered { Replies (dead_links_answer limit input.now) output.old result output.new }
     ensures kept { ¬ (result.status ≡ 0) → output.new ≡ output.old }
 {
     typst_html_c::typst_html_dead_links(alloc, limit, input, output)
@@ -92,7 +92,7 @@ pub extern "C" fn typst_html_unused(
     input: &[u8],
     output: &mut [u8],
 ) -> Reply
-    ensures answered { RepliesAt (unused_call_answer limit input.now) output.old result output.new }
+    ensures answered { Replies (unused_call_answer limit input.now) output.old result output.new }
     ensures kept { ¬ (result.status ≡ 0) → output.new ≡ output.old }
 {
     typst_html_c::typst_html_unused(alloc, limit, input, output)
