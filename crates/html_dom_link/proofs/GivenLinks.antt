@@ -17,14 +17,12 @@ use Rattle.html_dom_document.specs.Documents.{DocumentView, document_root}
 use Rattle.html_dom_document.specs.Views.{document_view}
 use Rattle.html_dom_document.specs.declared.document.HtmlDocument.{HtmlDocument}
 use Rattle.html_dom_link.specs.Answered.{shown_names}
-use Rattle.html_dom_link.specs.DeadLinks.{dead_links_view}
 use Rattle.html_dom_link.specs.Distinct.{IdsAreDistinct, GivenLinksLeadToOne, LeadsToOne, are_distinct}
-use Rattle.html_dom_link.specs.GivenLinks.{KnownAnchorsAreShown, AnchorsAreTexts, EveryLinkLeads, GivenLinksLead, LeadsAmong, given_by, given_link, links_without, node_given_links, nodes_given_links}
+use Rattle.html_dom_link.specs.GivenLinks.{KnownAnchorsAreShown, AnchorsAreTexts, GivenLink, GivenLinksLead, LeadsAmong, given_by, given_link, links_without, node_given_links, nodes_given_links}
 use Rattle.html_dom_link.specs.Indicated.{element_places, link_name, nodes_places, place_names}
-use Rattle.html_dom_link.specs.Links.{Anchors, Hrefs, anchor_hrefs, attrs_with_href, dest_before, document_dead_links, document_hrefs, document_with_links, head_with_link, href_of, is_open, node_with_links, nodes_with_links, some_name}
+use Rattle.html_dom_link.specs.Links.{Anchors, Hrefs, anchor_hrefs, attrs_with_href, dest_before, document_hrefs, document_links_left, document_with_links, head_with_link, href_of, is_open, node_with_links, nodes_with_links, some_name}
 use Rattle.html_dom_link.specs.NewNames.{Name, element_names, first_id, frame_names, gathered_names}
 use Rattle.html_dom_link.specs.Spellings.{leading_href}
-use Rattle.html_dom_link.specs.declared.dead.DeadLink.{DeadLink}
 use Rattle.html_dom_link.proofs.ChangedRoots.{root_has_links}
 use Rattle.html_dom_link.proofs.Counting.{all_names_stay, shown_once}
 use Rattle.html_dom_link.proofs.Gathering.{stands-append}
@@ -96,10 +94,49 @@ shown_is_place e n there =
     (ap (λ b. stands_in (place_names e.0.name e.0.attrs) n || b) (shown_are_places e.1 n there)
     ∙ or-true (stands_in (place_names e.0.name e.0.attrs) n))
 
+-- each link that got an `href` has what each `href` of a location has
+module _ (hrefs : Hrefs) (P : GivenLink → Type 0)
+    (holds : (dest : ℕ) (href : List ℕ) → hrefs dest ≡ Some href → P (dest, href)) where
+  link_given : (dest : ℕ) (attrs : List TextPair) → first attrs (codes "href") ≡ None →
+      All P (given_by dest (first (attrs_with_href (hrefs dest) attrs) (codes "href")))
+  link_given dest attrs none_is = by (hrefs dest) refl
+    where
+      by : (href : Option (List ℕ)) → hrefs dest ≡ href →
+          All P (given_by dest (first (attrs_with_href href attrs) (codes "href")))
+      by None is = rw none_is (All-nil P)
+      by (Some href) is = All-cons P (dest, href) [] (holds dest href is) (All-nil P)
+
+  head_given : (dest : Option ℕ) (h : Head) → All P (given_link dest h (head_with_link hrefs dest h))
+  head_given None h = All-nil P
+  head_given (Some dest) h = by (is_open h) refl
+    where
+      by : (lacks : Bool) → is_open h ≡ lacks → All P (if lacks
+          then given_by dest (first
+          (attrs_with_href (href_of hrefs (if lacks then Some dest else None)) h.attrs)
+          (codes "href"))
+          else [])
+      by true is = link_given dest h.attrs (no_href _ h.attrs is)
+      by false is = All-nil P
+
+  pub all_given : (before : List NodeView) (ns : NodesView) →
+      All P (nodes_given_links before ns (nodes_with_links hrefs before ns))
+  unfolding nodes_given_links node_given_links nodes_with_links node_with_links
+  all_given before none = All-nil P
+  all_given before (node (tag_node t) ns) = all_given (tag_node t ∷ before) ns
+  all_given before (node (text_node s span) ns) = all_given (text_node s span ∷ before) ns
+  all_given before (node (element_node h kids) ns) =
+      let dest = dest_before before in
+      let below = nodes_given_links [] kids (nodes_with_links hrefs [] kids) in
+      let own = given_link dest h (head_with_link hrefs dest h) in
+      All-append P (own ++ below) _
+      (All-append P own below (head_given dest h) (all_given [] kids))
+      (all_given (element_node h kids ∷ before) ns)
+  all_given before (node (frame_node f) ns) = all_given (frame_node f ∷ before) ns
+
 module _ (anchor : Anchors) (places ids : List Name) (texts : AnchorsAreTexts anchor)
     (shown : (location : ℕ) (name : Name) → anchor location ≡ Some name → stands_in ids name ≡ true)
     (among : (name : Name) → stands_in ids name ≡ true → stands_in places name ≡ true) where
-  abbrev Leads : ℕ × List ℕ → Type 0
+  abbrev Leads : GivenLink → Type 0
   Leads = LeadsAmong anchor places ids
 
   abbrev hrefs : Hrefs
@@ -126,43 +163,9 @@ module _ (anchor : Anchors) (places ids : List Name) (texts : AnchorsAreTexts an
       by None named is = cc
       by (Some name) named is = named_leads dest name href named is
 
-  link_leads : (dest : ℕ) (attrs : List TextPair) → first attrs (codes "href") ≡ None →
-      All Leads (given_by dest (first (attrs_with_href (hrefs dest) attrs) (codes "href")))
-  link_leads dest attrs none_is = by (hrefs dest) refl
-    where
-      by : (href : Option (List ℕ)) → hrefs dest ≡ href →
-          All Leads (given_by dest (first (attrs_with_href href attrs) (codes "href")))
-      by None is = rw none_is (All-nil Leads)
-      by (Some href) is =
-          All-cons Leads (dest, href) [] (location_leads dest href is) (All-nil Leads)
-
-  head_leads : (dest : Option ℕ) (h : Head) →
-      All Leads (given_link dest h (head_with_link hrefs dest h))
-  head_leads None h = All-nil Leads
-  head_leads (Some dest) h = by (is_open h) refl
-    where
-      by : (lacks : Bool) → is_open h ≡ lacks → All Leads (if lacks
-          then given_by dest (first
-          (attrs_with_href (href_of hrefs (if lacks then Some dest else None)) h.attrs)
-          (codes "href"))
-          else [])
-      by true is = link_leads dest h.attrs (no_href _ h.attrs is)
-      by false is = All-nil Leads
-
   pub nodes_lead : (before : List NodeView) (ns : NodesView) →
       All Leads (nodes_given_links before ns (nodes_with_links hrefs before ns))
-  unfolding nodes_given_links node_given_links nodes_with_links node_with_links
-  nodes_lead before none = All-nil Leads
-  nodes_lead before (node (tag_node t) ns) = nodes_lead (tag_node t ∷ before) ns
-  nodes_lead before (node (text_node s span) ns) = nodes_lead (text_node s span ∷ before) ns
-  nodes_lead before (node (element_node h kids) ns) =
-      let dest = dest_before before in
-      let below = nodes_given_links [] kids (nodes_with_links hrefs [] kids) in
-      let own = given_link dest h (head_with_link hrefs dest h) in
-      All-append Leads (own ++ below) _
-      (All-append Leads own below (head_leads dest h) (nodes_lead [] kids))
-      (nodes_lead (element_node h kids ∷ before) ns)
-  nodes_lead before (node (frame_node f) ns) = nodes_lead (frame_node f ∷ before) ns
+  nodes_lead = all_given hrefs Leads location_leads
 
 -- the anchors that an introspector knows are texts
 text_is_scalars : (s : String Global) → scalars (text_view s) ≡ true
@@ -230,17 +233,8 @@ links_lead_to_one old new is shown was_distinct =
     _ (document_links_lead old new is shown)
 
 pub left_in_document : (d new : DocumentView) → new ≡ document_with_links d →
-    links_without (document_root new).1 ≡ document_dead_links d
+    links_without (document_root new).1 ≡ document_links_left d
 left_in_document d new is =
     ap (λ v. links_without (document_root v).1) is
     ∙ (ap (λ (e : ElementView). links_without e.1) (root_has_links d)
     ∙ left_are_dead (document_hrefs d) (document_root d).1)
-
-pub every_link_leads : (d : HtmlDocument) (dead : List DeadLink) →
-    dead_links_view dead ≡ document_dead_links (document_view d) → dead ≡ [] →
-    EveryLinkLeads (document_view d)
-every_link_leads d dead agrees nothing = record {
-  none_left =
-      left_in_document (document_view d) _ refl ∙ (sym agrees ∙ ap dead_links_view nothing);
-  given = document_links_lead d _ refl;
-}

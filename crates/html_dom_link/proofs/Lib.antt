@@ -5,6 +5,7 @@ pub mod Counting
 pub mod CutFragments
 pub mod Differing
 pub mod DocumentNames
+pub mod FoundLinks
 pub mod Freshes
 pub mod Gathering
 pub mod GivenLinks

@@ -9,7 +9,7 @@ use Rattle.html_dom_link.specs.Answered.{shown_names}
 use Rattle.html_dom_link.specs.DocumentNames.{AnchorsAreShown}
 use Rattle.html_dom_link.specs.InDocument.{document_places}
 use Rattle.html_dom_link.specs.Indicated.{element_places, fragments_in, indicated_name}
-use Rattle.html_dom_link.specs.Links.{Anchors, DeadLinkView, dest_before, document_with_links, is_open, nodes_dead_links}
+use Rattle.html_dom_link.specs.Links.{Anchors, DeadLinkView, dest_before, is_open, nodes_dead_links}
 use Rattle.html_dom_link.specs.NewNames.{Name}
 
 -- a link that got an `href`: its destination, and that `href`
@@ -87,9 +87,3 @@ GivenLinksLead old new = let root = document_root new in
 -- the links behind a start tag with a destination that have no `href`
 abbrev pub links_without : NodesView → List DeadLinkView
 links_without = nodes_dead_links (λ dest. None) []
-
--- once links are resolved, none behind a start tag with a destination is without an `href`, and
--- each that got one leads, if the known anchors stand in the tree
-pub record EveryLinkLeads (d : DocumentView) : Type 0 where
-  pub none_left : links_without (document_root (document_with_links d)).1 ≡ []
-  pub given : KnownAnchorsAreShown d → GivenLinksLead d (document_with_links d)

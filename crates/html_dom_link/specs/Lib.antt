@@ -5,6 +5,7 @@ pub mod Directives
 pub mod Distinct
 pub mod DocumentNames
 pub mod Events
+pub mod FoundAnchors
 pub mod Fresh
 pub mod GivenLinks
 pub mod Groups

@@ -1,11 +1,15 @@
 -- Laws of links that lead.
-use Rattle.std.specs.Prelude.{◌≡◌, ℕ, Bool, true, List, [], None, Some}
+use Rattle.std.specs.List.{All, Contains}
+use Rattle.std.specs.Prelude.{◌≡◌, ℕ, Bool, true, false, List, [], None, Some}
 use lib.Utf8.{scalars}
 use Rattle.html_dom_tree.specs.Tree.{NodeView, NodesView}
+use Rattle.html_dom_document.specs.Documents.{DocumentView, document_root}
 use Rattle.html_dom_link.specs.Answered.{shown_names, first_ids}
-use Rattle.html_dom_link.specs.GivenLinks.{LeadsTo}
+use Rattle.html_dom_link.specs.Bases.{base_is_elsewhere}
+use Rattle.html_dom_link.specs.FoundAnchors.{document_dead_links}
+use Rattle.html_dom_link.specs.GivenLinks.{KnownAnchorsArePlaces, LeadsTo}
 use Rattle.html_dom_link.specs.Indicated.{nodes_places}
-use Rattle.html_dom_link.specs.Links.{Hrefs, nodes_dead_links, nodes_with_links, some_name}
+use Rattle.html_dom_link.specs.Links.{Hrefs, document_links_left, nodes_dead_links, nodes_with_links, some_name}
 use Rattle.html_dom_link.specs.NewNames.{Name}
 use Rattle.html_dom_link.specs.Spellings.{href_to, leading_href, plain_spelling}
 
@@ -38,3 +42,12 @@ abbrev pub LeftAreDead : Type 0
 LeftAreDead = (hrefs : Hrefs) (ns : NodesView) →
     nodes_dead_links (λ dest. None) [] (nodes_with_links hrefs [] ns)
     ≡ nodes_dead_links hrefs [] ns
+
+-- each link left without an `href` is dead
+abbrev pub LeftLinksAreDead : Type 0
+LeftLinksAreDead = (d : DocumentView) → All (Contains (document_dead_links d)) (document_links_left d)
+
+-- where no base leads fragments away, and the known anchors are places, no other link is dead
+abbrev pub DeadAreLeft : Type 0
+DeadAreLeft = (d : DocumentView) → base_is_elsewhere (document_root d) ≡ false →
+    KnownAnchorsArePlaces d → document_dead_links d ≡ document_links_left d

@@ -119,5 +119,6 @@ unfoldable mutual
   nodes_dead_links hrefs before (node n ns) =
       node_dead_links hrefs (dest_before before) n ++ nodes_dead_links hrefs (n ∷ before) ns
 
-abbrev pub document_dead_links : DocumentView → List DeadLinkView
-document_dead_links d = nodes_dead_links (document_hrefs d) [] (document_root d).1
+-- the links of a document that are left without an `href` once its links are resolved
+abbrev pub document_links_left : DocumentView → List DeadLinkView
+document_links_left d = nodes_dead_links (document_hrefs d) [] (document_root d).1

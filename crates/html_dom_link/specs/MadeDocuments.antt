@@ -4,9 +4,10 @@ use Rattle.html_dom_document.specs.Documents.{DocumentView, document_root, with_
 use Rattle.html_dom_tree.specs.Tree.{NodesView}
 use Rattle.html_dom_link.specs.Distinct.{GivenLinksLeadToOne, IdsAreDistinct}
 use Rattle.html_dom_link.specs.DocumentNames.{AnchorsAreNew, AnchorsAreShown}
+use Rattle.html_dom_link.specs.FoundAnchors.{LiveLinksLead}
 use Rattle.html_dom_link.specs.GivenLinks.{GivenLinksLead, KnownAnchorsAreShown, links_without}
 use Rattle.html_dom_link.specs.LinkAnchors.{document_anchor, document_with_new_anchors}
-use Rattle.html_dom_link.specs.Links.{Anchors, document_dead_links, document_with_links}
+use Rattle.html_dom_link.specs.Links.{Anchors, document_links_left, document_with_links}
 use Rattle.html_dom_link.specs.Serving.{AreServing, KnownAnchorsServe}
 
 -- a document whose root has these children
@@ -26,8 +27,9 @@ pub record HasNewAnchors (is_target : ℕ → Bool) (old new : DocumentView) (an
 -- the links of the new document lead
 pub record HasItsLinks (old new : DocumentView) : Type 0 where
   pub ok : new ≡ document_with_links old
+  pub live : LiveLinksLead old new
   pub leads : KnownAnchorsAreShown old → GivenLinksLead old new
-  pub left : links_without (document_root new).1 ≡ document_dead_links old
+  pub left : links_without (document_root new).1 ≡ document_links_left old
   pub serves : KnownAnchorsServe old → KnownAnchorsServe new
   pub distinct : IdsAreDistinct old → IdsAreDistinct new
   pub one : KnownAnchorsAreShown old → IdsAreDistinct old → GivenLinksLeadToOne old new

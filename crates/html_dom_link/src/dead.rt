@@ -2,18 +2,23 @@
 
 ghost use Rattle.std.specs.Prelude.{◌≡◌, ◌++◌, [], map, option_map, IfOk, OnOk};
 ghost use Rattle.html_dom_tree.specs.Tree.{element_node};
-ghost use Rattle.html_dom_tree.specs.Views.{element_view, node_view, nodes_view};
+ghost use Rattle.html_dom_tree.specs.Views.{element_view, node_view, nodes_view, text_view};
 ghost use Rattle.html_dom_document.specs.Views.{document_view};
 ghost use Rattle.html_dom_link.specs.DeadLinks.{dead_links_view};
-ghost use Rattle.html_dom_link.specs.GivenLinks.{EveryLinkLeads};
-ghost use Rattle.html_dom_link.specs.LinkTargets.{hrefs_view};
-ghost use Rattle.html_dom_link.specs.Links.{dead_link, document_dead_links, node_dead_links, nodes_dead_links};
+ghost use Rattle.html_dom_link.specs.FoundAnchors.{EveryLinkLeads, document_dead_links, is_found};
+ghost use Rattle.html_dom_link.specs.LinkTargets.{live_hrefs_view};
+ghost use Rattle.html_dom_link.specs.Links.{dead_link, href_of, node_dead_links, nodes_dead_links};
+ghost use Rattle.html_dom_link.specs.UsedNames.{used_in};
 
-use crate::links::{LinkTargets, dest_past, open_dest};
-use crate::places::all_place_names;
+use crate::bases::base_is_elsewhere;
+use crate::links::{LinkTargets, dest_past, name_of, open_dest};
+use crate::names::is_used;
+use crate::places::{all_place_names, place_names};
+use crate::spellings::leading_href;
 use html_dom_document::HtmlDocument;
 use html_dom_tree::{HtmlElement, HtmlNode, Location, Span};
 use std::alloc::{AllocError, Global};
+use std::collections::BTreeSet;
 
 /// A link of a document that leads nowhere.
 #[derive(Clone, Copy, Debug, PartialEq, Eq, Hash)]
@@ -24,11 +29,18 @@ pub struct DeadLink {
     pub dest: Location,
 }
 
-/// Returns the links of a document that have no `href` and lead nowhere, in document order: their
-/// destination has no anchor or an empty one, or other places have both encodings of its name as
-/// their names ([`resolve_links`](crate::resolve_links)). `resolve_links` leaves exactly these as
-/// they are. If there are none, each link behind a start tag with a destination leads once links
-/// are resolved. Fails only if an allocation fails.
+/// Returns the links of a document that have no `href` and will lead nowhere in a browser, in
+/// document order:
+///
+/// - their destination has no anchor or an empty one, or other places have both encodings of its
+///   name as their names: [`resolve_links`](crate::resolve_links) leaves exactly these as they are;
+/// - that anchor stands in a `template` alone, where a browser finds no place (HTML Standard
+///   4.12.3);
+/// - all of them, if a `base` leads fragments elsewhere ([`base_of`](crate::base_of)).
+///
+/// If there are none, each link behind a start tag with a destination leads once links are
+/// resolved. Look before they are: a link that has an `href` is none of these. Fails only if an
+/// allocation fails.
 ///
 /// ```
 /// use typst_html::{DocumentInfo, HtmlElem, Item, Location, Span};
@@ -52,29 +64,66 @@ pub fn dead_links(alloc: Global, document: &HtmlDocument) -> Result<Vec<DeadLink
         links.items ≡ [] → EveryLinkLeads (document_view document.now)) }
 {
     let places = all_place_names(alloc, document.root())?;
-    let targets = LinkTargets {
-        known: document.introspector(),
-        places: &places,
+    let names = found_names(alloc, document.root())?;
+    let found = FoundTargets {
+        targets: LinkTargets {
+            known: document.introspector(),
+            places: &places,
+        },
+        names: &names,
     };
     let mut dead = Vec::new(alloc);
-    add_nodes(&document.root().children, alloc, targets, &mut dead)?;
+    add_nodes(&document.root().children, alloc, found, &mut dead)?;
     Ok(dead)
+}
+
+/// The targets of links, and the names of those that a browser finds.
+#[derive(Clone, Copy)]
+pub(crate) struct FoundTargets<'a> {
+    pub(crate) targets: LinkTargets<'a>,
+    pub(crate) names: &'a BTreeSet<String>,
+}
+
+impl FoundTargets<'_> {
+    fn href(self, alloc: Global, dest: Option<Location>) -> Result<Option<String>, AllocError>
+        ensures { IfOk result (λ href. option_map text_view href
+            ≡ href_of (live_hrefs_view self.entry) (option_map (λ l. l.0) dest)) }
+    {
+        match name_of(self.targets.known, dest) {
+            Some(name) if is_used(self.names, name) => {
+                leading_href(alloc, self.targets.places, name.as_str())
+            }
+            _ => Ok(None),
+        }
+    }
+}
+
+/// Returns the names of the places that a browser finds from links to fragments: none if a `base`
+/// leads them away, and none of a `template`.
+fn found_names(alloc: Global, root: &HtmlElement) -> Result<BTreeSet<String>, AllocError>
+    ensures { IfOk result (λ names. used_in names ≡ is_found (element_view root.now)) }
+{
+    if base_is_elsewhere(root) {
+        Ok(BTreeSet::new(alloc))
+    } else {
+        place_names(alloc, root)
+    }
 }
 
 fn add_link(
     alloc: Global,
-    targets: LinkTargets<'_>,
+    found: FoundTargets<'_>,
     dest: Option<Location>,
     span: Span,
     dead: &mut Vec<DeadLink>,
 ) -> Result<(), AllocError>
     ensures { OnOk result (dead_links_view dead.new.items ≡ dead_links_view dead.old.items
-        ++ dead_link (hrefs_view targets.entry) (option_map (λ l. l.0) dest) span.0) }
+        ++ dead_link (live_hrefs_view found.entry) (option_map (λ l. l.0) dest) span.0) }
 {
     let Some(there) = dest else {
         return Ok(());
     };
-    if targets.href(alloc, dest)?.is_none() {
+    if found.href(alloc, dest)?.is_none() {
         dead.push(DeadLink { span, dest: there })?;
     }
     Ok(())
@@ -88,18 +137,18 @@ fn add_link(
 fn add_element(
     element: &HtmlElement,
     alloc: Global,
-    targets: LinkTargets<'_>,
+    found: FoundTargets<'_>,
     dest: Option<Location>,
     dead: &mut Vec<DeadLink>,
 ) -> Result<(), AllocError>
     ensures { let e = element_view element.now in
         OnOk result (dead_links_view dead.new.items ≡ dead_links_view dead.old.items
-        ++ node_dead_links (hrefs_view targets.entry) (option_map (λ l. l.0) dest)
+        ++ node_dead_links (live_hrefs_view found.entry) (option_map (λ l. l.0) dest)
         (element_node e.0 e.1)) }
 {
     let open = open_dest(element, dest);
-    add_link(alloc, targets, open, element.span, dead)?;
-    add_nodes(&element.children, alloc, targets, dead)?;
+    add_link(alloc, found, open, element.span, dead)?;
+    add_nodes(&element.children, alloc, found, dead)?;
     Ok(())
 }
 
@@ -108,16 +157,16 @@ fn add_element(
 fn add_node(
     child: &HtmlNode,
     alloc: Global,
-    targets: LinkTargets<'_>,
+    found: FoundTargets<'_>,
     dest: Option<Location>,
     dead: &mut Vec<DeadLink>,
 ) -> Result<(), AllocError>
     ensures { OnOk result (dead_links_view dead.new.items ≡ dead_links_view dead.old.items
-        ++ node_dead_links (hrefs_view targets.entry) (option_map (λ l. l.0) dest)
+        ++ node_dead_links (live_hrefs_view found.entry) (option_map (λ l. l.0) dest)
         (node_view child.now)) }
 {
     match child {
-        HtmlNode::Element(element) => add_element(element, alloc, targets, dest, dead),
+        HtmlNode::Element(element) => add_element(element, alloc, found, dest, dead),
         HtmlNode::Tag(_) | HtmlNode::Text(_, _) | HtmlNode::Frame(_) => Ok(()),
     }
 }
@@ -126,15 +175,15 @@ fn add_node(
 fn add_nodes(
     nodes: &[HtmlNode],
     alloc: Global,
-    targets: LinkTargets<'_>,
+    found: FoundTargets<'_>,
     dead: &mut Vec<DeadLink>,
 ) -> Result<(), AllocError>
     ensures { OnOk result (dead_links_view dead.new.items ≡ dead_links_view dead.old.items
-        ++ nodes_dead_links (hrefs_view targets.entry) [] (nodes_view nodes.now)) }
+        ++ nodes_dead_links (live_hrefs_view found.entry) [] (nodes_view nodes.now)) }
 {
     let mut dest = None;
     for child in nodes {
-        add_node(child, alloc, targets, dest, dead)?;
+        add_node(child, alloc, found, dest, dead)?;
         dest = dest_past(dest, child);
     }
     Ok(())

@@ -3,7 +3,7 @@
 ghost use Rattle.html_dom_link.specs.Answered.{AnswersAreShown, AnswersAreFirstIds, StaysFrameFree, NoTargetNoChange};
 ghost use Rattle.html_dom_link.specs.Distinct.{AnchorsStayDistinct, AllNamesStay};
 ghost use Rattle.html_dom_link.specs.Fresh.{NamesAreNew, IsFirstFree};
-ghost use Rattle.html_dom_link.specs.LinkLaws.{LeadingHrefsLead, LeftAreDead, NamesStay, PlainHrefsLead};
+ghost use Rattle.html_dom_link.specs.LinkLaws.{DeadAreLeft, LeadingHrefsLead, LeftAreDead, LeftLinksAreDead, NamesStay, PlainHrefsLead};
 ghost use Rattle.html_dom_link.specs.Seen.{StaysSeen};
 ghost use Rattle.html_dom_link.specs.Serving.{AnchorsServe};
 ghost use Rattle.html_dom_link.specs.Undone.{ComesBack};
@@ -81,10 +81,13 @@ pub fn names_stay()
 {}
 
 /// The links left without an `href` are exactly those to whose destination none leads, so none is
-/// left if no link is dead.
-#[tactic(auto, using(crate::proofs::LeadingLinks::left_are_dead))]
+/// left if no link is dead. In a document where no `base` leads elsewhere and no known anchor stands
+/// in a `template`, no other link is dead.
+#[tactic(auto, using(crate::proofs::LeadingLinks::left_are_dead, crate::proofs::FoundLinks::dead_are_left))]
 pub fn left_are_dead()
-    ensures { LeftAreDead }
+    ensures nodes { LeftAreDead }
+    ensures document { LeftLinksAreDead }
+    ensures exact { DeadAreLeft }
 {}
 
 /// Adding anchors with new names keeps the names of a tree distinct. Each call that makes names

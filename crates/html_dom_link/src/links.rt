@@ -68,6 +68,8 @@ impl LinkTargets<'_> {
 ///
 /// Names in a `template` count here, but a browser finds none there; and a `base` that leads
 /// elsewhere ([`base_of`](crate::base_of)) counts for nothing here, but leads all these links away.
+/// [`dead_links`], called before, reports these links too; each other link that gets an `href` leads
+/// a browser to the place.
 ///
 /// Takes time linear in the size of the tree, and for each place and each link logarithmic in the
 /// number of places.

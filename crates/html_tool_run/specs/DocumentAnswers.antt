@@ -2,7 +2,8 @@
 use Rattle.std.specs.Prelude.{ℕ, Bool, List, [], ◌++◌, map, Option, Some, None, option_map, Result, Ok, Err, String, if◌then◌else◌}
 use Rattle.std.specs.declared.alloc.Global.{Global}
 use Rattle.html_dom_document.specs.Documents.{DocumentView, document_root}
-use Rattle.html_dom_link.specs.Links.{DeadLinkView, document_dead_links, document_with_links}
+use Rattle.html_dom_link.specs.FoundAnchors.{document_dead_links}
+use Rattle.html_dom_link.specs.Links.{DeadLinkView, document_with_links}
 use Rattle.html_dom_tree.specs.Tree.{ElementView}
 use Rattle.html_flow_convert.specs.LoneNode.{node_list}
 use Rattle.typst_html_encode.specs.FaultViews.{ExportFaultView}

@@ -171,9 +171,10 @@ fn dead_links_of(alloc: Global, limit: u32, input: &[u8]) -> Result<String, Faul
     Ok(dead_links_text(alloc, &made.dead_links)?)
 }
 
-/// Reports in JSON which links of the document that the input spells lead nowhere: those that stay
-/// without an `href` in the text of [`typst_html_document`] with links 1. Writes the report into
-/// the buffer, if it fits:
+/// Reports in JSON which links of the document that the input spells lead nowhere in the text of
+/// [`typst_html_document`] with links 1 ([`dead_links`](html_dom_link::dead_links)): those that stay
+/// without an `href`, those to a place in a `template`, and all if a `base` leads them elsewhere.
+/// Writes the report into the buffer, if it fits:
 ///
 /// ```json
 /// {"dead_links":[{"destination":7,"span":3}]}

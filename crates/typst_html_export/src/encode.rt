@@ -14,8 +14,9 @@ ghost use Rattle.typst_html_encode.specs.Text.{document_text};
 ghost use Rattle.typst_html_encode.specs.Endings.{Gives};
 ghost use Rattle.html_dom_document.specs.Documents.{document_root};
 ghost use Rattle.html_dom_link.specs.Distinct.{GivenLinksLeadToOne, IdsAreDistinct};
+ghost use Rattle.html_dom_link.specs.FoundAnchors.{LiveLinksLead};
 ghost use Rattle.html_dom_link.specs.GivenLinks.{AnchorsAreTexts, GivenLinksLead, links_without};
-ghost use Rattle.html_dom_link.specs.Links.{document_dead_links};
+ghost use Rattle.html_dom_link.specs.Links.{document_links_left};
 ghost use Rattle.html_flow_convert.specs.Views.{items_view};
 ghost use Rattle.typst_html_spaces.specs.CleanItems.{are_clean_items};
 ghost use Rattle.typst_html_export.specs.Assembled.{assembled_document};
@@ -220,8 +221,10 @@ pub fn export_with_head<F: FrameWriter>(
 /// Each link that got an `href` leads: the fragment that a browser takes from it indicates its
 /// destination's anchor, in the tree and, if the text reads back as [`html_in_bundle`] says, in the
 /// text as read; if the tree's own ids differ, exactly one of them is that name. A link to whose
-/// destination nothing leads gets none; [`dead_links`](html_dom_link::dead_links) reports it for
-/// the document. Spaces stay and clean items are written, as by `export`.
+/// destination nothing leads gets none. [`dead_links`](html_dom_link::dead_links) reports it for
+/// the document, and with it each link whose `href` leads nowhere in a browser: all if a `base`
+/// leads them elsewhere, and those to anchors in a `template`. Spaces stay and clean items are
+/// written, as by `export`.
 ///
 /// ```
 /// use typst_html::{DocumentInfo, HtmlElem, HtmlOptions, Item, Location};
@@ -265,8 +268,13 @@ pub fn export_linked<F: FrameWriter>(
     ensures spaces { IfOk result (λ text. SpacesAreSeen (text_view text)
         (items_view items.now) (items_view footnotes.now)) }
 
-    // Each link that got an `href` leads, in the tree and in the text as it is read, and the names
-    // that they may lead to are texts; the other links are dead.
+    // Each link that got an `href` leads a browser, unless `dead_links` reports it of the document;
+    // it leads among all names of the tree, and of the text as it is read, and the names that they
+    // may lead to are texts. The other links are those to whose destination no `href` leads.
+    ensures live { let info = info_view info.now in
+        let items = items_view items.now in let notes = items_view footnotes.now in
+        OnOk result (LiveLinksLead (linked_document info items notes)
+        (resolved_document info items notes)) }
     ensures leads { let info = info_view info.now in
         let items = items_view items.now in let notes = items_view footnotes.now in
         OnOk result (GivenLinksLead (linked_document info items notes)
@@ -282,7 +290,7 @@ pub fn export_linked<F: FrameWriter>(
     ensures left { let info = info_view info.now in
         let items = items_view items.now in let notes = items_view footnotes.now in
         OnOk result (links_without (resolved_root info items notes).1
-        ≡ document_dead_links (linked_document info items notes)) }
+        ≡ document_links_left (linked_document info items notes)) }
 
     // If the ids of the tree differ before it has anchors, all of the written tree do, and each of
     // these links leads to a name that only one place has.

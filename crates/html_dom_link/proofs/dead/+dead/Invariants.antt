@@ -3,13 +3,13 @@ use Rattle.std.specs.Prelude.{option_map}
 use Rattle.html_dom_tree.specs.Tree.{NodeView}
 use Rattle.html_dom_tree.specs.Views.{nodes_view}
 use Rattle.html_dom_link.specs.DeadLinks.{dead_links_view}
-use Rattle.html_dom_link.specs.LinkTargets.{hrefs_view}
+use Rattle.html_dom_link.specs.LinkTargets.{live_hrefs_view}
 use Rattle.html_dom_link.specs.Links.{dest_before, nodes_dead_links}
 use Rattle.html_dom_link.proofs.dead.+dead.Given as goal
 
 abbrev pub invariant-add_nodes-loop-child : goal.invariant-add_nodes-loop-child
 invariant-add_nodes-loop-child l =
-    let hrefs = hrefs_view l.targets in
+    let hrefs = live_hrefs_view l.found in
     (before : List NodeView) × record {
       behind : option_map (λ d. d.0) l.dest ≡ dest_before before;
       agrees : dead_links_view l.dead.items

@@ -1,5 +1,5 @@
 use Rattle.std.proofs.Common.{rules}
-use Rattle.html_dom_link.proofs.GivenLinks.{every_link_leads}
+use Rattle.html_dom_link.proofs.FoundLinks.{every_link_leads}
 use Rattle.html_dom_link.proofs.dead.dead_links.Goals as goal
 
 pub returns-clause-dead : goal.returns-clause-dead

@@ -9,6 +9,7 @@ use Rattle.html_dom_link.specs.Indicated.{element_places}
 use Rattle.html_dom_link.specs.Links.{anchor_hrefs, document_hrefs, nodes_with_links}
 use Rattle.html_dom_link.specs.MadeDocuments.{with_children}
 use Rattle.html_dom_link.specs.UsedNames.{used_in}
+use Rattle.html_dom_link.proofs.FoundLinks.{document_live_links_lead}
 use Rattle.html_dom_link.proofs.GivenLinks.{document_links_lead, left_in_document, links_lead_to_one, links_stay_distinct}
 use Rattle.html_dom_link.proofs.MovedRoots.{put_again}
 use Rattle.html_dom_link.proofs.Serving.{still_serves}
@@ -36,6 +37,7 @@ returns c =
     ∙ (put_again d none kids ∙ ap (λ ns. with_children ns d) made)) in
     record {
       ok = is;
+      live = document_live_links_lead c.args.document _ is;
       leads = document_links_lead c.args.document _ is;
       left = left_in_document d _ is;
       serves = still_serves d _ is;

@@ -1,6 +1,7 @@
 use Rattle.std.proofs.Common.{◌≡◌, [], ap, ◌∙◌}
 use Rattle.html_dom_document.specs.Views.{document_view}
-use Rattle.html_dom_link.specs.Links.{document_dead_links, document_with_links}
+use Rattle.html_dom_link.specs.FoundAnchors.{document_dead_links}
+use Rattle.html_dom_link.specs.Links.{document_with_links}
 use Rattle.typst_html_encode.specs.FrameWriters.{no_frames}
 use Rattle.typst_html_export.proofs.FaultsInOrder.{exported}
 use Rattle.typst_html_export.specs.Assembled.{items_document_faults}

@@ -2,6 +2,7 @@ use Rattle.std.proofs.Common.{ap, ◌∙◌}
 use Rattle.html_dom_document.specs.Documents.{DocumentView, document_root}
 use Rattle.html_dom_document.specs.Views.{document_view, info_view}
 use Rattle.html_dom_link.specs.Distinct.{GivenLinksLeadToOne, IdsAreDistinct}
+use Rattle.html_dom_link.specs.FoundAnchors.{LiveLinksLead}
 use Rattle.html_dom_link.specs.GivenLinks.{AnchorsAreTexts, GivenLinksLead}
 use Rattle.html_names.specs.Names.{stands_in}
 use Rattle.html_dom_link.specs.Indicated.{element_places}
@@ -67,6 +68,11 @@ returns-clause-spaces g c =
     c.html_of_made.ensures.reads_indented
     (spaces_are_left_with_links info items notes (document_hrefs d)
     (document_view c.in_ok-document.document) is)
+
+pub returns-clause-live : goal.returns-clause-live
+returns-clause-live g c =
+    holds_as LiveLinksLead c.html_of_made.result (document_view c.in_ok-made.made) _ _
+    c.in_ok-made.ensures.made.made c.in_ok-document.ensures.ok c.in_ok-document.ensures.live
 
 pub returns-clause-leads : goal.returns-clause-leads
 returns-clause-leads g c =
