@@ -73,8 +73,9 @@ def document(given: bytes) -> bytes | None:
 
 
 def dead_links(output: str) -> list[dict[str, int]]:
-    """Returns the links of a row `dead-links`, which has the span and the destination of each."""
-    pairs = [map(int, one.split(" to ")) for one in output.split(", ") if one]
+    """Returns the links of a row `dead-links`, which has the span and the destination of each, and may end in brackets with those
+    that get no `href`."""
+    pairs = [map(int, one.split(" to ")) for one in output.split(" [")[0].split(", ") if one]
     return [{"destination": destination, "span": span} for span, destination in pairs]
 
 
