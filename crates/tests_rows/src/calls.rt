@@ -40,6 +40,11 @@
 //! - `dead-links`: the span and the destination of each
 //! - `distinct-ids`: whether the ids differ
 //!
+//! For the calls that fill a list, whose spelling [`lists`] describes:
+//!
+//! - `list-lines`: the lines that its page shows, but for empty ones, with `/` between them
+//! - `list-page`: the content of the body, with the notes at the end and with links resolved
+//!
 //! For a page, of which the input is the text behind the document type:
 //!
 //! - `read [limit=N]`: the text of the tree that is read, or `same` if that is the input;
@@ -65,7 +70,7 @@
 //!
 //! A refusal is `refused`, its number, `at` and its span.
 
-use crate::{checks, documents, kinds, nodes, pages, replies, runs};
+use crate::{checks, documents, kinds, lists, nodes, pages, replies, runs};
 use anyhow::Result;
 use std::alloc::Global;
 use tests_rows_run::{Caller, Row};
@@ -97,6 +102,8 @@ impl Caller for Library {
             "positions" => documents::positions(alloc, row),
             "dead-links" => checks::dead_link_list(alloc, row),
             "distinct-ids" => checks::have_distinct_ids(alloc, row),
+            "list-lines" => lists::lines(alloc, row),
+            "list-page" => lists::page(alloc, row),
             "read" => pages::read(alloc, row),
             "as-browsers" => pages::as_browsers(alloc, row),
             "page-places" => pages::element_places(alloc, row),

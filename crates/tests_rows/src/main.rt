@@ -25,6 +25,7 @@ mod calls;
 mod checks;
 mod documents;
 mod kinds;
+mod lists;
 mod nodes;
 mod pages;
 mod replies;
