@@ -1,12 +1,12 @@
 -- The walk finds what the definition says.
-use Rattle.std.proofs.Common.{◌≡◌, ℕ, suc, ◌+◌, ◌≤◌, ◌<◌, List, [], ◌∷◌, ◌++◌, length, get_or, drop, refl, ap, sym, ◌∙◌, add-one}
-use Rattle.std.specs.Prelude.{if◌then◌else◌, Some}
+use Rattle.std.proofs.Common.{◌≡◌, ℕ, suc, ◌+◌, ◌≤◌, ◌<◌, List, [], ◌∷◌, ◌++◌, refl, ap, sym, ◌∙◌, add-one, true≢false}
+use Rattle.std.specs.Prelude.{if◌then◌else◌, IfOk, IsOk, OnOk, Result, Ok, Err, Some}
 use Rattle.std.proofs.lemmas.Bool.{le-ltb, lt-ltb}
-use Rattle.std.proofs.lemmas.List.{drop_all}
+use Rattle.std.proofs.lemmas.List.{append-nil}
+use Rattle.std.proofs.lemmas.Result.{IfOk-weaker}
 use Rattle.html_dom_tree.specs.Tree.{Head, NodeView, tag_node, text_node, element_node, frame_node, NodesView, none, node, ElementView}
 use Rattle.html_dom_tree.specs.Views.{node_view, nodes_view}
 use Rattle.html_dom_tree.specs.declared.node.HtmlNode.{HtmlNode}
-use Rattle.html_dom_tree.proofs.Nodes.{nodes_view-drop}
 use Rattle.html_dom_tree.proofs.Taking.{both_taken, same_taken}
 use Rattle.html_dom_tree.specs.Taking.{Takes}
 use Rattle.html_dom_nest.specs.Ancestors.{Ancestor, ancestor}
@@ -16,6 +16,16 @@ use Rattle.html_dom_nest.specs.Surroundings.{surroundings_of}
 use Rattle.html_dom_nest.specs.Walks.{node_walk, nodes_walk, surroundings_in}
 use Rattle.html_dom_nest.specs.declared.misnesting.Misnesting.TheVariants as rule
 use Rattle.html_dom_nest.specs.declared.surroundings.Surroundings.{Surroundings}
+
+-- a walk that ended has taken all
+pub walk_ended : {S Made U E F : Type 0} (made : S → List Finding → Made) (first last : S)
+    (fs : List Finding) (passed : Result U E) (r : Result S F) →
+    OnOk passed (Takes (made first) (made last) fs) →
+    IfOk r (λ given. IsOk passed × (given ≡ last)) → IfOk r (λ given. made given [] ≡ made first fs)
+walk_ended made first last fs (Ok u) r taken ended = IfOk-weaker r _ _
+    (λ given is. ap (λ s. made s []) is.1 ∙ (taken [] ∙ ap (made first) (append-nil fs))) ended
+walk_ended made first last fs (Err e) r taken ended =
+    IfOk-weaker r _ _ (λ given is. absurd (true≢false (sym is.0))) ended
 
 -- what an element is to its children follows from what its own ancestors are to it
 pub inside_is : (h : Head) (above : List Ancestor) →
@@ -43,24 +53,22 @@ mutual
       (node_found (path ++ i ∷ []) above n)
       ∙ ap (λ fs. node_misnested (path ++ i ∷ []) above n ++ fs) (nodes_found path (suc i) above ns)
 
--- nodes from an index on are the one there, and those behind it
-pub walked_in_turn : (around : Surroundings) (path : List ℕ) (ns : List HtmlNode) (i : ℕ)
-    (x : HtmlNode) → i < length ns → x ≡ get_or ns i x →
-    nodes_walk path i around (nodes_view (drop i ns))
+-- nodes are the first, and those behind it
+pub walked_in_turn : (around : Surroundings) (path : List ℕ) (i : ℕ) (ns later : List HtmlNode)
+    (x : HtmlNode) → ns ≡ x ∷ later → nodes_walk path i around (nodes_view ns)
     ≡ node_walk (path ++ i ∷ []) around (node_view x)
-    ++ nodes_walk path (i + 1) around (nodes_view (drop (i + 1) ns))
+    ++ nodes_walk path (i + 1) around (nodes_view later)
 unfolding nodes_walk
-walked_in_turn around path ns i x within is =
-    ap (nodes_walk path i around) (nodes_view-drop ns i x within is)
+walked_in_turn around path i ns later x is =
+    ap (λ xs. nodes_walk path i around (nodes_view xs)) is
     ∙ ap (λ k. node_walk (path ++ i ∷ []) around (node_view x)
-    ++ nodes_walk path k around (nodes_view (drop (i + 1) ns))) (sym (add-one i))
+    ++ nodes_walk path k around (nodes_view later)) (sym (add-one i))
 
--- behind the last there are none
-pub none_walked : (around : Surroundings) (path : List ℕ) (ns : List HtmlNode) (i : ℕ) →
-    length ns ≤ i → nodes_walk path i around (nodes_view (drop i ns)) ≡ []
+-- where there are none, none is found
+pub none_walked : (around : Surroundings) (path : List ℕ) (i : ℕ) (ns : List HtmlNode) →
+    ns ≡ [] → nodes_walk path i around (nodes_view ns) ≡ []
 unfolding nodes_walk
-none_walked around path ns i past =
-    ap (λ xs. nodes_walk path i around (nodes_view xs)) (drop_all i ns past)
+none_walked around path i ns is = ap (λ xs. nodes_walk path i around (nodes_view xs)) is
 
 -- the findings of a whole tree: those of the root, and those of its children
 pub tree_taken : {Made : Type 0} (e : ElementView) (old between new : List Finding → Made)

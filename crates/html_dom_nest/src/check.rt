@@ -5,6 +5,7 @@ ghost use Rattle.html_dom_tree.specs.Views.{element_view};
 ghost use Rattle.html_dom_nest.specs.MisnestedViews.{findings_view};
 ghost use Rattle.html_dom_nest.specs.Misnested.{misnested_nodes};
 
+use crate::consumed::walk_tree_of;
 use crate::finding::Misnested;
 use crate::misnested_sink::MisnestedSink;
 use crate::walk::walk_tree;
@@ -58,4 +59,18 @@ pub fn report_misnested<S: MisnestedSink>(
         S.made_with given [] ≡ S.made_with sink (misnested_nodes (element_view root.now))) }
 {
     walk_tree(alloc, root, sink)
+}
+
+/// Consumes a tree and reports its misnested nodes as [`report_misnested`] does. Frees the nodes on
+/// the way, which leaves room for what the sink keeps: a node once it and its content are passed,
+/// and the list in which it stood in steps of 4,096 nodes.
+pub fn report_misnested_of<S: MisnestedSink>(
+    alloc: Global,
+    root: HtmlElement,
+    sink: S,
+) -> Result<S, Refused<S>>
+    ensures { IfOk result (λ given.
+        S.made_with given [] ≡ S.made_with sink (misnested_nodes (element_view root))) }
+{
+    walk_tree_of(alloc, root, sink)
 }

@@ -5,6 +5,7 @@
 mod body;
 mod capitals;
 mod check;
+mod consumed;
 pub mod content;
 mod element;
 mod finding;
@@ -19,7 +20,7 @@ mod texts;
 mod walk;
 mod written;
 
-pub use check::{misnested, report_misnested};
+pub use check::{misnested, report_misnested, report_misnested_of};
 pub use finding::Misnested;
 pub use misnested_sink::MisnestedSink;
 pub use misnesting::Misnesting;

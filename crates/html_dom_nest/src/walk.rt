@@ -1,6 +1,6 @@
 //! The walk over a tree that finds its misnested nodes.
 
-ghost use Rattle.std.specs.Prelude.{◌≡◌, ◌≤◌, ◌++◌, [], ◌∷◌, ℕ, List, IfOk, OnOk, Some};
+ghost use Rattle.std.specs.Prelude.{◌≡◌, ◌≤◌, ◌++◌, [], ◌∷◌, ℕ, List, IfOk, IsOk, OnOk, Some};
 ghost use Rattle.html_dom_tree.specs.Taking.{Takes};
 ghost use Rattle.html_dom_tree.specs.Tree.{element_node};
 ghost use Rattle.html_dom_tree.specs.Views.{element_view, node_view, nodes_view};
@@ -19,14 +19,39 @@ use html_names::Refused;
 use std::alloc::{AllocError, Global};
 
 /// The greatest number of ancestors with which browsers leave an element where it is.
-const MOST_ANCESTORS: usize = 512;
+pub(crate) const MOST_ANCESTORS: usize = 512;
 
 /// A walk over a tree that finds its misnested nodes.
 #[derive(Drop)]
-struct NestingWalk<S> {
+pub(crate) struct NestingWalk<S> {
     alloc: Global,
-    path: Vec<usize>,
+    pub(crate) path: Vec<usize>,
     sink: S,
+}
+
+impl<S: MisnestedSink> NestingWalk<S> {
+    /// Returns a walk that begins at a root.
+    pub(crate) fn new(alloc: Global, sink: S) -> NestingWalk<S>
+        ensures path { result.path.items ≡ [] }
+        ensures sink { result.sink ≡ sink }
+    {
+        NestingWalk {
+            alloc,
+            path: Vec::new(alloc),
+            sink,
+        }
+    }
+
+    /// Returns the sink of a walk that went that way.
+    pub(crate) fn finish(self, passed: Result<(), AllocError>) -> Result<S, Refused<S>>
+        ensures { IfOk result (λ given. IsOk passed × (given ≡ self.sink)) }
+    {
+        let NestingWalk { sink, .. } = self;
+        match passed {
+            Ok(()) => Ok(sink),
+            Err(AllocError) => Err(Refused { back: sink }),
+        }
+    }
 }
 
 /// Reports the misnested nodes of a tree to a sink, and returns the sink.
@@ -38,17 +63,9 @@ pub(crate) fn walk_tree<S: MisnestedSink>(
     ensures { IfOk result (λ given.
         S.made_with given [] ≡ S.made_with sink (misnested_nodes (element_view root.now))) }
 {
-    let mut walk = NestingWalk {
-        alloc,
-        path: Vec::new(alloc),
-        sink,
-    };
+    let mut walk = NestingWalk::new(alloc, sink);
     let passed = pass_tree(root, &mut walk);
-    let NestingWalk { sink, .. } = walk;
-    match passed {
-        Ok(()) => Ok(sink),
-        Err(_) => Err(Refused { back: sink }),
-    }
+    walk.finish(passed)
 }
 
 fn pass_tree<S: MisnestedSink>(
@@ -62,7 +79,7 @@ fn pass_tree<S: MisnestedSink>(
     pass_nodes(&root.children, &inside, walk)
 }
 
-fn leave(path: &mut Vec<usize>)
+pub(crate) fn leave(path: &mut Vec<usize>)
     ensures { (parent : List ℕ) → (index : ℕ) → path.old.items ≡ parent ++ index ∷ [] →
         path.new.items ≡ parent }
 {
@@ -70,7 +87,7 @@ fn leave(path: &mut Vec<usize>)
 }
 
 #[inline(never)]
-fn report<S: MisnestedSink>(
+pub(crate) fn report<S: MisnestedSink>(
     span: Span,
     why: Misnesting,
     walk: &mut NestingWalk<S>,
@@ -100,7 +117,7 @@ fn report_any<S: MisnestedSink>(
 /// Reports what an element breaks, and returns the surroundings of its children. Its locals stay out
 /// of the frame of the recursive walk, of which each level has one.
 #[inline(never)]
-fn pass_own<S: MisnestedSink>(
+pub(crate) fn pass_own<S: MisnestedSink>(
     element: &HtmlElement,
     around: &Surroundings,
     walk: &mut NestingWalk<S>,
@@ -119,7 +136,7 @@ fn pass_own<S: MisnestedSink>(
 }
 
 /// Reports what a root breaks, and returns the surroundings of its children.
-fn pass_root<S: MisnestedSink>(
+pub(crate) fn pass_root<S: MisnestedSink>(
     root: &HtmlElement,
     walk: &mut NestingWalk<S>,
 ) -> Result<Surroundings, AllocError>
@@ -158,7 +175,7 @@ fn pass_element<S: MisnestedSink>(
 
 #[cycle(walk)]
 #[tactic(auto, unfolding(crate::specs::Walks::node_walk))]
-fn pass_node<S: MisnestedSink>(
+pub(crate) fn pass_node<S: MisnestedSink>(
     child: &HtmlNode,
     around: &Surroundings,
     walk: &mut NestingWalk<S>,

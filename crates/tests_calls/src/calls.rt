@@ -6,7 +6,7 @@ use html_dom_findings::{
     DeadFragment, RepeatedId, Wanted, report_dead_fragments, report_repeated_ids, report_texts,
 };
 use html_dom_link::{decoded_fragment, fragment_in, fragment_leads, place_in, place_names};
-use html_dom_nest::misnested;
+use html_dom_nest::{Misnested, misnested, report_misnested_of};
 use html_flow_convert::ConversionLevel;
 use html_tool_run::{Settings, text_of_document, text_of_fragment, unused_of_document};
 use html_tool_spell::{document_in, document_items_in, element_in, items_in};
@@ -29,6 +29,7 @@ const C_LIMIT: u32 = 9;
 #[derive(Clone, Copy, Debug)]
 pub(crate) enum TreeCall {
     Misnested,
+    ReportMisnestedOf,
     PlaceNames,
     ReportDeadFragments,
     ReportRepeatedIds,
@@ -94,8 +95,9 @@ pub(crate) enum Call {
 }
 
 /// All of these calls.
-pub(crate) const CALLS: [Call; 27] = [
+pub(crate) const CALLS: [Call; 28] = [
     Call::Tree(TreeCall::Misnested),
+    Call::Tree(TreeCall::ReportMisnestedOf),
     Call::Tree(TreeCall::PlaceNames),
     Call::Tree(TreeCall::ReportDeadFragments),
     Call::Tree(TreeCall::ReportRepeatedIds),
@@ -143,6 +145,10 @@ impl TreeCall {
         let root = &given.root;
         match self {
             TreeCall::Misnested => Ok(misnested(alloc, root)?.len() == 1),
+            TreeCall::ReportMisnestedOf => {
+                let sink: Vec<Misnested> = Vec::new(alloc);
+                Ok(report_misnested_of(alloc, root.try_clone()?, sink)?.len() == 1)
+            }
             TreeCall::PlaceNames => Ok(place_names(alloc, root)?.len() == 2),
             TreeCall::ReportDeadFragments => {
                 let sink: Vec<DeadFragment> = Vec::new(alloc);

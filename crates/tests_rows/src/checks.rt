@@ -8,7 +8,7 @@ use html_dom_findings::{dead_fragments, repeated_ids};
 use html_dom_link::{
     DeadLink, dead_links, decoded_fragment, href_is_script, ids_are_distinct, place_in,
 };
-use html_dom_nest::misnested;
+use html_dom_nest::{misnested, report_misnested_of};
 use serde_json::Value;
 use std::alloc::Global;
 use std::collections::BTreeSet;
@@ -66,9 +66,14 @@ pub(crate) fn repeated_id_list(alloc: Global, row: &Row<'_>) -> Result<String> {
     Ok(text)
 }
 
+/// The result must be the same where the tree is consumed.
 pub(crate) fn misnested_list(alloc: Global, row: &Row<'_>) -> Result<String> {
+    let root = root_of(alloc, row)?;
+    let found = misnested(alloc, &root)?;
+    let consumed = report_misnested_of(alloc, root, Vec::new(alloc))?;
+    ensure!(found == consumed, "consumed: {consumed:?}");
     let mut text = String::new(alloc);
-    for node in &misnested(alloc, &root_of(alloc, row)?)? {
+    for node in &found {
         write!(text, "{:?} {:?};", node.path, node.why)?;
     }
     Ok(text)

@@ -1,5 +1,7 @@
 use Rattle.std.proofs.Common.{◌≡◌, ◌++◌, ◌∷◌, [], ap, ◌∙◌, refl}
+use Rattle.std.proofs.lemmas.List.{drop_all}
 use Rattle.std.proofs.lemmas.Result.{on_ok_weaker}
+use Rattle.html_names.proofs.Basics.{from_place}
 use Rattle.html_dom_tree.proofs.Basics.{node_view-Element}
 use Rattle.html_dom_tree.proofs.Taking.{all_left, all_taken, more_taken, same_taken}
 use Rattle.html_dom_tree.specs.Views.{element_view, nodes_view}
@@ -45,8 +47,9 @@ pass_nodes-loop-index-preserved g t c =
     c.in_ok-push.ensures.items ∙ ap (λ p. p ++ i ∷ []) held.path in
     record {
       path = c.leave.ensures parent i (c.in_ok-pass_node.ensures.path ∙ there);
-      taken = more_taken _ (walked_in_turn c.args.around.now parent c.args.nodes.now i
-          c.index-nodes-index.result c.loop-index-test.true c.index-nodes-index.is) held.taken
+      taken = more_taken _ (walked_in_turn c.args.around.now parent i _ _
+          c.index-nodes-index.result (from_place c.args.nodes.now i c.index-nodes-index.result
+          c.loop-index-test.true c.index-nodes-index.is)) held.taken
           (rw there at c.in_ok-pass_node.ensures.taken);
     }
 
@@ -55,5 +58,6 @@ pass_nodes-returns-clause-path g t c = c.loop-index.invariant.path
 
 pub pass_nodes-returns-clause-taken : goal.pass_nodes-returns-clause-taken
 pass_nodes-returns-clause-taken g t c =
-    all_taken (none_walked c.args.around.now c.args.walk.now.path.items c.args.nodes.now
-    c.loop-index.index c.loop-index-test.false) c.loop-index.invariant.taken
+    all_taken (none_walked c.args.around.now c.args.walk.now.path.items c.loop-index.index _
+    (drop_all c.loop-index.index c.args.nodes.now c.loop-index-test.false))
+    c.loop-index.invariant.taken
