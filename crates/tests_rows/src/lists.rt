@@ -48,12 +48,8 @@ pub(crate) fn lines(alloc: Global, row: &Row<'_>) -> Result<String> {
 fn exported(alloc: Global, row: &Row<'_>) -> Result<String> {
     let mut notes = Notes::new(alloc);
     let mut list = ItemList::new(alloc).spanned(Span(1));
-    add_all(
-        alloc,
-        &mut list,
-        &mut notes,
-        &Value::from_slice(alloc, &row.input)?,
-    )?;
+    let calls = Value::from_slice(alloc, &row.input)?;
+    add_all(array(&calls)?, alloc, &mut list, &mut notes)?;
     let (items, section) = (list.into_block_items(), notes.section()?);
     let (info, options) = (DocumentInfo::new(alloc), HtmlOptions::default());
     Ok(export_linked(alloc, &items, &info, &section, DEPTH_LIMIT, &options, &())?)
@@ -99,37 +95,54 @@ fn lines_of(alloc: Global, page: &PageText) -> Result<String> {
     Ok(lines)
 }
 
+// The calls come first among the parameters: their depth proves that the recursion ends.
+
 /// Makes the calls of a list that is spelled.
 #[cycle(list)]
-fn add_all(alloc: Global, list: &mut ItemList, notes: &mut Notes, calls: &Value) -> Result<()> {
-    for call in array(calls)? {
-        add(alloc, list, notes, call)?;
+fn add_all(calls: &[Value], alloc: Global, list: &mut ItemList, notes: &mut Notes) -> Result<()> {
+    for call in calls {
+        add(call, alloc, list, notes)?;
     }
     Ok(())
 }
 
 #[cycle(list)]
-fn add(alloc: Global, list: &mut ItemList, notes: &mut Notes, call: &Value) -> Result<()> {
-    let [kind, fields @ ..] = array(call)? else {
+fn add(call: &Value, alloc: Global, list: &mut ItemList, notes: &mut Notes) -> Result<()> {
+    let Value::Array(fields) = call else {
         bail!("a call is wanted");
     };
-    match (text_of(kind)?, fields) {
+    match fields.as_slice() {
+        [kind, tag, attrs, body, css @ ..] if kind.as_str() == Some("el") => {
+            let element = element_of(alloc, list, tag, attrs, css)?;
+            let element = with_body(body, alloc, list, notes, element)?;
+            list.element(element)?;
+        }
+        [kind, content] if kind.as_str() == Some("note") => {
+            let content = content_of(content, alloc, list, notes)?;
+            list.item(Pair::from(notes.mark(content, list.span())?))?;
+        }
+        [kind, key, content] if kind.as_str() == Some("set") => {
+            let content = content_of(content, alloc, list, notes)?;
+            let _ = notes.set(text_of(key)?, content);
+        }
+        [kind, fields @ ..] => add_leaf(alloc, list, notes, text_of(kind)?, fields)?,
+        [] => bail!("a call is wanted"),
+    }
+    Ok(())
+}
+
+/// Makes a call that takes no list.
+fn add_leaf(
+    alloc: Global,
+    list: &mut ItemList,
+    notes: &mut Notes,
+    kind: &str,
+    fields: &[Value],
+) -> Result<()> {
+    match (kind, fields) {
         ("text", [text]) => list.text(text_of(text)?)?,
         ("space", []) => list.space()?,
         ("break", []) => list.line_break()?,
-        ("el", [tag, attrs, body, css @ ..]) => {
-            let element = element_of(alloc, list, tag, attrs, css)?;
-            let element = with_body(alloc, list, notes, element, body)?;
-            list.element(element)?;
-        }
-        ("note", [content]) => {
-            let content = content_of(alloc, list, notes, content)?;
-            list.item(Pair::from(notes.mark(content, list.span())?))?;
-        }
-        ("set", [key, content]) => {
-            let content = content_of(alloc, list, notes, content)?;
-            let _ = notes.set(text_of(key)?, content);
-        }
         ("mark", [key]) => list.item(Pair::from(notes.mark_key(text_of(key)?, list.span())?))?,
         ("items", [items]) => {
             for item in items_of(alloc, items)? {
@@ -144,29 +157,33 @@ fn add(alloc: Global, list: &mut ItemList, notes: &mut Notes, call: &Value) -> R
 /// Returns the content of a note.
 #[cycle(list)]
 fn content_of(
+    calls: &Value,
     alloc: Global,
     around: &ItemList,
     notes: &mut Notes,
-    calls: &Value,
 ) -> Result<Vec<Pair>> {
+    let Value::Array(calls) = calls else {
+        bail!("a list is wanted");
+    };
     let mut list = around.new_list();
-    add_all(alloc, &mut list, notes, calls)?;
+    add_all(calls, alloc, &mut list, notes)?;
     Ok(list.into_block_items())
 }
 
 #[cycle(list)]
 fn with_body(
+    calls: &Value,
     alloc: Global,
     around: &ItemList,
     notes: &mut Notes,
     element: HtmlElem,
-    calls: &Value,
 ) -> Result<HtmlElem> {
-    if calls.is_null() {
+    let Value::Array(calls) = calls else {
+        ensure!(calls.is_null(), "a list is wanted");
         return Ok(element);
-    }
+    };
     let mut list = around.new_list();
-    add_all(alloc, &mut list, notes, calls)?;
+    add_all(calls, alloc, &mut list, notes)?;
     Ok(if makes_block(&element.css) || tag::is_whitespace_collapsing(&element.tag) {
         element.with_body(list.into_block_items())
     } else {
