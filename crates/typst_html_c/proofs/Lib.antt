@@ -1,4 +1,3 @@
 mod DeadLinks
 pub mod Pages
-mod TextPieces
 mod Faults

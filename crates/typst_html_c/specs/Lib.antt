@@ -7,5 +7,4 @@ pub mod PageFindings
 pub mod PageLinks
 pub mod PageSteps
 pub mod PageReports
-pub mod LongTexts
 pub mod Unused

@@ -25,7 +25,6 @@ mod lists;
 mod misnested;
 mod numbers;
 mod page;
-mod pieces;
 mod reply;
 mod report;
 
@@ -260,7 +259,6 @@ pub fn typst_html_unused(alloc: Global, limit: u32, input: &[u8], output: &mut [
 ///
 /// Cost: that of reading. Each list takes one more pass over the page, and each finding the length
 /// of its path. The findings are written as they are found: beside the report, two paths are held.
-/// The tree is freed while the misnested nodes are written.
 pub fn typst_html_check(alloc: Global, limit: u32, page: &[u8], output: &mut [u8]) -> Reply
     ensures answered { Reports (check_report limit page.now) output.old result output.new }
     ensures kept { ¬ (result.status ≡ 0) → output.new ≡ output.old }
