@@ -237,9 +237,9 @@ struct typst_html_reply typst_html_fragment(uint8_t level, uint32_t limit, const
  *     {"dead_links":[{"destination":n,"span":n},..]}
  * A destination is the `dest` of a start, or the number of the name of a link; the names of the
  * document are counted from 1, in the order in which they first occur. A span is the number of the
- * list of the `a`. Links to a place in a `template` are among them, and all links if a `base`
- * leads them elsewhere. Input, limit and refusals are those of typst_html_document. If every link
- * has a destination in the document, the list is empty and the status is 0.
+ * list of the `a`. Links to a place in a `template` alone are among them, and all links if a
+ * `base` leads them elsewhere. Input, limit and refusals are those of typst_html_document. If every
+ * link leads somewhere, the list is empty and the status is 0.
  */
 struct typst_html_reply typst_html_dead_links(uint32_t limit, const uint8_t *input, size_t length,
                                               uint8_t *output, size_t room);
