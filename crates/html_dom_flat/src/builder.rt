@@ -1,11 +1,11 @@
 //! The builder of a flat tree.
 
-ghost use Rattle.std.specs.Prelude.{◌≡◌, true, reverse};
+ghost use Rattle.std.specs.Prelude.{◌≡◌, true};
 ghost use Rattle.html_dom_flat.specs.FlatViews.{are_given};
 
 use crate::flat_node::{FlatElement, FlatNode};
 use crate::flat_tree::FlatTree;
-use crate::moving::{STEP, give_back};
+use crate::moving::{STEP, give_back, reverse_nodes};
 use crate::numbering::{numbered_attrs, set_past};
 use html_dom_tree::{HtmlAttrs, HtmlElement, HtmlFrame, HtmlNode, Span, Tag};
 use html_names::{HtmlTag, NameTable};
@@ -313,11 +313,4 @@ pub(crate) fn nodes_room(nodes: &[HtmlNode]) -> usize {
         }
     }
     room
-}
-
-#[inline(never)]
-fn reverse_nodes(nodes: &mut Vec<HtmlNode>)
-    ensures { nodes.new.items ≡ reverse nodes.old.items }
-{
-    nodes.reverse();
 }

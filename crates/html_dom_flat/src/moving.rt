@@ -1,6 +1,6 @@
 //! The list of a tree that is consumed.
 
-ghost use Rattle.std.specs.Prelude.{◌≡◌, IfOk};
+ghost use Rattle.std.specs.Prelude.{◌≡◌, reverse, IfOk};
 ghost use Rattle.html_dom_tree.specs.Tree.{node, none, element_node};
 ghost use Rattle.html_dom_tree.specs.Views.{element_view};
 ghost use Rattle.html_dom_flat.specs.FlatTrees.{tree_nodes};
@@ -26,6 +26,15 @@ pub fn flat_tree_of(alloc: Global, element: HtmlElement) -> Result<FlatTree, All
     let mut builder = Builder::with_room(alloc, room)?;
     builder.move_element(alloc, element)?;
     Ok(builder.into_tree())
+}
+
+/// Reverses nodes, so that `pop` takes the first. Its locals, two nodes, stay out of the frame of a
+/// recursive walk, of which each level has one.
+#[inline(never)]
+pub fn reverse_nodes(nodes: &mut Vec<HtmlNode>)
+    ensures { nodes.new.items ≡ reverse nodes.old.items }
+{
+    nodes.reverse();
 }
 
 /// Frees the memory that a list does not need, if its length is a multiple of 4,096. If this is

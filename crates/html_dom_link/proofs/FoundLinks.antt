@@ -1,6 +1,7 @@
 -- Links that a browser follows: those to anchors that it finds.
 use Rattle.std.proofs.Common.{◌≡◌, ℕ, Bool, true, false, List, [], ◌∷◌, ◌++◌, All, Option, Some, None, refl, sym, ap, subst, ◌∙◌, arith}
 use Rattle.std.specs.List.{Contains}
+use Rattle.std.specs.Option.{option_and_then}
 use Rattle.std.specs.Prelude.{codes, if◌then◌else◌, is_some}
 use Rattle.std.proofs.Math.Path.{fun_ext}
 use Rattle.std.proofs.lemmas.List.Elements.{All-append, All-cons, All-contains_itself, All-head, All-nil, All-weaker, Contains-append_left, Contains-append_right}
@@ -12,10 +13,10 @@ use Rattle.html_dom_document.specs.Views.{document_view}
 use Rattle.html_dom_document.specs.declared.document.HtmlDocument.{HtmlDocument}
 use Rattle.html_dom_link.specs.Bases.{base_is_elsewhere}
 use Rattle.html_dom_link.specs.DeadLinks.{dead_links_view}
-use Rattle.html_dom_link.specs.FoundAnchors.{EveryLinkLeads, LeadsToFound, LiveLinksLead, anchors_found, document_dead_links, is_found, live_hrefs, name_if}
+use Rattle.html_dom_link.specs.FoundAnchors.{EveryLinkLeads, LeadsToFound, LiveLinksLead, anchors_found, document_dead_links, is_found, live_hrefs}
 use Rattle.html_dom_link.specs.GivenLinks.{AnchorsAreTexts, GivenLink, KnownAnchorsArePlaces, document_given_links, given_by, given_link, node_given_links, nodes_given_links}
 use Rattle.html_dom_link.specs.InDocument.{document_places, in_document}
-use Rattle.html_dom_link.specs.Indicated.{element_places, place_names}
+use Rattle.html_dom_link.specs.Indicated.{element_places, if_place, place_names}
 use Rattle.html_dom_link.specs.LinkLaws.{DeadAreLeft, LeftLinksAreDead}
 use Rattle.html_dom_link.specs.Links.{Anchors, DeadLinkView, Hrefs, anchor_hrefs, dead_link, dead_without, dest_before, document_hrefs, document_links_left, document_with_links, head_with_link, is_open, node_dead_links, node_with_links, nodes_dead_links, nodes_with_links, open_dest, root_with_links, some_name}
 use Rattle.html_dom_link.specs.NewNames.{Name}
@@ -53,15 +54,16 @@ found_stay hrefs e =
     ∙ ap (λ places. if base_is_elsewhere e then (λ (n : Name). false) else stands_in places) places
 
 -- the name of an anchor that is not empty, if it is found
-pub name_if_some : (is_found : Name → Bool) (known : Option Name) →
-    some_name (name_if is_found known) ≡ name_if is_found (some_name known)
-name_if_some is_found None = refl
-name_if_some is_found (Some []) = by (is_found [])
+pub found_some : (is_found : Name → Bool) (known : Option Name) →
+    some_name (option_and_then (if_place is_found) known)
+    ≡ option_and_then (if_place is_found) (some_name known)
+found_some is_found None = refl
+found_some is_found (Some []) = by (is_found [])
   where
     by : (b : Bool) → some_name (if b then Some [] else None) ≡ None
     by true = refl
     by false = refl
-name_if_some is_found (Some (c ∷ cs)) = by (is_found (c ∷ cs))
+found_some is_found (Some (c ∷ cs)) = by (is_found (c ∷ cs))
   where
     by : (b : Bool) → some_name (if b then Some (c ∷ cs) else None)
         ≡ (if b then Some (c ∷ cs) else None)
@@ -97,8 +99,8 @@ module _ (anchor : Anchors) (places : List Name) (found : Name → Bool) where
       }
 
       by : (known : Option Name) → anchor dest ≡ known →
-          leading_href (stands_in places) (some_name (name_if found known)) ≡ Some href →
-          IsLive dest href
+          leading_href (stands_in places) (some_name (option_and_then (if_place found) known))
+          ≡ Some href → IsLive dest href
       by None known chosen = cc
       by (Some name) known chosen = chosen_from name known (found name) refl chosen
 
@@ -157,7 +159,7 @@ module _ (d : DocumentView) where
       chosen known = leading_href (stands_in (element_places the_root)) (some_name known)
 
       by : (known : Option Name) → d.introspector.anchor dest ≡ known →
-          chosen (name_if (is_found the_root) known) ≡ chosen known
+          chosen (option_and_then (if_place (is_found the_root)) known) ≡ chosen known
       by None known = refl
       by (Some name) known =
           let there = are dest name known in

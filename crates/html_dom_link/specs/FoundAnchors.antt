@@ -1,7 +1,8 @@
 -- The places that a browser finds from links to their names, and the links that are dead without
 -- them: a `base` elsewhere leads each fragment away (HTML Standard 4.2.3), and what a `template`
 -- contains is not in the document (4.12.3).
-use Rattle.std.specs.Prelude.{◌≡◌, Bool, true, false, List, [], All, Option, Some, None, is_some, if◌then◌else◌}
+use Rattle.std.specs.Prelude.{◌≡◌, Bool, true, false, List, [], All, Some, is_some, if◌then◌else◌}
+use Rattle.std.specs.Option.{option_and_then}
 use Rattle.html_names.specs.Names.{stands_in}
 use Rattle.html_dom_tree.specs.Tree.{ElementView}
 use Rattle.html_dom_document.specs.Documents.{DocumentView, document_root}
@@ -16,13 +17,9 @@ use Rattle.html_dom_link.specs.NewNames.{Name}
 abbrev pub is_found : ElementView → Name → Bool
 is_found e = if base_is_elsewhere e then (λ name. false) else stands_in (document_places e)
 
-abbrev pub name_if : (is_place : Name → Bool) → Option Name → Option Name
-name_if is_place None = None
-name_if is_place (Some name) = if_place is_place name
-
 -- the anchors whose names are those of places
 abbrev pub anchors_found : (is_place : Name → Bool) → Anchors → Anchors
-anchors_found is_place anchor = λ location. name_if is_place (anchor location)
+anchors_found is_place anchor = λ location. option_and_then (if_place is_place) (anchor location)
 
 -- the `href` of each location in a document, if a browser finds the anchor of that location; its
 -- spelling is chosen among the names of the whole tree

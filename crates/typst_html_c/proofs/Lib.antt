@@ -1,3 +1,4 @@
 mod DeadLinks
 pub mod Pages
+mod TextPieces
 mod Faults

@@ -7,4 +7,5 @@ pub mod PageFindings
 pub mod PageLinks
 pub mod PageSteps
 pub mod PageReports
+pub mod LongTexts
 pub mod Unused

@@ -1,5 +1,5 @@
 -- The results of the steps that make the report on a page.
-use Rattle.std.specs.Prelude.{◌≡◌, ℕ, List, ◌++◌, Result, Err, Ok, MatchResult, String, string_bytes}
+use Rattle.std.specs.Prelude.{◌≡◌, ℕ, List, ◌++◌, Result, Err, Ok, MatchResult, String, string_bytes, Vec}
 use Rattle.std.specs.declared.alloc.Global.{Global}
 use Rattle.serde_json.specs.Data.{Data}
 use Rattle.serde_json.specs.View.{items_of}
@@ -19,6 +19,7 @@ use Rattle.typst_html_c.specs.MisnestedNodes.{misnested_behind}
 use Rattle.typst_html_c.specs.PageFindings.{page_findings}
 use Rattle.typst_html_c.specs.PageLinks.{page_links}
 use Rattle.typst_html_c.specs.PageReports.{Report, placed}
+use Rattle.typst_html_c.specs.LongTexts.{pieces_bytes, text_bytes}
 use Rattle.typst_html_c.specs.declared.lists.FindingList.{FindingList}
 use Rattle.typst_html_c.specs.declared.misnested.NodeList.{NodeList}
 use Rattle.typst_html_c.specs.declared.page.Page.{Page}
@@ -37,7 +38,7 @@ text_with list ps = string_bytes list.text ++ items_text list.later (items_of
 
 -- the text with the whole list of misnested nodes that is being written, if these are added to it
 abbrev pub text_with_nodes : NodeList → List Finding → List ℕ
-text_with_nodes list fs = string_bytes list.text ++ items_text list.later (items_of
+text_with_nodes list fs = text_bytes list.text ++ items_text list.later (items_of
     (misnested_behind (text_of list.places) list.previous.items fs))
 
 -- the data that a call is asked for
@@ -57,6 +58,7 @@ IsFaultReport report OutOfMemory = Unit {0}
 IsFaultReport report (NotText place) = report ≡ Err (unread_reply (NotText place))
 IsFaultReport report (Refused refusal place) = report ≡ Err (unread_reply (Refused refusal place))
 
--- the text is the whole report, or the fault is the report
-abbrev pub GivesReport : Result (String Global) PageFault → Report → Type 0
-GivesReport r report = MatchResult r (λ t. report ≡ Ok (string_bytes t)) (IsFaultReport report)
+-- the pieces are the whole report, or the fault is the report
+abbrev pub GivesReport : Result (Vec (String Global) Global) PageFault → Report → Type 0
+GivesReport r report =
+    MatchResult r (λ pieces. report ≡ Ok (pieces_bytes pieces.items)) (IsFaultReport report)

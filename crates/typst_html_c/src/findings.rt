@@ -1,22 +1,35 @@
 //! The findings in a page, as JSON.
 
-ghost use Rattle.std.specs.Prelude.{◌≡◌, string_bytes, IfOk};
+ghost use Rattle.std.specs.Prelude.{◌≡◌, IfOk};
 ghost use Rattle.serde_json.specs.Written.{compact_text};
 ghost use Rattle.html_dom_tree.specs.Views.{element_view};
 ghost use Rattle.typst_html_parse.specs.PlaceViews.{text_of};
 ghost use Rattle.typst_html_c.specs.PageFindings.{page_findings};
+ghost use Rattle.typst_html_c.specs.LongTexts.{pieces_bytes};
 
 use crate::lists::{begun, ended, push_key};
 use crate::misnested;
 use crate::page::Page;
 use html_dom_findings::{report_dead_fragments, report_repeated_ids};
-use html_dom_nest::report_misnested;
+use html_dom_nest::report_misnested_of;
+use html_dom_tree::HtmlElement;
 use std::alloc::{AllocError, Global};
+use typst_html_parse::Places;
 
-pub(crate) fn findings_text(alloc: Global, page: Page) -> Result<String, AllocError>
-    ensures { let page = page.entry in IfOk result (λ text. string_bytes text
-        ≡ compact_text (page_findings (text_of page.places) (element_view page.root.now))) }
+/// Consumes a page and returns the findings in it, as a text in pieces. The nodes are freed while the
+/// last list is written, and the pieces take their place.
+pub(crate) fn findings_text(
+    alloc: Global,
+    root: HtmlElement,
+    places: Places<'_>,
+) -> Result<Vec<String>, AllocError>
+    ensures { IfOk result (λ pieces. pieces_bytes pieces.items
+        ≡ compact_text (page_findings (text_of places.entry) (element_view root))) }
 {
+    let page = Page {
+        root: &root,
+        places,
+    };
     let mut text = String::new(alloc);
     text.push_str("{")?;
     push_key(alloc, &mut text, false, "dead_fragments")?;
@@ -26,8 +39,8 @@ pub(crate) fn findings_text(alloc: Global, page: Page) -> Result<String, AllocEr
     let list = begun(alloc, page, text, "id")?;
     let mut text = ended(report_repeated_ids(alloc, page.root, list)?)?;
     push_key(alloc, &mut text, true, "misnested")?;
-    let list = misnested::begun(alloc, page.places, text)?;
-    let mut text = misnested::ended(report_misnested(alloc, page.root, list)?)?;
-    text.push_str("}")?;
-    Ok(text)
+    let list = misnested::begun(alloc, places, text)?;
+    let mut text = misnested::ended(report_misnested_of(alloc, root, list)?)?;
+    text.last.push_str("}")?;
+    text.into_pieces()
 }

@@ -25,6 +25,7 @@ mod lists;
 mod misnested;
 mod numbers;
 mod page;
+mod pieces;
 mod reply;
 mod report;
 
@@ -173,7 +174,7 @@ fn dead_links_of(alloc: Global, limit: u32, input: &[u8]) -> Result<String, Faul
 
 /// Reports in JSON which links of the document that the input spells lead nowhere in the text of
 /// [`typst_html_document`] with links 1 ([`dead_links`](html_dom_link::dead_links)): those that stay
-/// without an `href`, those to a place in a `template`, and all if a `base` leads them elsewhere.
+/// without an `href`, those to a place in a `template` alone, and all if a `base` leads elsewhere.
 /// Writes the report into the buffer, if it fits:
 ///
 /// ```json
@@ -259,6 +260,7 @@ pub fn typst_html_unused(alloc: Global, limit: u32, input: &[u8], output: &mut [
 ///
 /// Cost: that of reading. Each list takes one more pass over the page, and each finding the length
 /// of its path. The findings are written as they are found: beside the report, two paths are held.
+/// The tree is freed while the misnested nodes are written.
 pub fn typst_html_check(alloc: Global, limit: u32, page: &[u8], output: &mut [u8]) -> Reply
     ensures answered { Reports (check_report limit page.now) output.old result output.new }
     ensures kept { ¬ (result.status ≡ 0) → output.new ≡ output.old }

@@ -1,13 +1,15 @@
 //! The misnested nodes of a page, which would make a browser build another tree, as JSON.
 
-ghost use Rattle.std.specs.Prelude.{◌≡◌, List, ℕ, [], ◌++◌, chars, string_bytes, IfOk, OnOk};
+ghost use Rattle.std.specs.Prelude.{◌≡◌, List, ℕ, [], ◌++◌, string_bytes, IfOk, OnOk};
 ghost use Rattle.serde_json.specs.Written.{compact_text};
 ghost use Rattle.html_dom_nest.specs.Misnested.{Finding};
 ghost use Rattle.typst_html_parse.specs.PlaceViews.{text_of};
 ghost use Rattle.typst_html_c.specs.MisnestedNodes.{misnested_data, node_data, rule_name};
 ghost use Rattle.typst_html_c.specs.PageSteps.{text_with_nodes};
+ghost use Rattle.typst_html_c.specs.LongTexts.{text_bytes};
 
 use crate::lists::{push_comma_if, push_key, push_string, push_where};
+use crate::pieces::LongText;
 use html_dom_nest::{MisnestedSink, Misnesting};
 use html_dom_tree::Span;
 use std::alloc::{AllocError, Global};
@@ -20,7 +22,7 @@ pub(crate) struct NodeList<'a> {
     /// The places in the page. The nodes come in document order, so one pass finds all.
     places: Places<'a>,
     /// The text that is written so far.
-    text: String,
+    text: LongText,
     /// The path of the previous node; empty if there is none.
     previous: Vec<usize>,
     /// Whether there is a previous node.
@@ -39,17 +41,17 @@ pub(crate) fn begun<'a>(
     text.push_str("[")?;
     Ok(NodeList {
         places,
-        text,
+        text: LongText::new(alloc, text),
         previous: Vec::new(alloc),
         later: false,
     })
 }
 
-pub(crate) fn ended(list: NodeList) -> Result<String, AllocError>
-    ensures { IfOk result (λ text. string_bytes text ≡ text_with_nodes list.entry []) }
+pub(crate) fn ended(list: NodeList) -> Result<LongText, AllocError>
+    ensures { IfOk result (λ text. text_bytes text ≡ text_with_nodes list.entry []) }
 {
     let NodeList { mut text, .. } = list;
-    text.push_str("]")?;
+    text.last.push_str("]")?;
     Ok(text)
 }
 
@@ -65,9 +67,11 @@ impl<'a> MisnestedSink for NodeList<'a> {
         span: Span,
         why: Misnesting,
     ) -> Result<(), AllocError> {
-        push_comma_if(&mut self.text, self.later)?;
+        self.text.break_off(alloc)?;
+        let text = &mut self.text.last;
+        push_comma_if(text, self.later)?;
         let place = self.places.at(span.0 as usize);
-        push_node(alloc, &mut self.text, &self.previous, path, place, why)?;
+        push_node(alloc, text, &self.previous, path, place, why)?;
         self.previous = path.to_vec(alloc)?;
         self.later = true;
         Ok(())

@@ -1,6 +1,6 @@
 //! Replies, and texts in the caller's buffer.
 
-ghost use Rattle.std.specs.Prelude.{◌≡◌, List, IfOk};
+ghost use Rattle.std.specs.Prelude.{◌≡◌, List, IfOk, Ok};
 ghost use Rattle.html_dom_link.specs.DeadLinks.{dead_links_view};
 ghost use Rattle.html_tool_run.specs.Answers.{Answer};
 ghost use Rattle.html_tool_run.specs.DocumentAnswers.{text_given};
@@ -8,8 +8,10 @@ ghost use Rattle.html_tool_run.specs.Replies.{GivesAnswer};
 ghost use Rattle.html_dom_link.specs.Links.{DeadLinkView};
 ghost use Rattle.typst_html_c.specs.CallReplies.{Replies, bad_reply, fault_reply, text_reply, buffer_with, without_text};
 ghost use Rattle.typst_html_c.specs.CallReplies.{RepliesWith, with_dead_links};
-ghost use Rattle.typst_html_c.specs.PageReports.{placed};
+ghost use Rattle.typst_html_c.specs.PageReports.{Report, Reports, placed};
+ghost use Rattle.typst_html_c.specs.LongTexts.{pieces_bytes};
 
+use crate::pieces::{copy_pieces, length_of};
 use html_dom_link::DeadLink;
 use html_dom_tree::Span;
 use html_tool_run::{DocumentText, Fault, InputPlace};
@@ -95,6 +97,28 @@ pub(crate) fn put(text: &[u8], output: &mut [u8]) -> Reply
         column: 0,
         status: if fits { DONE } else { TOO_SHORT },
         number: 0,
+    }
+}
+
+/// Copies the pieces of a text into the buffer if they fit, and returns the reply.
+pub(crate) fn put_pieces(pieces: &[String], output: &mut [u8]) -> Reply
+    ensures answered { (report : Report) → report ≡ Ok (pieces_bytes pieces.now) →
+        Reports report output.old result output.new }
+    ensures kept { ¬ (result.status ≡ 0) → output.new ≡ output.old }
+{
+    match length_of(pieces) {
+        Some(length) if length <= output.len() => {
+            copy_pieces(pieces, output);
+            Reply {
+                length,
+                ..without_text(DONE, 0, 0)
+            }
+        }
+        Some(length) => Reply {
+            length,
+            ..without_text(TOO_SHORT, 0, 0)
+        },
+        None => without_text(OUT_OF_MEMORY, 0, 0),
     }
 }
 

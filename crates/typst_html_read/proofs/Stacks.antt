@@ -1,7 +1,8 @@
 -- The open elements, of which the innermost changes.
 use Rattle.std.proofs.Common.{◌≡◌, ℕ, ◌+◌, ◌-◌, ◌<◌, List, [], ◌∷◌, ◌++◌, length, get_or, map, take, reverse, ap, sym, ◌∙◌, arith}
-use Rattle.std.proofs.lemmas.List.{length-set, map-append, reverse-append, take_all, take_more, take_more_set}
+use Rattle.std.proofs.lemmas.List.{length-set, map-append, reverse-append, take_all, take_more_set}
 use Rattle.std.proofs.Math.ListN.{set}
+use Rattle.html_dom_flat.proofs.Reversed.{last_apart}
 use Rattle.typst_html_encode.specs.Reader.{Open}
 use Rattle.typst_html_read.specs.OpenViews.{open_of, list_of}
 use Rattle.typst_html_read.specs.declared.open.OpenElement.{OpenElement}
@@ -17,18 +18,13 @@ module _ (os : List OpenElement) (n : ℕ) (counted : n ≡ length os) (some : 0
   abbrev front : List OpenElement
   front = take (n - 1) os
 
-  parted : os ≡ front ++ o ∷ []
-  parted =
-      sym (take_all (n - 1 + 1) os (omega arith))
-      ∙ (take_more os (n - 1) o (omega arith) ∙ ap (λ p. front ++ p ∷ []) (sym is))
-
   changed : (p : OpenElement) → set os (n - 1) p ≡ front ++ p ∷ []
   changed p =
       sym (take_all (n - 1 + 1) (set os (n - 1) p) (omega (arith, length-set os (n - 1) p)))
       ∙ take_more_set os (n - 1) p (omega arith)
 
   pub top_is : list_of os ≡ open_of o ∷ list_of front
-  top_is = ap list_of parted ∙ listed front o
+  top_is = ap list_of (last_apart os n o counted some is) ∙ listed front o
 
   pub top_changed : (change : List Open → List Open) (made : Open → Open) →
       ((p : Open) (ps : List Open) → change (p ∷ ps) ≡ made p ∷ ps) → (p : OpenElement) →

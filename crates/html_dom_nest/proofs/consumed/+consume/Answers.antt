@@ -1,11 +1,8 @@
-use Rattle.std.proofs.Common.{◌≡◌, ◌∷◌, ◌++◌, [], length, reverse, refl, sym, ap, ◌∙◌, arith}
-use denote.Param.Weighed.{most, most-append}
-use Rattle.std.proofs.lemmas.List.{length-append, length-reverse, nil_from_length, reverse-reverse}
+use Rattle.std.proofs.Common.{◌≡◌, ◌-◌, ◌∷◌, ◌++◌, [], length, reverse, take, refl, sym, ap, ◌∙◌, arith}
+use Rattle.std.proofs.lemmas.List.{length-append, length-reverse, nil_from_length, reverse-reverse, take-set}
 use Rattle.std.proofs.lemmas.Result.{on_ok_weaker}
-use Rattle.html_dom_flat.proofs.Reversed.{most_reversed, next_reversed}
-use Rattle.html_dom_tree.proofs.Basics.{node_view-Element}
+use Rattle.html_dom_flat.proofs.Reversed.{last_apart, next_reversed}
 use Rattle.html_dom_tree.proofs.Taking.{all_left, all_taken, more_taken, same_taken}
-use Rattle.html_dom_tree.proofs.node.HtmlNode.TheLaws.{the_size}
 use Rattle.html_dom_tree.specs.Views.{element_view, nodes_view}
 use Rattle.html_dom_nest.proofs.Walks.{element_taken, none_walked, too_deep_found, walked_in_turn}
 use Rattle.html_dom_nest.proofs.consumed.+consume.Goals as goal
@@ -13,7 +10,7 @@ use Rattle.html_dom_nest.proofs.consumed.+consume.Goals as goal
 pub pass_element_of-returns-then-around-gt-MOST_ANCESTORS-clause-taken :
     goal.pass_element_of-returns-then-around-gt-MOST_ANCESTORS-clause-taken
 pass_element_of-returns-then-around-gt-MOST_ANCESTORS-clause-taken g t c =
-    let e = element_view c.args.element in
+    let e = element_view c.args.element.now in
     let made = g.S.MisnestedSink.made_with in
     on_ok_weaker c.report.result
     (λ taken. same_taken (made c.args.walk.now.sink) (made c.report.new.walk.sink) _ _ taken
@@ -22,30 +19,24 @@ pass_element_of-returns-then-around-gt-MOST_ANCESTORS-clause-taken g t c =
 
 pub pass_element_of-returns-clause-taken : goal.pass_element_of-returns-clause-taken
 pass_element_of-returns-clause-taken g t c =
-    let e = element_view c.args.element in
+    let e = element_view c.args.element.now in
     let made = g.S.MisnestedSink.made_with in
     let own = c.in_ok-inside.ensures in
     on_ok_weaker c.pass_nodes_of.result
     (λ all. element_taken c.args.walk.now.path.items c.args.around.now e.0 e.1
     (made c.args.walk.now.sink) (made c.pass_own.new.walk.sink) (made c.pass_nodes_of.new.walk.sink)
-    c.pass_own.new.walk.path.items c.in_ok-inside.inside (nodes_view c.args.element.children.items)
+    c.pass_own.new.walk.path.items c.in_ok-inside.inside (nodes_view c.args.element.now.children.items)
     c.if-around-gt-MOST_ANCESTORS.false own.taken own.path own.inside refl all)
     c.pass_nodes_of.ensures.taken
 
-pub pass_node_of-returns-in-Element-clause-taken : goal.pass_node_of-returns-in-Element-clause-taken
-pass_node_of-returns-in-Element-clause-taken g t c =
-    rw (c.in-Element.is, node_view-Element) c.pass_element_of.ensures.taken
-
 pub pass_nodes_of-loop-child-init : goal.pass_nodes_of-loop-child-init
 pass_nodes_of-loop-child-init g t c =
-    let all = c.args.nodes.items in
-    let again = ap reverse c.reverse.ensures.items ∙ reverse-reverse all in
-    let same = ap (most the_size) c.reverse.ensures.items ∙ most_reversed the_size all in
+    let all = c.args.nodes.now.items in
+    let again = ap reverse c.reverse_nodes.ensures ∙ reverse-reverse all in
     record {
       path = refl;
       taken = rw again all_left;
-      count = omega (arith, ap length c.reverse.ensures.items, length-reverse all);
-      deep = omega (arith, same);
+      count = omega (arith, ap length c.reverse_nodes.ensures, length-reverse all);
     }
 
 pub pass_nodes_of-loop-child-preserved : goal.pass_nodes_of-loop-child-preserved
@@ -53,22 +44,23 @@ pass_nodes_of-loop-child-preserved g t c =
     let held = c.loop-child.invariant in
     let parent = c.args.walk.now.path.items in
     let i = c.loop-child.index in
-    let left = c.give_back.new.nodes.items in
-    let child = c.in-Some.child in
-    let next = next_reversed c.loop-child.nodes.items left child
-    (rw c.give_back.ensures c.in-Some.ensures.items) in
+    let nodes = c.loop-child.nodes in
+    let found = c.in-Some.ensures.item in
+    let child = c.in-Some.child.now in
+    let left = c.drop_last.new.nodes.items in
+    let others : left ≡ take (nodes.len - 1) nodes.items =
+    c.drop_last.ensures ∙ take-set nodes.items (nodes.len - 1) c.pass_node_of.new.child in
+    let all : nodes.items ≡ left ++ child ∷ [] =
+    last_apart nodes.items nodes.len child nodes.ok.0 found.3.0 found.1
+    ∙ ap (λ ns. ns ++ child ∷ []) (sym others) in
     let there : c.push.new.self.items ≡ parent ++ i ∷ [] =
     c.in_ok-push.ensures.items ∙ ap (λ p. p ++ i ∷ []) held.path in
-    let parts = ap (most the_size) c.in-Some.ensures.items
-    ∙ most-append the_size c.pop.new.self.items (child ∷ []) in
-    let lengths = ap length c.in-Some.ensures.items
-    ∙ length-append c.pop.new.self.items (child ∷ []) in
     record {
       path = c.leave.ensures parent i (c.in_ok-pass_node_of.ensures.path ∙ there);
-      taken = more_taken _ (walked_in_turn c.args.around.now parent i _ _ child next) held.taken
+      taken = more_taken _ (walked_in_turn c.args.around.now parent i _ _ child
+          (next_reversed nodes.items left child all)) held.taken
           (rw there at c.in_ok-pass_node_of.ensures.taken);
-      count = omega (arith, held.count, lengths, ap length c.give_back.ensures);
-      deep = omega (arith, held.deep, parts, ap (most the_size) c.give_back.ensures);
+      count = omega (arith, held.count, ap length all, length-append left (child ∷ []));
     }
 
 pub pass_nodes_of-returns-clause-path : goal.pass_nodes_of-returns-clause-path
@@ -77,6 +69,6 @@ pass_nodes_of-returns-clause-path g t c = c.loop-child.invariant.path
 pub pass_nodes_of-returns-clause-taken : goal.pass_nodes_of-returns-clause-taken
 pass_nodes_of-returns-clause-taken g t c =
     let empty = nil_from_length c.loop-child.nodes.items
-    (sym c.loop-child.nodes.ok.0 ∙ c.in_default.ensures.cases.0) in
+    (omega (arith, c.in_default.ensures.item.3)) in
     all_taken (none_walked c.args.around.now c.args.walk.now.path.items c.loop-child.index _
     (ap reverse empty)) c.loop-child.invariant.taken

@@ -1,14 +1,12 @@
-use Rattle.std.proofs.Common.{refl, string_bytes, subst}
-use Rattle.typst_html_c.specs.PageReports.{made}
+use Rattle.std.proofs.Common.{refl, subst}
 use Rattle.typst_html_c.specs.PageSteps.{GivesReport}
 use Rattle.typst_html_c.proofs.Pages.{fault_replied}
 use Rattle.typst_html_c.proofs.report.reply_with_report.Goals as goal
 
 pub returns-in-Ok-clause-answered : goal.returns-in-Ok-clause-answered
 returns-in-Ok-clause-answered c report given =
-    made (string_bytes c.in-Ok.text) (subst (λ r. GivesReport r report) c.in-Ok.is given)
-    (rw (← c.as_bytes.ensures.value) c.put.ensures.reply)
-    (rw (← c.as_bytes.ensures.value) c.put.ensures.output)
+    c.put_pieces.ensures.answered report
+    (rw c.deref.ensures.value (subst (λ r. GivesReport r report) c.in-Ok.is given))
 
 pub returns-in-Err-clause-answered : goal.returns-in-Err-clause-answered
 returns-in-Err-clause-answered c report given =

@@ -5,7 +5,9 @@ use Rattle.html_dom_nest.specs.Misnested.{Finding}
 use Rattle.typst_html_parse.specs.PlaceViews.{text_of}
 use Rattle.typst_html_c.specs.MisnestedNodes.{misnested_behind, misnested_node, node_data}
 use Rattle.typst_html_c.specs.PageSteps.{text_with_nodes}
+use Rattle.typst_html_c.specs.LongTexts.{text_bytes}
 use Rattle.typst_html_c.proofs.Pages.{one_more_item}
+use Rattle.typst_html_c.proofs.TextPieces.{appended}
 use Rattle.typst_html_c.proofs.misnested.NodeListMisnestedSink.take.Goals as goal
 
 pub returns : goal.returns
@@ -14,8 +16,9 @@ returns c rest =
     let page = text_of list.places in
     let path = c.args.path.now in
     let here : Finding = record { path = path; span = c.args.span.0; why = c.args.why } in
-    let mid = string_bytes c.push_comma_if.new.text in
-    let new = string_bytes c.push_node.new.text in
+    let start = c.break_off.new.self in
+    let mid = record start { last = c.push_comma_if.new.text } in
+    let new = text_bytes (record start { last = c.push_node.new.text }) in
     let node : node_data c.deref.result.now path c.at-place.result c.args.why
     ≡ misnested_node page list.previous.items here =
     rw (c.deref.ensures.value, c.at-place.ensures.place) refl in
@@ -25,6 +28,10 @@ returns c rest =
     ∙ (ap (λ text. new ++ items_text true (items_of (misnested_behind text path rest)))
     c.at-place.ensures.text
     ∙ one_more_item list.later (misnested_node page list.previous.items here)
-    (misnested_behind page path rest) (text_with_nodes list (here ∷ rest)) (string_bytes list.text)
-    mid new refl c.in_ok-push_comma_if.ensures
-    (c.in_ok-push_node.ensures ∙ ap (λ d. mid ++ compact_text d) node))
+    (misnested_behind page path rest) (text_with_nodes list (here ∷ rest)) (text_bytes start)
+    (text_bytes mid) new
+    (ap (λ bytes. bytes ++ items_text list.later (items_of
+    (misnested_behind page list.previous.items (here ∷ rest)))) c.in_ok-break_off.ensures)
+    (appended start mid.last _ c.in_ok-push_comma_if.ensures)
+    (appended mid c.push_node.new.text _
+    (c.in_ok-push_node.ensures ∙ ap (λ d. string_bytes mid.last ++ compact_text d) node)))
