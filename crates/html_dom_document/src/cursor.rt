@@ -1,3 +1,5 @@
+//! The cursor of a walk along siblings, which gives each its DOM index.
+
 ghost use Rattle.std.specs.Prelude.{◌≡◌, ◌<◌, ◌^◌, suc};
 ghost use Rattle.html_dom_tree.specs.Views.{node_view};
 ghost use Rattle.html_dom_document.specs.Cursor.{element_index, index_at, cursor_after, past_element, first_cursor};

@@ -1,3 +1,5 @@
+//! The document: its output, its information and its introspector, and access to each of them.
+
 use crate::HtmlIntrospector;
 use crate::info::DocumentInfo;
 use crate::output::HtmlOutput;

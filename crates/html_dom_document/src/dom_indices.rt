@@ -1,3 +1,5 @@
+//! The iterator over a list of nodes with their DOM indices, and the trait that starts it.
+
 ghost use Rattle.std.specs.Prelude.{◌+◌, ◌<◌, ◌^◌, length};
 ghost use Rattle.html_dom_document.specs.Cursor.{element_index};
 

@@ -1,3 +1,5 @@
+//! Nodes that are elements, and elements that are named `html`.
+
 ghost use Rattle.std.specs.Prelude.{◌≡◌, true, Some, is_some};
 ghost use Rattle.std.specs.Borrow.{Lends, sem};
 ghost use Rattle.html_dom_tree.specs.Views.{node_view, element_view};

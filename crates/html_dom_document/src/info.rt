@@ -1,3 +1,5 @@
+//! Information about a document: its title, description, authors, keywords and locale.
+
 ghost use Rattle.std.specs.Prelude.{◌≡◌, IfOk};
 ghost use Rattle.html_dom_tree.specs.Views.{text_view};
 ghost use Rattle.html_dom_document.specs.Documents.{locale_of, no_info};

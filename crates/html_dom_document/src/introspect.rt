@@ -1,3 +1,5 @@
+//! The introspector of a document: positions and link destinations from its tree, and anchors.
+
 ghost use Rattle.std.specs.Prelude.{◌≡◌, IfOk, option_map};
 ghost use Rattle.html_dom_tree.specs.Views.{text_view, nodes_view};
 ghost use Rattle.html_dom_document.specs.Introspectors.{introspector_view, position_view, recorded_view, location_text, has_location};

@@ -1,3 +1,5 @@
+//! The nodes of a document, with the index of the root among them.
+
 ghost use Rattle.std.specs.Prelude.{◌≡◌, true};
 ghost use Rattle.html_dom_tree.specs.Views.{nodes_view};
 ghost use Rattle.html_dom_document.specs.Documents.{is_element_at};

@@ -1,3 +1,5 @@
+//! What the recorder keeps of a start tag: its location, its destination and its position.
+
 use crate::position::HtmlPosition;
 use html_dom_tree::Location;
 

@@ -1,3 +1,5 @@
+//! Positions of start tags: a path of DOM indices, and a point if the path leads to a frame.
+
 ghost use Rattle.std.specs.Prelude.{◌≡◌, IfOk, option_map};
 ghost use Rattle.html_dom_document.specs.Introspectors.{position_view};
 

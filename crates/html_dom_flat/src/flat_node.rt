@@ -1,3 +1,5 @@
+//! The nodes of a flat tree. The names in them are numbers in the tree's name table.
+
 use html_dom_tree::{HtmlFrame, Location, Span, Tag};
 use html_values_css::Properties;
 

@@ -1,3 +1,5 @@
+//! The flat tree: its list of nodes and its name table, made from nodes that are copied.
+
 ghost use Rattle.std.specs.Prelude.{◌≡◌, true};
 ghost use Rattle.std.proofs.Props.{props};
 ghost use Rattle.html_dom_flat.specs.Flat.{IsSpelling};

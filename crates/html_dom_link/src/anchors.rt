@@ -1,3 +1,5 @@
+//! The creation of anchors for a set of locations, in a document that is copied or consumed.
+
 ghost use Rattle.std.specs.Prelude.{◌≡◌, IfOk, OnErr};
 ghost use Rattle.html_dom_tree.specs.Views.{nodes_view};
 ghost use Rattle.html_dom_document.specs.Views.{document_view};

@@ -1,3 +1,5 @@
+//! The attributes of an element, and how they are found, set and merged by name.
+
 ghost use Rattle.std.specs.Prelude.{◌≡◌, ◌↔◌, ◌++◌, ◌∷◌, [], IsTrue, OnOk, OnErr, IfErr, IfOk, map, option_map, is_some};
 ghost use Rattle.html_dom_tree.specs.Views.{text_view, pair_view, attrs_view};
 ghost use Rattle.html_dom_tree.specs.Attributes.{first, has_name, place, union, with_set};

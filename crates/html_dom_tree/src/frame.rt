@@ -1,3 +1,5 @@
+//! Laid-out frames with their items, and what the tree adds to a frame: an `id`, css and anchors.
+
 ghost use Rattle.std.specs.Prelude.{◌≡◌, ◌↔◌, IsTrue, IfOk};
 ghost use Rattle.html_dom_tree.specs.Frames.{new_html_frame};
 ghost use Rattle.html_dom_tree.specs.FrameViews.{frame_item_view, frame_view, frame_items_view, anchor_view, anchors_view, html_frame_view};

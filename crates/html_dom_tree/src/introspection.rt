@@ -1,3 +1,5 @@
+//! Locations, and the tags that mark where a located element starts and ends.
+
 ghost use Rattle.std.specs.Prelude.{◌≡◌, ◌↔◌, IsTrue, IfOk};
 ghost use Rattle.html_dom_tree.specs.Views.{tag_view};
 

@@ -1,3 +1,5 @@
+//! Inline styles: the css of each element, written into its attribute `style`.
+
 ghost use Rattle.std.specs.Prelude.{◌≡◌, [], IfOk, OnOk, OnErr, codes};
 ghost use Rattle.html_values_css.specs.Properties.{inline_text};
 ghost use Rattle.html_dom_tree.specs.Attributes.{first};

@@ -1,3 +1,5 @@
+//! Spans, which lead from a node or a fault to its place in the caller's source.
+
 /// The caller's number for a place in the source: a line, an offset, or the index of an element of
 /// the source. It is stored, copied and compared with the item or node that has it, but never
 /// computed with or written.

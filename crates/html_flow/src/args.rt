@@ -1,3 +1,5 @@
+//! The name and typed attributes of an element, and the arguments of a call that constructs it.
+
 ghost use Rattle.std.specs.Prelude.{◌≡◌};
 
 use html_dom_tree::Span;

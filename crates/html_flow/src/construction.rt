@@ -1,3 +1,5 @@
+//! The construction of an element from arguments, which are cast to the types of its attributes.
+
 ghost use Rattle.std.specs.Prelude.{◌≡◌, ◌<◌, [], length, IfSome, not, bytes_eq, chars, is_some, option_map, slice_index_or, OnOk, OnErr, Some, None};
 ghost use Rattle.std.specs.List.{remove};
 ghost use Rattle.html_names.specs.Kinds.{is_raw};

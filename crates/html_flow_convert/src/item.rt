@@ -1,3 +1,5 @@
+//! Items of the flow with their roles, elements with bodies of items, and tags that locate them.
+
 ghost use Rattle.std.specs.Prelude.{◌≡◌, ◌+◌, ◌<◌, ◌≤◌, ◌++◌, ◌∷◌, [], IfOk, IfErr, OnOk, OnErr, option_map, vec_len, vec_capacity, chars};
 ghost use Rattle.html_names.specs.Texts.{text_view};
 ghost use Rattle.html_flow_convert.specs.Items.{absent, inheriting, item_span, located_item, new_head, text_item, with_items, with_last_item, with_optional_pair, with_pair, with_properties, with_set_pair, with_span};

@@ -1,3 +1,5 @@
+//! Why arguments construct no element: casts that fail, a body of the wrong kind, or no memory.
+
 ghost use Rattle.std.specs.Prelude.{◌≡◌};
 ghost use Rattle.html_flow_faults.specs.ConstructFaults.{number_of, span_of};
 

@@ -1,3 +1,5 @@
+//! Why items do not become nodes: a body that is too deep, or no memory.
+
 ghost use Rattle.std.specs.Prelude.{◌≡◌};
 ghost use Rattle.html_flow_faults.specs.FlowFaults.{number_of};
 

@@ -1,3 +1,5 @@
+//! The map from names of places to locations, which appends places and links to a list of items.
+
 ghost use Rattle.std.specs.Prelude.{◌≡◌, ◌+◌, ◌≤◌, ◌++◌, [], chars, false, vec_len, vec_capacity, option_map, OnErr, OnOk, IfErr, IfOk};
 ghost use Rattle.html_names.specs.Names.{stands_in};
 ghost use Rattle.html_names.specs.NameTables.{with_name};

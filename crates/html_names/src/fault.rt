@@ -1,3 +1,5 @@
+//! What may be wrong with the text of a tag name, a custom element's name or an attribute name.
+
 ghost use Rattle.std.specs.Prelude.{◌≡◌};
 
 use std::alloc::{AllocError, AllocFailed};

@@ -1,3 +1,5 @@
+//! Attribute names, and the rule for their characters (HTML Standard 13.1.2.3).
+
 ghost use Rattle.std.specs.Prelude.{◌≡◌, bytes_eq, chars, IfOk, IfErr, OnErr, IsTrue, false, not, option_to_list, None};
 ghost use Rattle.std.specs.List.{find, list_any};
 ghost use Rattle.html_names.specs.Held.{IsLookup};

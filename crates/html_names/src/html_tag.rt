@@ -1,3 +1,5 @@
+//! Tag names, and the rules for their characters and for the names of custom elements.
+
 ghost use Rattle.std.specs.Prelude.{◌≡◌, ◌<◌, bytes_eq, chars, IfOk, IfErr, OnErr, false, not, option_to_list, slice_index, None};
 ghost use Rattle.std.specs.List.{find, list_any};
 ghost use Rattle.html_names.specs.Held.{IsLookup};

@@ -1,3 +1,5 @@
+//! The representation of a name: the index of a known one, or the text of any other.
+
 ghost use Rattle.std.specs.Prelude.{◌≡◌, OnErr, IfOk, length, chars, IsTrue, None};
 ghost use Rattle.html_names.specs.Names.{texts, are_ascii};
 ghost use Rattle.html_names.specs.Tables.{tag_count};

@@ -1,3 +1,5 @@
+//! The table that numbers tags and attributes, and finds the facts about a tag by its number.
+
 ghost use Rattle.std.specs.Prelude.{◌≡◌, ◌<◌, ◌∷◌, ◌++◌, [], length, false, chars, OnOk, OnErr, IfErr};
 ghost use Rattle.html_names.specs.Names.{stands_in};
 ghost use Rattle.html_names.specs.Characters.{is_tag_char, is_attr_char};

@@ -1,3 +1,5 @@
+//! The error of a failed allocation that gives back the values which the call consumed.
+
 ghost use Rattle.std.specs.Prelude.{◌≡◌};
 
 use crate::fault::NameFault;

@@ -1,3 +1,5 @@
+//! A writer that appends characters, texts and numbers to a growing text.
+
 ghost use Rattle.std.specs.Prelude.{◌≡◌, ◌++◌, ◌∷◌, [], ◌<◌, OnOk, OnErr, chars, string_bytes, IsTrue, false};
 ghost use Rattle.std.specs.Fmt.{decimal, digits};
 ghost use Rattle.html_names.specs.Names.{is_ascii};

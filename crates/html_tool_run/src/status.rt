@@ -1,3 +1,5 @@
+//! The outcomes of a run, and the exit code of each.
+
 ghost use Rattle.std.specs.Prelude.{◌≡◌};
 ghost use Rattle.html_tool_run.specs.Answers.{code_of};
 

@@ -1,3 +1,5 @@
+//! Why a call on JSON fails, and the place in its text or in its form where the input is bad.
+
 use html_dom_tree::Span;
 use html_names::Refused;
 use std::alloc::{AllocError, AllocFailed};

@@ -1,3 +1,5 @@
+//! Which forms of items a reader accepts: the program's, or the wider ones of documents.
+
 /// The forms of items that a reader accepts.
 #[derive(Clone, Copy)]
 pub(crate) enum Forms {

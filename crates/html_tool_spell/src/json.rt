@@ -1,3 +1,5 @@
+//! Parsing of bytes as JSON, with the line and the column where they are wrong.
+
 ghost use Rattle.html_tool_spell.specs.Json.{json_of};
 ghost use Rattle.html_tool_spell.specs.JsonPlaces.{input_place};
 ghost use Rattle.html_tool_spell.specs.Reading.{ReadsJson};

@@ -1,3 +1,5 @@
+//! Types of attributes, alone, in unions and in lists, and the cast of a value to a text by each.
+
 ghost use Rattle.std.specs.Prelude.{◌≡◌, ◌&&◌, false, IfOk, IfErr, Ok};
 ghost use Rattle.html_names.specs.Texts.{text_view, texts_view};
 ghost use Rattle.html_values.specs.Casts.{GivesCast, GivesTexts, shorthand_answer, option_answer, cast, castable, castable_by_any, first_cast, has_presence, item_texts, presence_in, text_answer};

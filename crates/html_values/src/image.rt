@@ -1,3 +1,5 @@
+//! Icon sizes and image candidates, written `16x16` and `x.png 480w`.
+
 ghost use Rattle.std.specs.Prelude.{option_map};
 ghost use Rattle.std.specs.Int.NonZero.{non_zero_u64_get};
 ghost use Rattle.html_names.specs.Texts.{text_view};

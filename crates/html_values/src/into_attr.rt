@@ -1,3 +1,5 @@
+//! The trait of values with a text as an attribute, and the texts of strings, numbers and colours.
+
 ghost use Rattle.std.specs.Prelude.{ℕ, List, ◌∷◌, []};
 ghost use Rattle.std.specs.Fmt.{decimal, signed_decimal};
 ghost use Rattle.std.specs.Int.NonZero.{non_zero_i64_get, non_zero_u64_get};

@@ -1,3 +1,5 @@
+//! Dates and times of day without a time zone, and those of them that have a text.
+
 ghost use Rattle.std.specs.Prelude.{◌≡◌, ◌++◌, OnOk, IsTrue, IsFalse, IfOk, IfErr, ◌<◌};
 ghost use Rattle.html_names.specs.Texts.{text_view};
 ghost use Rattle.html_values.specs.AttrTexts.{date_text, time_text, seconds_text, has_year, year_fits};

@@ -1,3 +1,5 @@
+//! Types of attributes that accept values of one kind, and how each casts a value to a text.
+
 ghost use Rattle.std.specs.Prelude.{◌≡◌, IfOk, IfErr, None, Some, length, slice_index, ◌-◌, ◌==◌, [], ◌∷◌, chars, option_map};
 ghost use Rattle.std.specs.Int.NonZero.{non_zero_u64_get};
 ghost use Rattle.html_names.specs.Texts.{text_view};

@@ -1,3 +1,5 @@
+//! Values of a document before they are cast to the texts of attributes.
+
 use crate::moment::Moment;
 use html_values_css::{Dir, Rgba};
 

@@ -1,3 +1,5 @@
+//! Sums in css, with `calc(..)` around two parts or more, and the trait of their parts.
+
 ghost use Rattle.std.specs.Prelude.{◌≡◌, ◌≤◌, ◌++◌, ℤ, neg_ℤ, codes, OnOk, OnErr, take, drop, length, string_bytes};
 ghost use Rattle.std.specs.Str.{IsUtf8};
 ghost use Rattle.html_values_css.specs.Quantities.{is_zero, is_negative};

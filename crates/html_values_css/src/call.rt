@@ -1,3 +1,5 @@
+//! Function calls in css, written one argument after the other.
+
 ghost use Rattle.std.specs.Prelude.{◌≡◌, ◌++◌, codes, chars, [], true, false, IfOk, Ok};
 ghost use Rattle.html_values_css.specs.Sink.{TakesWarning};
 ghost use Rattle.std.specs.Borrow.{sem};

@@ -1,3 +1,5 @@
+//! The faults of casting a value to the text of an attribute.
+
 ghost use Rattle.std.specs.Prelude.{◌≡◌};
 
 use html_names::Refused;

@@ -1,3 +1,5 @@
+//! The four directions of writing.
+
 /// A direction of writing.
 #[derive(Clone, Copy, Debug, PartialEq, Eq)]
 pub enum Dir {

@@ -1,3 +1,5 @@
+//! Rounds millionths to the decimals of a css text.
+
 ghost use Rattle.std.specs.Prelude.{◌≡◌, ◌++◌, ◌<◌, ◌^◌, IfOk, OnOk, string_bytes};
 ghost use Rattle.html_values_css.specs.Quantities.{fixed_text, fraction_digits, sign_text, point_text, nearest_hundreds};
 

@@ -1,3 +1,5 @@
+//! The display of css properties as the text of a `style` attribute.
+
 ghost use Rattle.std.specs.Prelude.{◌≡◌};
 
 use crate::property::Property;

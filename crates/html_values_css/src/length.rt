@@ -1,3 +1,5 @@
+//! Lengths that are sums: of ems and points, and of a ratio of another length with these.
+
 ghost use Rattle.std.specs.Prelude.{[]};
 ghost use Rattle.html_values_css.specs.Sums.{length_text, rel_text};
 

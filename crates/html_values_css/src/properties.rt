@@ -1,3 +1,5 @@
+//! Css properties as a map from names to values, in the order of the names.
+
 ghost use Rattle.std.specs.Prelude.{◌≡◌, ◌↔◌, [], IsTrue, chars, OnOk, OnErr, IfOk, IfErr};
 ghost use Rattle.html_names.specs.Texts.{text_view};
 ghost use Rattle.html_values_css.specs.Properties.{list_view, IsListed, with_property, without, inline_text};

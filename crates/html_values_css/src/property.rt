@@ -1,3 +1,5 @@
+//! A single css property: the texts of its name and its value.
+
 ghost use Rattle.std.specs.Prelude.{◌≡◌, IfOk};
 ghost use Rattle.html_values_css.specs.Properties.{property_view};
 

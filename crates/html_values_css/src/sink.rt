@@ -1,3 +1,5 @@
+//! Warnings of values that have no css, and the sinks that receive them.
+
 ghost use Rattle.std.specs.Prelude.{◌≡◌, List, [], ◌∷◌, Ok, Option, Result, Some, None};
 ghost use base.Fml.{GName};
 ghost use Rattle.html_values_css.specs.declared.sink.Warning.{Warning};

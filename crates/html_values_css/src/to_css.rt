@@ -1,3 +1,5 @@
+//! The trait of values with a css text, and the css of plain texts and of `display`.
+
 ghost use Rattle.std.specs.Prelude.{◌≡◌, ℕ, List, [], IfOk, chars, codes, ◌++◌};
 ghost use Rattle.html_names.specs.Texts.{text_view};
 ghost use Rattle.html_names.specs.Displays.{display_text};

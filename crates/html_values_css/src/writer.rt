@@ -1,3 +1,5 @@
+//! The writer to which css values append their texts and pass their warnings.
+
 ghost use Rattle.std.specs.Prelude.{◌≡◌, ◌<◌, ◌≤◌, [], ◌∷◌, ◌++◌, OnOk, OnErr, IsTrue, chars, take, drop, length, string_bytes};
 ghost use Rattle.std.specs.Str.{IsUtf8};
 ghost use Rattle.html_names.specs.Names.{is_ascii};

@@ -1,3 +1,5 @@
+//! The HTML text of a tree behind a document type. The tree is borrowed, consumed or flat.
+
 ghost use Rattle.std.specs.Prelude.{◌≡◌, true, false, Some, IfOk};
 ghost use Rattle.html_dom_tree.specs.PlainTree.{element_normal};
 ghost use Rattle.html_dom_tree.specs.Tree.{ElementView, node, none, element_node};

@@ -1,3 +1,5 @@
+//! Why items or a tree have no HTML text, and the faults of names, casts and constructions.
+
 ghost use Rattle.std.specs.Prelude.{◌≡◌, ◌↔◌, IsTrue};
 ghost use Rattle.typst_html_encode.specs.ExportFaults.{first_span};
 ghost use Rattle.typst_html_encode.specs.FaultViews.{export_fault_view, spans_view};

@@ -1,3 +1,5 @@
+//! The HTML text of nodes without a document around them.
+
 ghost use Rattle.std.specs.Prelude.{IfOk};
 ghost use Rattle.html_dom_tree.specs.FrameFree.{NodesAreFrameFree};
 ghost use Rattle.html_dom_tree.specs.Views.{nodes_view, text_view};

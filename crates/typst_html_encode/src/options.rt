@@ -1,3 +1,5 @@
+//! The choice between plain and pretty HTML text.
+
 /// Options for writing HTML text.
 #[derive(Clone, Debug, Default, Drop, PartialEq, Eq, Hash)]
 pub struct HtmlOptions {

@@ -1,3 +1,5 @@
+//! Reading a page as browsers do, from a text or bytes to its element and the errors in it.
+
 ghost use Rattle.std.specs.Prelude.{◌≡◌, ◌≤◌, ◌<◌, ◌+◌, ◌^◌, OnOk, IfOk, IfErr, chars, length};
 ghost use Rattle.typst_html_parse.specs.Endings.{Moves};
 ghost use Rattle.typst_html_parse.specs.PageAnswers.{ArePlaced, Begins, Gives, GivesBytes, ReadsText, fault_of, placed};

@@ -1,3 +1,5 @@
+//! The set of kinds that the name of an element has, by its place in a table.
+
 ghost use Rattle.std.specs.Prelude.{◌≡◌, chars, map};
 ghost use Rattle.html_names.specs.Held.{IsLookup};
 ghost use Rattle.typst_html_parse_names.specs.Kinds.{IsKindsOf, has};

@@ -1,3 +1,5 @@
+//! Why a text is not read as a written page: its depth, its syntax, or no memory.
+
 ghost use Rattle.std.specs.Prelude.{◌≡◌};
 ghost use Rattle.typst_html_read.specs.ReadFaults.{number_of};
 

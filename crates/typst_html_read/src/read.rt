@@ -1,3 +1,5 @@
+//! Reading a written page, from its text to the element that it spells.
+
 ghost use Rattle.std.specs.Prelude.{◌≡◌, ◌≤◌, ◌+◌, ◌-◌, chars, length, None};
 ghost use Rattle.typst_html_encode.specs.Reader.{Outside, final_root, read, run};
 ghost use Rattle.typst_html_read.specs.Endings.{Gives};

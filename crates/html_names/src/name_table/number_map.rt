@@ -1,3 +1,5 @@
+//! A map from names to numbers, by index for known names and by text for all others.
+
 ghost use Rattle.std.specs.Prelude.{◌≡◌, ◌<◌, ◌^◌, ℕ, None, length, OnOk, slice_index_or};
 ghost use Rattle.html_names.specs.NumberMaps.{known_number, PutsKnown, HoldsNone};
 

@@ -1,3 +1,5 @@
+//! Runs on readers that fail, give one byte at a time, or never end.
+
 use super::{CASES, Case, INPUT, OUTPUT};
 use crate::runs::{answer, assert_run};
 use html_tool_run::Status;

@@ -1,3 +1,5 @@
+//! Runs on writers that fail, take a few bytes at a time, or fail when they are flushed.
+
 use super::{CASES, Case};
 use crate::runs::words;
 use html_tool_run::{Recorded, Status, run, run_recorded};
