@@ -52,7 +52,7 @@ fn is_slash(c: Option<char>) -> bool {
     matches!(c, Some('/' | '\\'))
 }
 
-/// Returns the text behind the first `#`, without a directive (`:~:` and all behind it).
+/// Returns the text after the first `#`, without a directive (`:~:` and all after it).
 pub fn fragment_of(address: &str) -> Option<&str> {
     let (_, fragment) = address.split_once('#')?;
     match fragment.split_once(":~:") {

@@ -75,7 +75,7 @@ impl<'a> Way<'a> {
         self.kept = Some(self.parts.len());
     }
 
-    /// Appends the parts of an address. An empty part counts: a `..` behind it removes it.
+    /// Appends the parts of an address. An empty part counts: a `..` after it removes it.
     pub fn follow(&mut self, path: &'a str) -> Result<(), AllocError> {
         for part in path.strip_prefix('/').unwrap_or(path).split('/') {
             self.go(part)?;

@@ -7,7 +7,7 @@ use html_names::{attr, tag};
 use serde_json::Value;
 
 /// Returns the column of a cell: the first from `from` on that no cell above takes. Marks it and
-/// those behind it, `across` in all, as taken for `rows` rows.
+/// those after it, `across` in all, as taken for `rows` rows.
 pub fn place(taken: &mut [usize], from: usize, rows: usize, across: usize) -> usize {
     let above = taken.iter().skip(from).take_while(|rows| **rows > 0);
     let column = from.saturating_add(above.count());

@@ -134,7 +134,7 @@ impl Site<'_> {
         Ok(list.into_block_items())
     }
 
-    /// Adds the part of a text behind a `[`, up to the next one.
+    /// Adds the part of a text after a `[`, up to the next one.
     fn push_part(&mut self, list: &mut ItemList, page: &str, part: &str) -> Result<()> {
         let Some((words, target, behind)) = link_in(part) else {
             list.text("[")?;
@@ -157,13 +157,13 @@ fn title_in(line: &str) -> Result<&str> {
     Ok(title)
 }
 
-/// Splits a text into a word and the text behind it.
+/// Splits a text into a word and the text after it.
 fn word_and_text(text: &str) -> Option<(&str, &str)> {
     let (word, rest) = text.trim().split_once(char::is_whitespace)?;
     Some((word, rest.trim_start()))
 }
 
-/// Splits what follows a `[` into the words and the target of a link, and the text behind it.
+/// Splits what follows a `[` into the words and the target of a link, and the text after it.
 fn link_in(part: &str) -> Option<(&str, &str, &str)> {
     let (words, rest) = part.split_once("](")?;
     let (target, behind) = rest.split_once(')')?;

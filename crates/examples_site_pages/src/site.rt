@@ -198,7 +198,7 @@ fn nodes_with_hrefs(alloc: Global, nodes: Vec<HtmlNode>, hrefs: &Hrefs) -> Resul
     Ok(made)
 }
 
-/// Does so in a node behind a start tag with that destination, if there is one.
+/// Does so in a node after a start tag with that destination, if there is one.
 #[cycle(hrefs)]
 fn node_with_href(
     alloc: Global,
@@ -216,7 +216,7 @@ fn node_with_href(
     }
 }
 
-/// Adds an `href` in front of the attributes of an element behind such a tag, unless it has one.
+/// Adds an `href` in front of the attributes of an element after such a tag, unless it has one.
 fn attrs_with_href(
     mut attrs: HtmlAttrs,
     dest: Option<Location>,
@@ -230,7 +230,7 @@ fn attrs_with_href(
     Ok(attrs)
 }
 
-/// Returns the destination that counts right behind a node, given that right before it.
+/// Returns the destination that counts right after a node, given that right before it.
 fn dest_behind(dest: Option<Location>, node: &HtmlNode) -> Option<Location> {
     match node {
         HtmlNode::Tag(Tag::Start { dest: Some(to), .. }) => Some(*to),

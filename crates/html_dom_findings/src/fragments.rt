@@ -22,7 +22,7 @@ pub struct DeadFragment {
     /// The path to the link: the index of each child on the way from the root, and empty for the
     /// root. [`element_at`](crate::element_at) returns the link.
     pub path: Vec<usize>,
-    /// The text behind `#`, as [`fragment_in`](html_dom_link::fragment_in) returns it for the
+    /// The text after `#`, as [`fragment_in`](html_dom_link::fragment_in) returns it for the
     /// `href`.
     pub fragment: String,
 }

@@ -52,7 +52,7 @@ impl FlatTree {
     /// Creates the list of these nodes and all below them, which are copied. Fails only if an
     /// allocation fails.
     ///
-    /// Cost: grows with the number of nodes and the length of their texts.
+    /// Takes time that grows with the number of nodes and the length of their texts.
     pub fn from_nodes(alloc: Global, nodes: &[HtmlNode]) -> Result<FlatTree, AllocError>
         ensures { IfOk result (λ tree. tree_nodes tree ≡ nodes_view nodes.now) }
     {
@@ -64,7 +64,7 @@ impl FlatTree {
     /// Creates the list of this element and all nodes below it, which are copied. Fails only if an
     /// allocation fails.
     ///
-    /// Cost: grows with the number of nodes and the length of their texts.
+    /// Takes time that grows with the number of nodes and the length of their texts.
     pub fn from_element(alloc: Global, element: &HtmlElement) -> Result<FlatTree, AllocError>
         ensures { let e = element_view element.now in
             IfOk result (λ tree. tree_nodes tree ≡ node (element_node e.0 e.1) none) }
@@ -88,7 +88,7 @@ impl FlatTree {
 
     /// Returns a copy of the nodes from which the list was made. Fails only if an allocation fails.
     ///
-    /// Cost: grows with the number of nodes and the length of their texts.
+    /// Takes time that grows with the number of nodes and the length of their texts.
     pub fn to_nodes(&self) -> Result<Vec<HtmlNode>, AllocError>
         ensures { IfOk result (λ nodes. nodes_view nodes.items ≡ tree_nodes self.now) }
     {

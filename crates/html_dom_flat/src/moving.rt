@@ -17,7 +17,7 @@ pub(crate) const STEP: usize = 4096;
 /// Consumes an element and returns the list of it and all nodes below it. Fails only if an
 /// allocation fails, and then drops the element.
 ///
-/// Cost: grows with the number of nodes and of their attributes. Copies no text.
+/// Takes time that grows with the number of nodes and of their attributes. Copies no text.
 pub fn flat_tree_of(alloc: Global, element: HtmlElement) -> Result<FlatTree, AllocError>
     ensures { let e = element_view element in
         IfOk result (λ tree. tree_nodes tree ≡ node (element_node e.0 e.1) none) }

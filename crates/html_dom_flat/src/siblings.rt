@@ -67,7 +67,7 @@ impl<'a> Siblings<'a> {
 
     /// Returns the first node and the siblings after it, or `None` if there is no node.
     ///
-    /// Cost: constant.
+    /// Takes constant time.
     #[inline(always)]
     pub fn split_first(&self) -> Option<(Node<'a>, Siblings<'a>)>
         ensures { SplitsFirst (siblings_view self.now) result }

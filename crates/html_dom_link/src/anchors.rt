@@ -22,7 +22,7 @@ use std::collections::{BTreeMap, BTreeSet};
 
 /// Adds anchors for these locations to the tree of a document, and returns the anchor of each.
 ///
-/// The next element, text or frame behind a start tag serves its location, by its `id` or by a new
+/// The next element, text or frame after a start tag serves its location, by its `id` or by a new
 /// one made from the tag's label, as docs/RULES.md (Anchors) says. Adds a `span` around a text that
 /// serves, and an empty `span` at an end tag whose location still waits. A location recorded in a
 /// frame gets an anchor at its point for each of its start tags in frames. New names differ from

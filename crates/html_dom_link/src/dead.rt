@@ -38,7 +38,7 @@ pub struct DeadLink {
 ///   4.12.3);
 /// - all of them, if a `base` leads fragments elsewhere ([`base_of`](crate::base_of)).
 ///
-/// If there are none, each link behind a start tag with a destination leads once links are
+/// If there are none, each link after a start tag with a destination leads once links are
 /// resolved. Look before they are: a link that has an `href` is none of these. Fails only if an
 /// allocation fails.
 ///
@@ -131,7 +131,7 @@ fn add_link(
 
 // The node comes first among the parameters: its depth proves that the recursion ends.
 
-/// Appends the element's link, if it is dead behind tags with that destination, and the dead links
+/// Appends the element's link, if it is dead after tags with that destination, and the dead links
 /// below the element.
 #[cycle(dead)]
 fn add_element(

@@ -14,7 +14,7 @@ use std::alloc::{AllocError, Global};
 use std::collections::BTreeSet;
 
 /// Returns the fragment of an `href` to its own page, as a browser takes it (URL Standard 4.4): the
-/// text behind the `#` with which it begins, up to a directive (`:~:`, URL Fragment Text
+/// text after the `#` with which it begins, up to a directive (`:~:`, URL Fragment Text
 /// Directives). Ignores controls and spaces at both ends, and tabs, line feeds and carriage returns
 /// anywhere. `#` alone and `#:~:text=t`, which lead to the top of the page, have none. The fragment
 /// is not decoded: [`place_in`] returns the name to which it leads. Fails only if an allocation
@@ -101,7 +101,7 @@ pub fn decoded_fragment(alloc: Global, href: &str) -> Result<Option<String>, All
 
 /// Returns whether a fragment leads to a place of its page, or to the top, in a browser (HTML
 /// Standard 7.4.6.3), given the names of the places. The document's URL drops a directive (`:~:` and
-/// all behind it) and encodes the fragment by the fragment percent-encode set; the browser then
+/// all after it) and encodes the fragment by the fragment percent-encode set; the browser then
 /// looks for a place with that text as its name, or else with the text to which it decodes, with
 /// U+FFFD for bytes that are not UTF-8. The empty fragment leads to the top of the page; so does
 /// `top`, in any ASCII case, if no place has that name. Fails only if an allocation fails.
@@ -144,7 +144,7 @@ pub(crate) fn is_dropped(c: char) -> bool
     matches!(c, '\t' | '\n' | '\r')
 }
 
-/// Returns the text behind the `#` with which an `href` begins, past blanks.
+/// Returns the text after the `#` with which an `href` begins, past blanks.
 fn behind_hash(href: &str) -> Option<&str>
     ensures { option_map (λ text. chars text.now) result ≡ behind_hash (chars href.now) }
 {

@@ -34,7 +34,7 @@ pub fn answers_are_shown()
 {}
 
 /// Each name that a location gets is that of what serves it in the new tree: the first `id` of the
-/// next element behind its start tag, the `id` of the next frame, with only tags between, or the
+/// next element after its start tag, the `id` of the next frame, with only tags between, or the
 /// anchor of its start tag in a frame; of several start tags the last counts.
 #[tactic(auto, using(crate::proofs::Serving::anchors_serve))]
 pub fn anchors_serve()

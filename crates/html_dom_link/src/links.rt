@@ -44,7 +44,7 @@ impl LinkTargets<'_> {
 
 /// Adds an `href` to each link of a document that has none: one that leads to its destination.
 ///
-/// A link is an `a` at any depth below the root directly behind a start tag with a destination,
+/// A link is an `a` at any depth below the root directly after a start tag with a destination,
 /// with only tags between; of several such tags the nearest counts. If the document's introspector
 /// knows an anchor of that destination, and it is not empty, the link's first attribute becomes
 /// `href`: `#` and a spelling of the anchor's name that leads to it. Links that have an `href`, and
@@ -138,7 +138,7 @@ pub fn with_resolved_links(
     }
 }
 
-/// Returns the destination that counts right behind a node, given the one right before it.
+/// Returns the destination that counts right after a node, given the one right before it.
 pub(crate) fn dest_past(dest: Option<Location>, node: &HtmlNode) -> Option<Location>
     ensures { (before : List NodeView) → option_map (λ l. l.0) dest ≡ dest_before before →
         option_map (λ l. l.0) result ≡ dest_before (node_view node.now ∷ before) }

@@ -27,7 +27,7 @@ pub fn href_is_script(href: &str) -> bool
     begins("javascript:", url) || begins("data:", url) || begins("vbscript:", url)
 }
 
-/// Returns the text behind leading controls and spaces.
+/// Returns the text after leading controls and spaces.
 pub(crate) fn past_blanks(text: &str) -> &str
     ensures { chars result.now ≡ past_blanks (chars text.now) }
 {
@@ -41,7 +41,7 @@ pub(crate) fn past_blanks(text: &str) -> &str
     left
 }
 
-/// Returns the first character that a URL keeps, and the text behind it.
+/// Returns the first character that a URL keeps, and the text after it.
 fn first_kept(text: &str) -> Option<(char, &str)>
     ensures { MatchOption result (filter is_kept (chars text.now) ≡ [])
         (λ x. filter is_kept (chars text.now) ≡ x.0 ∷ filter is_kept (chars x.1.now)) }

@@ -1,4 +1,4 @@
-//! The spelling of a name behind the `#` of an `href`.
+//! The spelling of a name after the `#` of an `href`.
 
 ghost use Rattle.std.specs.Prelude.{◌≡◌, chars, option_map, None, IfOk};
 ghost use Rattle.percent_encoding.specs.Percent.{percent_encode};

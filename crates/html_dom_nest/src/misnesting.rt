@@ -28,7 +28,7 @@ pub enum Misnesting {
     /// and `input` in it, and takes in what follows (13.2.6.4.7, 13.2.6.5).
     StaysOpen,
     /// Browsers know no end tag of a `basefont`, `bgsound`, `keygen` or `param`, and put its
-    /// content behind it (13.2.6.4.4, 13.2.6.4.7).
+    /// content after it (13.2.6.4.4, 13.2.6.4.7).
     UnreadEnd,
     /// Elements and references in `iframe`, `noembed`, `noframes` and `xmp` are read as text
     /// (13.2.6.2).
@@ -39,7 +39,7 @@ pub enum Misnesting {
     /// A line feed at the beginning of a `listing` is dropped (13.2.6.4.7); the extra one that is
     /// written in a `textarea` of SVG or MathML is kept.
     FirstLineFeed,
-    /// The end tag of a `script` may be read as text behind a `<!--` (13.2.5.15 to 13.2.5.31).
+    /// The end tag of a `script` may be read as text after a `<!--` (13.2.5.15 to 13.2.5.31).
     ScriptComment,
     /// Not part of a `head`, or of a `noscript` there: the node closes it (13.2.6.4.4, 13.2.6.4.5).
     NotInHead,

@@ -71,7 +71,7 @@ fn is_space_between(bytes: &[u8], at: usize) -> bool
     bytes[at] == b' ' && bytes.len() - at > 1 && is_above_space(bytes[at + 1])
 }
 
-/// Returns the text behind characters that stand in a stretch: normal ones of ASCII above the
+/// Returns the text after characters that stand in a stretch: normal ones of ASCII above the
 /// space, and single spaces between them.
 fn past_words<'a>(text: &'a str, ends_normal: &mut bool) -> &'a str
     ensures passed { Passes ends_normal.old text.now ends_normal.new result.now }

@@ -40,7 +40,7 @@ use std::alloc::{AllocError, Global};
 pub struct ItemList {
     items: Vec<Pair>,
     span: Span,
-    /// Whether the first item was a space that `space` added, perhaps with a text behind it.
+    /// Whether the first item was a space that `space` added, perhaps with a text after it.
     starts_spaced: bool,
     ending: Ending,
 }
@@ -69,7 +69,7 @@ impl Ending {
         matches!(self, Ending::AddedSpace)
     }
 
-    /// Returns what stands last once a tag stands behind it, which is not seen.
+    /// Returns what stands last once a tag stands after it, which is not seen.
     fn behind_tag(self) -> Ending
         ensures { result ≡ tag_ending self }
     {
@@ -234,8 +234,8 @@ impl ItemList {
 
     /// Appends one space as a text, unless the last item is a text that ends in a space, or a line
     /// break or a block stands last: as in a browser, several spaces in a row are one, and there is
-    /// none behind a break. One that this call added goes again when a line break or a block is
-    /// appended right behind it. A block is an `Item::Block`, or an element that has lines of its
+    /// none after a break. One that this call added goes again when a line break or a block is
+    /// appended right after it. A block is an `Item::Block`, or an element that has lines of its
     /// own by its name (`tag::is_whitespace_collapsing`) or its css (`display: block`).
     ///
     /// ```
@@ -281,7 +281,7 @@ impl ItemList {
         self.text(" ")
     }
 
-    /// Notes that a space was added, as the first item or behind one.
+    /// Notes that a space was added, as the first item or after one.
     fn note_space(&mut self, is_first: bool)
         ensures { let old = list_view self.old in list_view self.new
             ≡ record old { starts_spaced = old.starts_spaced || is_first; ending = Ending.AddedSpace } }
@@ -482,7 +482,7 @@ fn push_text(text: &mut String, more: &str) -> Result<(), AllocError>
     Ok(())
 }
 
-/// Returns what stands last behind an item, where that stood before it.
+/// Returns what stands last after an item, where that stood before it.
 fn pair_ending(pair: &Pair, before: Ending) -> Ending
     ensures { result ≡ item_ending (pair_view pair.now).0 before }
 {

@@ -172,7 +172,7 @@ impl Notes {
     /// `<section class="footnotes" role="doc-endnotes"><ol>`, with an entry
     /// `<li role="doc-endnote">` for each note in order. An entry has the note's content and a link
     /// back to its mark (`↩︎`): in the last item of the content if that is a `p` with a body, so
-    /// that it stands in the last line, or else behind the content. The `section` and the `ol` have
+    /// that it stands in the last line, or else after the content. The `section` and the `ol` have
     /// the span 0. Copies the contents of the notes, which stay.
     ///
     /// ```
@@ -415,7 +415,7 @@ fn push_note(
 }
 
 /// Appends the link back to the mark of a note: inside the last item if that is a paragraph with a
-/// body, or else behind the items.
+/// body, or else after the items.
 fn push_back_link(
     alloc: Global,
     content: &mut Vec<Pair>,

@@ -178,7 +178,7 @@ fn ended_move(innermost: Option<Bracket>, b: u8) -> Option<Move>
     }
 }
 
-/// Returns what comes next behind a value.
+/// Returns what comes next after a value.
 fn behind_move(innermost: Option<Bracket>, b: u8) -> Option<Move>
     ensures { result ≡ places.behind_move innermost b }
 {

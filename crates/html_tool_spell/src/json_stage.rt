@@ -7,7 +7,7 @@ pub(crate) enum Bracket {
     Object,
 }
 
-/// A part of a string, behind what it names.
+/// A part of a string, after what it names.
 #[derive(Clone, Copy)]
 pub(crate) enum TextPart {
     Plain,
@@ -32,7 +32,7 @@ pub(crate) enum TextPart {
     LowUnitD,
 }
 
-/// A part of a number, behind what it names.
+/// A part of a number, after what it names.
 #[derive(Clone, Copy)]
 pub(crate) enum NumberPart {
     Minus,
@@ -41,7 +41,7 @@ pub(crate) enum NumberPart {
     /// Digits before a point.
     Whole,
     Point,
-    /// Digits behind a point.
+    /// Digits after a point.
     Fraction,
     Exponent,
     /// The sign of an exponent.

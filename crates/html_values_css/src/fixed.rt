@@ -6,7 +6,7 @@ ghost use Rattle.html_values_css.specs.Quantities.{fixed_text, fraction_digits, 
 use std::alloc::{AllocError, Global};
 
 /// Formats a number of millionths, rounded to whole hundreds of them, half away from zero. The last
-/// `decimals` digits of the hundreds are written behind the point, without trailing zeros.
+/// `decimals` digits of the hundreds are written after the point, without trailing zeros.
 #[tactic(auto, using(crate::proofs::Digits::append_steps))]
 pub(crate) fn fixed(alloc: Global, millionths: i64, decimals: u32) -> Result<String, AllocError>
     requires few { decimals < 5 }
@@ -60,7 +60,7 @@ fn push_point(text: &mut String, rest: u64, decimals: u32) -> Result<(), AllocEr
     push_fraction(text, rest, decimals)
 }
 
-/// Appends `rest` as `decimals` digits behind the point, without trailing zeros.
+/// Appends `rest` as `decimals` digits after the point, without trailing zeros.
 fn push_fraction(text: &mut String, rest: u64, decimals: u32) -> Result<(), AllocError>
     requires few { decimals < 5 }
     requires below { rest < 10 ^ decimals }

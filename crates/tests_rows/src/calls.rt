@@ -45,7 +45,7 @@
 //! - `list-lines`: the lines that its page shows, but for empty ones, with `/` between them
 //! - `list-page`: the content of the body, with the notes at the end and with links resolved
 //!
-//! For a page, of which the input is the text behind the document type:
+//! For a page, of which the input is the text after the document type:
 //!
 //! - `read [limit=N]`: the text of the tree that is read, or `same` if that is the input;
 //!   `none at N, L:C` if reading stops there: the offset in bytes, line and column;

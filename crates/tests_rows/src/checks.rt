@@ -14,7 +14,7 @@ use std::alloc::Global;
 use std::collections::BTreeSet;
 use tests_rows_run::Row;
 
-/// Returns the dead links, and behind them those that are left without an `href` once links are
+/// Returns the dead links, and after them those that are left without an `href` once links are
 /// resolved, if these are others.
 pub(crate) fn dead_link_list(alloc: Global, row: &Row<'_>) -> Result<String> {
     let mut links = dead_links_of(alloc, document_of(alloc, row)?)?;

@@ -1,7 +1,7 @@
 //! Lists that grow item by item, with notes.
 //!
 //! Such a list is spelled by the calls that fill it: `["text",t]`, `["space"]`, `["break"]`,
-//! `["el",tag,[[name,value],..],list]`, with `null` for no body and perhaps css behind it, a
+//! `["el",tag,[[name,value],..],list]`, with `null` for no body and perhaps css after it, a
 //! further list of names and values; `["mark",key]`, `["note",list]`, which marks a note of that
 //! content, `["set",key,list]`; and `["items",items]` for items of another kind, as
 //! `tests_rows_items` spells them. A list is the body of a block by `into_block_items`, as those of

@@ -7,7 +7,7 @@
 //! - `bad input at 2` if `bad input` alone is written since a value does not have the form, and
 //!   `bad input at line 1 column 5` if the input is no JSON: with the place that the library reports
 //!   of the same input,
-//! - otherwise the text: for a tree everything behind the document type; for items the content of
+//! - otherwise the text: for a tree everything after the document type; for items the content of
 //!   the body, if all around it is as in a document without information, else the whole text. The
 //!   line feeds that `--pretty` writes at the beginning and at the end are left out, too.
 
@@ -16,7 +16,7 @@ use html_tool_run::{Fault, InputPlace, Status, Task, run, text_of_input, wanted_
 use std::alloc::Global;
 use tests_rows_run::Row;
 
-/// The text before and behind the body of a document without information.
+/// The text before and after the body of a document without information.
 pub(crate) const PLAIN: (&str, &str) = (
     concat!(
         r#"<!DOCTYPE html><html lang="en"><head><meta charset="utf-8">"#,

@@ -46,7 +46,7 @@ impl<'a> Row<'a> {
         }
     }
 
-    /// Returns the text behind the `=` of the word with that name.
+    /// Returns the text after the `=` of the word with that name.
     pub fn value(&self, name: &str) -> Option<&str> {
         for word in &self.words {
             if let Some((before, value)) = word.split_once('=')
@@ -148,7 +148,7 @@ fn plain_bytes(alloc: Global, text: &str, is_escaped: bool) -> Result<Vec<u8>> {
     Ok(bytes)
 }
 
-/// Appends the character of an escape, and the text behind it.
+/// Appends the character of an escape, and the text after it.
 fn add_escaped(bytes: &mut Vec<u8>, text: &str) -> Result<()> {
     let mut chars = text.chars();
     let kind = chars.next();
@@ -157,7 +157,7 @@ fn add_escaped(bytes: &mut Vec<u8>, text: &str) -> Result<()> {
     Ok(())
 }
 
-/// Appends the character of an escape of that kind, and returns the text behind it.
+/// Appends the character of an escape of that kind, and returns the text after it.
 fn add_escape<'a>(bytes: &mut Vec<u8>, kind: Option<char>, rest: &'a str) -> Result<&'a str> {
     match kind {
         Some('n') => bytes.push(b'\n')?,

@@ -40,7 +40,7 @@ fn texts_without_the_document_type_are_not_read(rt: HostRuntime) {
     }
 }
 
-/// A page, with white space behind it.
+/// A page, with white space after it.
 const PAGE: &str = concat!(
     "<!DOCTYPE html>\n<html lang=\"en\"><head><meta charset=\"utf-8\">",
     "<title>Salt &amp; vinegar &lt; pepper</title>",
@@ -60,7 +60,7 @@ const PAGE: &str = concat!(
     "</body></html>\n\t\r \n",
 );
 
-/// Returns whether the text is white space that may stand behind the root.
+/// Returns whether the text is white space that may stand after the root.
 fn is_blank(text: &str) -> bool {
     text.chars().all(|c| matches!(c, '\t' | '\n' | '\r' | ' '))
 }

@@ -47,7 +47,7 @@ fn recorded_writers_fail(rt: HostRuntime) {
     assert!(rt; writer.last() == LastCall::Failed);
 }
 
-/// The arguments behind the name of the program, and the task that they request.
+/// The arguments after the name of the program, and the task that they request.
 const WORDS: [(&[&str], Option<(Task, bool)>); 3] = [
     (&["html_tool", "tree"], Some((Task::Tree, false))),
     (&["html_tool", "doc", "--pretty"], Some((Task::Doc, true))),

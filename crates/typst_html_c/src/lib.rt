@@ -258,9 +258,9 @@ pub fn typst_html_unused(alloc: Global, limit: u32, input: &[u8], output: &mut [
 /// that is not from 1 to 1,000 is bad input without a place. Buffers and replies are those of
 /// [`typst_html_write`].
 ///
-/// Cost: that of reading. Each list takes one more pass over the page, and each finding the length
-/// of its path. The findings are written as they are found: beside the report, two paths are held.
-/// The tree is freed while the misnested nodes are written.
+/// Takes the time of reading. Each list takes one more pass over the page, and each finding the
+/// length of its path. The findings are written as they are found: beside the report, two paths are
+/// held. The tree is freed while the misnested nodes are written.
 pub fn typst_html_check(alloc: Global, limit: u32, page: &[u8], output: &mut [u8]) -> Reply
     ensures answered { Reports (check_report limit page.now) output.old result output.new }
     ensures kept { ¬ (result.status ≡ 0) → output.new ≡ output.old }

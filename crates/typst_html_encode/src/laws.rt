@@ -67,7 +67,7 @@ pub fn reads_references()
 
 /// Texts with a raw text that ends in a closing tag but for its last character, a raw text with a
 /// closing tag in capitals, an escapable raw text with and without an element, and a line feed
-/// behind the start tag of `pre`, which is dropped, and of `p`, which is kept.
+/// after the start tag of `pre`, which is dropped, and of `p`, which is kept.
 pub fn reads_raw_text()
     ensures script { read (codes "<!DOCTYPE html><script></script</script>")
         ≡ Some (paragraph_of (codes "script") (codes "</script")) }

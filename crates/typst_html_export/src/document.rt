@@ -97,7 +97,7 @@ pub fn html_document(
 /// Makes a document from items like [`html_document`], with nodes of your own in its head: a
 /// stylesheet, an icon, `meta`.
 ///
-/// Copies them to the end of the head that is made, behind what comes from the information. There
+/// Copies them to the end of the head that is made, after what comes from the information. There
 /// they are nodes of the document like all others: their css becomes `style`, positions lead to
 /// them, targets among them get anchors, and no other anchor gets one of their ids.
 ///
@@ -219,7 +219,7 @@ pub fn html_document_for_bundle(
         (assembled_document (info_view info.now) (items_view items.now) (items_view footnotes.now))
         (items_document_faults limit (items_view items.now) (items_view footnotes.now)) }
     ensures leads { IfOk result (λ document. PositionsLead (document_view document)) }
-    // Of items in plain flow, without footnotes, exactly their text is visible.
+    // If items are in plain flow, without footnotes, exactly their text is visible.
     ensures spaces { IfOk result (λ document. SpacesAreLeft (document_view document)
         (items_view items.now) (items_view footnotes.now)) }
 {

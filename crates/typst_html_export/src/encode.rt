@@ -215,7 +215,7 @@ pub fn export_with_head<F: FrameWriter>(
 ///
 /// [`html_document`] makes the document, [`resolve_links`](html_dom_link::resolve_links) sets the
 /// `href` of its links, and [`html`] writes it. A link is an `a` without an `href` that stands
-/// behind a start tag with a destination; its `href` becomes that of the destination's anchor.
+/// after a start tag with a destination; its `href` becomes that of the destination's anchor.
 /// Fails as [`export`] does.
 ///
 /// Each link that got an `href` leads: the fragment that a browser takes from it indicates its

@@ -82,7 +82,7 @@ impl GatheredPage {
         Ok(())
     }
 
-    /// Appends a part that is no text, behind the text that has begun.
+    /// Appends a part that is no text, after the text that has begun.
     fn push_part(&mut self, part: Shown) -> Result<(), AllocError>
         ensures { OnOk result (page_view self.new
             ≡ with_part (page_view self.old) (part_view part) self.old.after_edge) }

@@ -21,7 +21,7 @@ enum Before {
     Bare,
     /// What supports a blank: a visible character, a kept blank or an object.
     Support,
-    /// A blank that has support before it, and the ignorable characters behind it. They are held
+    /// A blank that has support before it, and the ignorable characters after it. They are held
     /// back until it is known whether support follows.
     Blank(TextWriter),
 }

@@ -31,8 +31,8 @@ use std::alloc::{AllocError, Global};
 ///   element is an `embed`;
 /// - an `input` whose `type` is `hidden` in any ASCII case.
 ///
-/// Of a repeated attribute the first counts. Elements of SVG and MathML are judged like those of
-/// HTML. What is hidden counts as absent. A `noscript` is visible, as without scripting.
+/// If an attribute is repeated, the first counts. Elements of SVG and MathML are judged like those
+/// of HTML. What is hidden counts as absent. A `noscript` is visible, as without scripting.
 ///
 /// A tab, line feed, carriage return or space is visible as a space if what stands before it and
 /// what stands after it, further such blanks after it aside, support it; otherwise it is invisible.

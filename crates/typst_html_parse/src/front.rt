@@ -1,4 +1,4 @@
-//! Texts split behind their leading characters of a kind.
+//! Texts split after their leading characters of a kind.
 
 ghost use Rattle.std.specs.Prelude.{◌≡◌, IfSome, IsTrue};
 ghost use Rattle.html_names.specs.Names.{is_ascii};
@@ -7,7 +7,7 @@ ghost use Rattle.typst_html_parse.specs.Fronts.{BeginsWith, CutsAll, begins_smal
 
 use typst_html_encode::past_common;
 
-/// Splits a text behind its leading common characters.
+/// Splits a text after its leading common characters.
 pub(crate) fn cut_common(text: &str) -> (&str, &str)
     ensures { CutsAll is_common text.now result.0.now result.1.now }
 {
@@ -21,7 +21,7 @@ fn is_name_byte(byte: u8) -> bool
     byte.is_ascii_lowercase() || byte.is_ascii_digit() || byte == b'-'
 }
 
-/// Splits a text behind its leading lowercase letters, digits and `-`.
+/// Splits a text after its leading lowercase letters, digits and `-`.
 pub(crate) fn cut_name(text: &str) -> (&str, &str)
     ensures { CutsAll is_name_char text.now result.0.now result.1.now }
 {

@@ -36,7 +36,7 @@ impl Reader {
         Ok(())
     }
 
-    /// Reads a character behind a reference.
+    /// Reads a character after a reference.
     fn behind_reference(&mut self, c: char) -> Result<(), Halt>
         ensures { Moves result (tokens.text_read c (reader_of self.old)) (reader_of self.new) }
     {

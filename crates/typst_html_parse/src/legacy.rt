@@ -6,7 +6,7 @@ ghost use Rattle.typst_html_parse.specs.PageReferences as references;
 
 use typst_html_parse_names::legacy_reference;
 
-/// A name with which a text begins: its characters, and the text behind it.
+/// A name with which a text begins: its characters, and the text after it.
 #[derive(Clone, Copy)]
 pub(crate) struct Legacy<'a> {
     pub(crate) value: (char, Option<char>),

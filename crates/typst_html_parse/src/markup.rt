@@ -1,4 +1,4 @@
-//! Markup behind `<!`, and document types (HTML Standard 13.2.5.42, 13.2.5.53).
+//! Markup after `<!`, and document types (HTML Standard 13.2.5.42, 13.2.5.53).
 
 ghost use Rattle.std.specs.Char.{to_ascii_lowercase};
 ghost use Rattle.std.specs.Prelude.{◌≡◌, ◌∷◌, ◌++◌, [], OnOk, IsTrue, bytes_eq, chars, codes, map};
@@ -43,7 +43,7 @@ fn is_doctype(text: &str) -> bool
     text.eq_ignore_ascii_case("doctype")
 }
 
-/// Returns whether the markup that may stand behind `<!` begins with the text.
+/// Returns whether the markup that may stand after `<!` begins with the text.
 fn begins_markup(text: &str) -> bool
     ensures { result ≡ tokens.begins_markup (chars text.now) }
 {

@@ -7,7 +7,7 @@ ghost use Rattle.typst_html_parse.specs.ReachedPlaces.{IsReached};
 
 use typst_html_read::Place;
 
-/// Returns the place behind one more character. A line feed behind a carriage return ends no other
+/// Returns the place after one more character. A line feed after a carriage return ends no other
 /// line, and a byte order mark at the beginning is no character of a line.
 fn next_place(after_return: bool, place: Place, c: char) -> Place
     requires offset { place.offset + len_utf8 c < 2 ^ 64 }
@@ -52,7 +52,7 @@ fn next_place(after_return: bool, place: Place, c: char) -> Place
 #[derive(Clone, Copy)]
 pub struct Places<'a> {
     text: &'a str,
-    /// The text behind the last returned place.
+    /// The text after the last returned place.
     rest: &'a str,
     place: Place,
     after_return: bool,

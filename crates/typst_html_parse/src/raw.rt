@@ -26,7 +26,7 @@ fn closing_length(name: &str) -> usize
 }
 
 impl Depth {
-    /// Returns the depth behind a text and one more character.
+    /// Returns the depth after a text and one more character.
     fn behind(self, text: &str, c: char) -> Depth
         ensures { depth_of result ≡ tokens.script_depth (depth_of self) (chars text.now) c }
     {
@@ -40,7 +40,7 @@ impl Depth {
         }
     }
 
-    /// Returns whether the closing tag with that name may end behind so many characters.
+    /// Returns whether the closing tag with that name may end after so many characters.
     fn may_end(self, run: u8, name: &str) -> bool
         requires { IsOf is_tag_char (chars name.now) }
         ensures { result ≡ tokens.may_end (chars name.now) (depth_of self) run }

@@ -160,7 +160,7 @@ impl Reader {
         }
     }
 
-    /// Reads a character. A line feed behind a carriage return is part of it (HTML Standard
+    /// Reads a character. A line feed after a carriage return is part of it (HTML Standard
     /// 13.2.3.5).
     pub(crate) fn step(&mut self, c: char) -> Result<(), Halt>
         requires { self.old.reading.place + len_utf8 c < 2 ^ 64 }

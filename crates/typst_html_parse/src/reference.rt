@@ -32,7 +32,7 @@ fn is_x(c: char) -> bool
     matches!(c, 'x' | 'X')
 }
 
-/// Returns whether the character belongs to the reference behind `&#` and these characters.
+/// Returns whether the character belongs to the reference after `&#` and these characters.
 fn continues_number(since: &str, c: char) -> bool
     ensures { result ≡ references.continues_number (chars since.now) c }
 {
@@ -48,7 +48,7 @@ fn continues_number(since: &str, c: char) -> bool
     }
 }
 
-/// Returns whether the character belongs to the reference behind `&` and these characters.
+/// Returns whether the character belongs to the reference after `&` and these characters.
 pub(crate) fn continues(since: &str, c: char) -> bool
     ensures { result ≡ references.continues (chars since.now) c }
 {
@@ -68,9 +68,9 @@ pub(crate) fn continues(since: &str, c: char) -> bool
 #[derive(Drop)]
 pub(crate) struct Resolved {
     pub(crate) text: String,
-    /// Whether the `;` behind it belongs to it.
+    /// Whether the `;` after it belongs to it.
     pub(crate) takes_end: bool,
-    /// The error that no `;` is behind it, or an error of its name.
+    /// The error that no `;` is after it, or an error of its name.
     pub(crate) missing: Option<PageError>,
     /// An error of its number.
     pub(crate) error: Option<PageError>,
@@ -244,7 +244,7 @@ fn resolve_name(
 }
 
 #[tactic(auto, unfolding(crate::specs::PageReferences::resolved))]
-/// Resolves a reference from the characters behind `&`, and the one behind them.
+/// Resolves a reference from the characters after `&`, and the one after them.
 pub(crate) fn resolve(
     alloc: Global,
     in_value: bool,

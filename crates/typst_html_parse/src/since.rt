@@ -1,4 +1,4 @@
-//! The text behind the `&` of a reference.
+//! The text after the `&` of a reference.
 
 ghost use Rattle.std.specs.Prelude.{◌≡◌, ◌<◌, ◌++◌, ◌∷◌, [], OnOk, IsTrue, chars, string_bytes};
 ghost use Rattle.html_dom_tree.specs.Views.{text_view};

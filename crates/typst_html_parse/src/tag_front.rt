@@ -46,7 +46,7 @@ impl Reader {
         Ok(rest)
     }
 
-    /// Returns the rest of a text behind the name and the `>` of the current node's end tag, if the
+    /// Returns the rest of a text after the name and the `>` of the current node's end tag, if the
     /// text begins with them and the tag only closes the node.
     fn past_own_end<'a>(&self, text: &'a str) -> Option<&'a str>
         ensures { IfSome result (λ rest.
@@ -64,7 +64,7 @@ impl Reader {
         strip(rest, ">")
     }
 
-    /// Closes the current node behind so many more bytes, with which its own end tag ends.
+    /// Closes the current node after so many more bytes, with which its own end tag ends.
     fn close_own(&mut self, length: usize) -> Result<(), Halt>
         requires { self.old.reading.place + length < 2 ^ 64 }
         ensures closed { OnOk result (behind_own_end length (reading_of self.old.reading)
@@ -79,7 +79,7 @@ impl Reader {
         Ok(())
     }
 
-    /// Reads an end tag behind `</` that only closes the current node, or the name of another, and
+    /// Reads an end tag after `</` that only closes the current node, or the name of another, and
     /// returns the rest.
     fn read_end<'a>(&mut self, text: &'a str) -> Result<&'a str, Halt>
         requires open { (reader_of self.old).state ≡ tag_open true }
@@ -97,7 +97,7 @@ impl Reader {
         }
     }
 
-    /// Begins a value in double quotes, behind the name of an attribute and `="`.
+    /// Begins a value in double quotes, after the name of an attribute and `="`.
     fn begin_value(&mut self, attr: &str) -> Result<(), AllocError>
         requires { self.old.reading.place + (length attr.now + 2) < 2 ^ 64 }
         ensures { OnOk result (reader_of self.new
@@ -116,7 +116,7 @@ impl Reader {
         Ok(())
     }
 
-    /// Reads the name of an attribute and the `="` behind it at the beginning of a text, if its
+    /// Reads the name of an attribute and the `="` after it at the beginning of a text, if its
     /// letters are lowercase, and returns the rest.
     fn read_attr<'a>(&mut self, text: &'a str) -> Result<&'a str, Halt>
         requires before { self.old.state ≡ state.BeforeAttr }

@@ -14,7 +14,7 @@ use typst_html_parse_open::{Halt, PageError, PageRefusal, StartTag, TagName, Tok
 use typst_html_parse_tree::is_space;
 
 impl Reader {
-    /// Sets the state for the content behind a start tag, which depends on whether it is text
+    /// Sets the state for the content after a start tag, which depends on whether it is text
     /// alone.
     fn enter(&mut self, drops_feed: bool)
         ensures { reader_of self.new ≡ tokens.behind_start_tag drops_feed

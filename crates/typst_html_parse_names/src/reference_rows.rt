@@ -115,7 +115,7 @@ macro_rules! legacy_rows {
     };
 }
 
-/// The names of each group, each behind the one before.
+/// The names of each group, each after the one before.
 pub(crate) static LEGACY_NAMES: [&str; 58] = legacy_rows!(names_column);
 
 /// The characters for each name.
@@ -683,7 +683,7 @@ macro_rules! other_rows {
     };
 }
 
-/// The names of each group, each behind the one before.
+/// The names of each group, each after the one before.
 pub(crate) static OTHER_NAMES: [&str; 58] = other_rows!(names_column);
 
 /// The characters for each name.

@@ -54,7 +54,7 @@ fn other_reference(name: &str) -> Option<(char, Option<char>)>
     value_in_groups(&OTHER_NAMES, &OTHER_REFERENCES, name)
 }
 
-/// Returns the one or two characters for a name that has no `;` behind it, which some names may
+/// Returns the one or two characters for a name that has no `;` after it, which some names may
 /// lack.
 ///
 /// ```

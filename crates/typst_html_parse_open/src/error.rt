@@ -68,7 +68,7 @@ pub enum PageError {
     /// No document type stands before the first tag or text.
     #[error("no document type")]
     NoDocumentType,
-    /// A document type stands behind the first tag, text or document type.
+    /// A document type stands after the first tag, text or document type.
     #[error("a misplaced document type")]
     MisplacedDocumentType,
     /// An end tag closes no element.

@@ -14,7 +14,7 @@ pub struct Lost {
     pub(crate) names: Vec<Option<HtmlTag>>,
 }
 
-/// Returns the index of the last element with that name that no element behind it hides.
+/// Returns the index of the last element with that name that no element after it hides.
 fn place_of(names: &[Option<HtmlTag>], tag: &HtmlTag) -> Option<usize>
     ensures { IsLookup tag.now names.now result }
 {
@@ -56,7 +56,7 @@ impl Lost {
         Ok(())
     }
 
-    /// Removes the last element that hides others, and those behind it.
+    /// Removes the last element that hides others, and those after it.
     pub(crate) fn leave_marker(&mut self)
         ensures { reverse self.new.names.items ≡ behind_marker (reverse self.old.names.items) }
     {

@@ -73,7 +73,7 @@ impl OpenElement {
         name == self.element.tag.resolve()
     }
 
-    /// Returns whether the name has the character at that index or, behind the name, whether the
+    /// Returns whether the name has the character at that index or, after the name, whether the
     /// character is `>`.
     pub(crate) fn ends_at(&self, place: usize, c: char) -> bool
         ensures { result ≡ (c == get_or (open_of self.now).name place 62) }

@@ -53,7 +53,7 @@ fn next_place(place: Place, c: char) -> Place
     }
 }
 
-/// Returns the place behind that many characters of a text, or the end of the text if it has fewer.
+/// Returns the place after that many characters of a text, or the end of the text if it has fewer.
 pub(crate) fn place_at(text: &str, count: usize) -> Place
     ensures { result ≡ place_at (chars text.now) count }
 {

@@ -36,7 +36,7 @@ const DOCUMENT_TYPE: &str = "<!DOCTYPE html>";
 /// - [`ReadFault::Syntax`]: the text has another syntax. The place is that of the first character
 ///   with which no readable text goes on, or the end of an incomplete text. A name is judged once
 ///   it ends: the place of a name that `HtmlTag::intern` or `HtmlAttr::intern` refuses is that of
-///   the character behind it.
+///   the character after it.
 ///
 /// Takes time for each byte of the text. Allocates, beside the element, memory for the open
 /// elements, one text and one name.

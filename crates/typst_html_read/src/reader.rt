@@ -21,7 +21,7 @@ pub(crate) enum Mode {
     Outside,
     /// Within an element.
     Content,
-    /// Right after a start tag behind which a line feed is dropped.
+    /// Right after a start tag after which a line feed is dropped.
     Fresh,
     /// After `&` in a text.
     Reference,

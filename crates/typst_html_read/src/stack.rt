@@ -82,7 +82,7 @@ impl Stack {
         }
     }
 
-    /// Returns whether the name of the innermost element has the character at that index or, behind
+    /// Returns whether the name of the innermost element has the character at that index or, after
     /// the name, whether the character is `>`.
     pub(crate) fn ends_at(&self, place: usize, c: char) -> bool
         ensures { result ≡ ends_at (stack_of self.now) place c }
@@ -93,7 +93,7 @@ impl Stack {
         }
     }
 
-    /// Returns the rest of a text behind the end tag of the innermost element, if the text begins
+    /// Returns the rest of a text after the end tag of the innermost element, if the text begins
     /// with that tag.
     pub(crate) fn past_end_tag<'a>(&self, text: &'a str) -> Option<&'a str>
         ensures { IfSome result (λ rest.

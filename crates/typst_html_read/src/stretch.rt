@@ -43,7 +43,7 @@ fn split_name(text: &str) -> (&str, &str)
     text.split_at(at)
 }
 
-/// Splits a text behind the name or number of one of the most frequent references, if it begins
+/// Splits a text after the name or number of one of the most frequent references, if it begins
 /// with one.
 fn split_reference(text: &str) -> (&str, &str)
     ensures parts { chars text.now ≡ chars result.0.now ++ chars result.1.now }

@@ -32,7 +32,7 @@ impl Adding {
     }
 }
 
-/// Adds texts to a list without items, and behind a text.
+/// Adds texts to a list without items, and after a text.
 #[test]
 fn texts_in_lists(rt: HostRuntime) -> TestResult {
     let alloc = rt.alloc();
