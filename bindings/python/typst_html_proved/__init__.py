@@ -338,7 +338,8 @@ class Info:
             "lang": _known("a language", self.lang, "Info(lang)"),
             "region": _known("a region", self.region, "Info(region)") if self.lang is not None else None,
         }
-        return {name: value for name, value in given.items() if value is not None}
+        # An empty list counts as given, so `unused` would name it.
+        return {name: value for name, value in given.items() if value not in (None, [])}
 
 
 
@@ -644,7 +645,9 @@ def _document(call: str, items: Items, footnotes: Items, head: Items, info: Info
         raise BadInput(f"info is {_kind_of(info)}, not an Info", where=f"{call}(info)")
     given = {"items": items, "footnotes": footnotes, "head": head}
     listed = {name: _listed(call, name, of) for name, of in given.items()}
-    return _Given(call, (), "document", value={**info.members(), **listed})
+    # An empty list counts as given, so `unused` would name it.
+    filled = {name: of for name, of in listed.items() if of or name == "items"}
+    return _Given(call, (), "document", value={**info.members(), **filled})
 
 
 def write(

@@ -131,8 +131,11 @@ fn put_info<S: SerializeMap>(info: &Info, to: &mut S) -> Result<(), S::Error> {
         to,
         &[("title", &info.title), ("description", &info.description)],
     )?;
-    to.serialize_entry("authors", &info.authors)?;
-    to.serialize_entry("keywords", &info.keywords)?;
+    for (name, texts) in [("authors", &info.authors), ("keywords", &info.keywords)] {
+        if !texts.is_empty() {
+            to.serialize_entry(name, texts)?;
+        }
+    }
     match info.lang {
         None => Ok(()),
         Some(_) => put_texts(to, &[("lang", &info.lang), ("region", &info.region)]),

@@ -396,7 +396,7 @@ fn refusals_have_numbers_spans_and_words() {
     );
     assert_eq!(
         report(br#"{"items":[["hole"]],"footnotes":7}"#),
-        "bad input at 1, footnotes"
+        "bad input at footnotes"
     );
     assert_eq!(
         report(br#"{"title":"t","region":"AT"}"#),
