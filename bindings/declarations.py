@@ -13,14 +13,14 @@ from pathlib import Path
 
 ROOT = Path(__file__).resolve().parent.parent
 # the exports, and the calls behind them with what they reply
-SOURCES = [ROOT / "crates" / crate / "src" for crate in ("typst_html_static", "typst_html_c")]
+SOURCES = [ROOT / "crates" / crate / "src" for crate in ("typst_html_static", "typst_html_ffi")]
 # the faults that have the numbers of refusals
-FAULTS = [ROOT / "crates" / crate / "src" / "fault.rt" for crate in ("html_names", "typst_html_encode", "typst_html_parse_open")]
+FAULTS = [ROOT / "crates" / crate / "src" / "fault.rt" for crate in ("html_names_core", "typst_html_encode", "html_page_stack")]
 FILES = {
     "header": "bindings/typst_html.h", "raw": "bindings/rust/src/raw.rs", "refusal": "bindings/rust/src/refusal.rs",
     "lib": "bindings/rust/src/lib.rs", "package": "bindings/python/typst_html_proved/__init__.py",
     "library": "bindings/python/typst_html_proved/_library.py", "spoken": "bindings/python/typst_html_proved/_words.py", "crate": "bindings/rust/Cargo.toml",
-    "project": "bindings/python/pyproject.toml", "licence": "LICENSE", "readme": "README.md",
+    "project": "bindings/python/pyproject.toml", "licence": "LICENSE", "readme": "README.md", "changes": "CHANGELOG.md",
 }  # fmt: skip
 
 # What stands for a type, in the words of Rust. A slice is a pointer and a length.
@@ -52,7 +52,7 @@ CHANGES = [
     ("raw", "    status: u8,\n    number: u8,", "    number: u8,\n    status: u8,", "reply"),
     ("library", "    _fields_", "    _pack_ = 1\n    _fields_", "reply"),
     ("library", '("status", ctypes.c_uint8)', '("state", ctypes.c_uint8)', "reply"),
-    ("library", "VERSION: Final = 7", "VERSION: Final = 8", "version"),
+    ("library", "VERSION: Final = 8", "VERSION: Final = 9", "version"),
     ("refusal", "tag name must not be empty", "tag name is empty", "words"),
     ("spoken", "a token finds no place", "a token has no place", "words"),
     ("header", "a void element has a child", "a void element has children", "words"),
@@ -61,7 +61,8 @@ CHANGES = [
     ("faults", "an open a would be removed", "an open a is removed", "own words"),
     ("library", "OUT_OF_MEMORY = 3", "OUT_OF_MEMORY = 4", "statuses"),
     ("header", "TYPST_HTML_DEAD_LINKS = 5", "TYPST_HTML_LOST_LINKS = 5", "statuses"),
-    ("package", '__version__: Final = "0.1.0"', '__version__: Final = "0.1.1"', "package"),
+    ("package", '__version__: Final = "0.8.0"', '__version__: Final = "0.8.1"', "package"),
+    ("changes", "## 0.8.", "## 0.7.", "release"),
     ("crate", "Apache-2.0", "MIT", "licence"),
     ("project", "Apache-2.0", "MIT", "licence"),
 ]  # fmt: skip
@@ -216,6 +217,11 @@ def compared(texts):
         "own words": own_words(texts["faults"], words_of_header(header)),
         "statuses": [statuses_of_header(header), statuses_of_python(library)],
         "package": [first(r'^version = "(.*)"$', "crate"), plain(package["__version__"])],
+        # the number in the middle is the version of the calls
+        "release": [
+            number(r'^version = "0\.(\d+)\.\d+"$', "crate"), number(r"^## 0\.(\d+)\.\d+", "changes"),
+            number(r"define TYPST_HTML_VERSION (\d+)", "header"),
+        ],
         "licence": [
             "-".join(re.match(r"\s*(\w+) License\s+Version ([\d.]+),", texts["licence"]).groups()),
             first(r'^license = "(.*)"$', "crate"), first(r'^license = \{ text = "(.*)" \}$', "project"),

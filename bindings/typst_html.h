@@ -29,7 +29,7 @@ extern "C" {
 #endif
 
 /* The version of these calls: compare it with typst_html_version(). */
-#define TYPST_HTML_VERSION 7
+#define TYPST_HTML_VERSION 8
 
 /* The outcome of a call. `output` is unchanged after all but TYPST_HTML_DONE and
    TYPST_HTML_DEAD_LINKS. */

@@ -57,7 +57,7 @@ __all__ = [
     "place", "role", "start", "text", "unused", "write", "write_fragment", "write_fragment_json", "write_json", "write_tree",
 ]  # fmt: skip
 
-__version__: Final = "0.1.0"
+__version__: Final = "0.8.0"
 """The version of this package. `VERSION` is the version of the library's calls."""
 
 for _kind in (DeadFragment, Findings, Misnested, PageId, PageLink, PageLinks, PageName, Place, RepeatedId):
@@ -303,7 +303,7 @@ class OtherLibrary(Failure):
     """The library replies as no library of this version does. (One that reports another version is not imported.)
 
     >>> str(OtherLibrary())
-    'the library replies as none of version 7 does'
+    'the library replies as none of version 8 does'
     """
 
     def __str__(self) -> str:

@@ -11,7 +11,7 @@ from typing import Any, Final, Mapping
 
 NAME: Final = "libtypst_html.so"
 
-VERSION: Final = 7
+VERSION: Final = 8
 """The version of the library's calls that this package was made for."""
 
 

@@ -82,7 +82,7 @@ pub use refusal::{DeadLinks, Place, Refusal};
 pub struct FirstPage;
 
 /// The version of the library's calls that this crate was made for.
-pub const VERSION: u32 = 7;
+pub const VERSION: u32 = 8;
 
 /// The reason why reading the library's own JSON does not fail.
 const KNOWN_FORM: &str = "the library writes JSON of that form";

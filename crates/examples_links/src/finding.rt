@@ -1,9 +1,9 @@
 //! The findings in a site.
 
 use examples_links_files::NotGiven;
+use html_page::{PageFault, Place};
 use std::alloc::{AllocError, Global};
 use std::fmt;
-use typst_html::{PageFault, Place};
 
 /// A page that is refused, or a page or folder that the system can't read.
 #[derive(Drop)]

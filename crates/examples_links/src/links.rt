@@ -1,8 +1,8 @@
 //! The links of a page.
 
 use examples_links_files::{cleaned, is_external, scheme_of};
+use html_page::{HtmlElement, Place, Places, Visit, Walk, attr, base_of};
 use std::alloc::{AllocError, Global};
-use typst_html::{HtmlElement, HtmlNode, Place, Places, attr, base_of};
 
 /// A link within the site.
 #[derive(Drop)]
@@ -35,8 +35,30 @@ impl<'a> Links<'a> {
             found: Vec::new(alloc),
             base: base_address(alloc, root)?,
         };
-        add_element(root, false, &mut links)?;
+        links.add_tree(root)?;
         Ok(links)
+    }
+
+    /// Adds the links of a tree, apart from those in SVG and MathML.
+    fn add_tree(&mut self, root: &HtmlElement) -> Result<(), AllocError> {
+        self.add(root)?;
+        let mut is_foreign = holds_foreign(root.tag.resolve(), false);
+        let mut outer = Vec::new(self.alloc);
+        let mut walk = Walk::over(self.alloc, &root.children);
+        while let Some(visit) = walk.next()? {
+            match visit {
+                Visit::Enter(element) => {
+                    if !is_foreign {
+                        self.add(element)?;
+                    }
+                    outer.push(is_foreign)?;
+                    is_foreign = holds_foreign(element.tag.resolve(), is_foreign);
+                }
+                Visit::Leave => is_foreign = outer.pop().unwrap_or(false),
+                Visit::Tag(_) | Visit::Text(_, _) | Visit::Frame(_) => {}
+            }
+        }
+        Ok(())
     }
 
     /// Adds the link of an element, if it is one.
@@ -91,33 +113,4 @@ fn holds_foreign(name: &str, is_foreign: bool) -> bool {
         "foreignObject" | "desc" | "title" => false,
         _ => is_foreign,
     }
-}
-
-// The node comes first among the parameters: its depth proves that the recursion ends.
-
-#[cycle(links)]
-fn add_element(
-    element: &HtmlElement,
-    is_foreign: bool,
-    links: &mut Links<'_>,
-) -> Result<(), AllocError> {
-    if !is_foreign {
-        links.add(element)?;
-    }
-    let is_foreign = holds_foreign(element.tag.resolve(), is_foreign);
-    add_nodes(&element.children, is_foreign, links)
-}
-
-#[cycle(links)]
-fn add_nodes(
-    nodes: &[HtmlNode],
-    is_foreign: bool,
-    links: &mut Links<'_>,
-) -> Result<(), AllocError> {
-    for node in nodes {
-        if let HtmlNode::Element(element) = node {
-            add_element(element, is_foreign, links)?;
-        }
-    }
-    Ok(())
 }

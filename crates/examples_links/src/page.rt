@@ -1,13 +1,13 @@
 //! The part of a page that the check needs.
 
 use crate::links::{Link, Links};
-use std::alloc::{AllocError, Global};
-use std::collections::BTreeSet;
-use std::str;
-use typst_html::{
+use html_page::{
     HtmlElement, HtmlNode, Misnesting, PageFault, Place, Places, misnested, place_names,
     read_page_bytes, repeated_ids,
 };
+use std::alloc::{AllocError, Global};
+use std::collections::BTreeSet;
+use std::str;
 
 /// The greatest depth of elements.
 const DEEPEST: usize = 1000;

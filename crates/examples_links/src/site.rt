@@ -8,8 +8,8 @@ use anyhow::Result;
 use examples_links_files::{
     Entry, Files, Found, Input, Listing, Spot, fragment_of, is_external, spot_of,
 };
+use html_page::fragment_leads;
 use std::alloc::{AllocError, Global};
-use typst_html::fragment_leads;
 
 /// A site whose pages were read.
 #[derive(Drop)]

@@ -4,12 +4,13 @@ use anyhow::{Context, Error, Result, bail};
 use examples_pandoc_nodes::{Level, values};
 use examples_pandoc_writer::Writer;
 use examples_pandoc_writer::json::{array, tag_and_content, text};
+use html_page::{element_at, misnested};
 use serde_json::{Map, Value};
 use std::alloc::Global;
 use std::slice;
 use typst_html::{
     DocumentInfo, ExportFault, HtmlDocument, HtmlElement, HtmlOptions, Locale, Span, dead_links,
-    element_at, html, html_document, misnested, resolve_links, tag,
+    html, html_document, resolve_links, tag,
 };
 
 /// The greatest depth of blocks, inlines or items. JSON of 127 levels holds fewer.

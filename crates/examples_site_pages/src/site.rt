@@ -2,14 +2,15 @@
 
 use crate::page::Page;
 use anyhow::{Context, Result, anyhow};
+use html_page::{element_at, misnested};
 use percent_encoding::{AsciiSet, NON_ALPHANUMERIC, ascii_set, utf8_percent_encode};
 use std::alloc::Global;
 use std::collections::BTreeMap;
 use std::mem;
 use typst_html::{
     DocumentInfo, HtmlAttrs, HtmlDocument, HtmlElem, HtmlElement, HtmlNode, HtmlOptions, Item,
-    Location, NamedPlaces, Pair, Span, Tag, attr, create_link_anchors, dead_links, element_at,
-    href_to, html, html_document_for_bundle, misnested, push_located, resolve_links, tag,
+    Location, NamedPlaces, Pair, Span, Tag, attr, create_link_anchors, dead_links, href_to, html,
+    html_document_for_bundle, push_located, resolve_links, tag,
 };
 
 /// The greatest depth of items.

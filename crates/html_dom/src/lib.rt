@@ -1,9 +1,7 @@
 //! The tree of an HTML document: elements, texts, frames and tags, the document around them, the
-//! positions of its located elements, the anchors of links, the nodes that make browsers build
-//! another tree, and the tree as one list.
+//! positions of its located elements, the anchors of links, and the tree as one list.
 //!
-//! Re-exports the public names of its parts `html_dom_tree`, `html_dom_document`, `html_dom_link`,
-//! `html_dom_findings`, `html_dom_nest` and `html_dom_flat` that users need.
+//! Re-exports the public names of its parts that users need.
 //!
 //! ```
 //! use html_dom::{HtmlElement, HtmlNode, Span};
@@ -22,19 +20,19 @@
 
 pub mod laws;
 
+pub use html_anchors::{
+    DeadLink, create_link_anchors, dead_links, ids_are_distinct, resolve_links, with_resolved_links,
+};
 pub use html_dom_document::{
     DocumentInfo, DomIndices, HtmlDocument, HtmlIntrospector, HtmlOutput, HtmlPosition,
     HtmlSliceExt, Locale,
 };
-pub use html_dom_findings::{DeadFragment, RepeatedId, dead_fragments, element_at, repeated_ids};
 pub use html_dom_flat::{FlatElement, FlatNode, FlatTree};
-pub use html_dom_link::{
-    DeadLink, base_of, create_link_anchors, dead_links, decoded_fragment, fragment_in,
-    fragment_leads, href_is_script, href_to, ids_are_distinct, place_in, place_names,
-    resolve_links, with_resolved_links,
-};
-pub use html_dom_nest::{Misnested, Misnesting, misnested};
 pub use html_dom_tree::{
     Frame, FrameItem, HtmlAttrs, HtmlElement, HtmlFrame, HtmlNode, Location, Point, Span, Tag,
     resolve_inline_styles,
+};
+pub use html_links::{
+    base_of, decoded_fragment, fragment_in, fragment_leads, href_is_script, href_to, place_in,
+    place_names,
 };

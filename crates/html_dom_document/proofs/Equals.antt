@@ -6,7 +6,7 @@ use Rattle.std.specs.Option.{option_eq}
 use Rattle.std.specs.String.{string_eq}
 use Rattle.html_dom_tree.specs.Views.{text_view, optional_text_view}
 use Rattle.html_dom_document.specs.Documents.{LocaleView, InfoView}
-use Rattle.html_names.specs.Texts.{texts_view}
+use Rattle.html_names_core.specs.Texts.{texts_view}
 use Rattle.html_dom_document.specs.Views.{locale_view, info_view}
 use Rattle.html_dom_document.specs.declared.info.Locale.{Locale}
 use Rattle.html_dom_document.specs.declared.info.DocumentInfo.{DocumentInfo}

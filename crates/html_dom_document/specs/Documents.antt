@@ -1,7 +1,8 @@
 -- Documents as pure values: nodes with a root element among them, information about the whole, and
 -- its locations.
 use Rattle.std.specs.Prelude.{ℕ, zero, suc, List, [], Bool, Option, Some, None, is_some}
-use Rattle.html_dom_tree.specs.Tree.{NodeView, tag_node, text_node, element_node, frame_node, NodesView, none, node, ElementView, new_element}
+use Rattle.html_dom_tree.specs.Tree.{NodeView, element_node, NodesView, none, node, ElementView, new_element}
+pub use Rattle.html_dom_tree.specs.ByIndex.{node_at, as_element, element_at_index}
 use Rattle.html_dom_document.specs.Introspectors.{IntrospectorView, recorded_view}
 
 -- a language, and optionally the region in which it is spoken
@@ -41,12 +42,6 @@ new_document output info =
 abbrev pub no_info : InfoView
 no_info = record { title = None; description = None; author = []; keywords = []; locale = None }
 
--- the node at an index of a list
-abbrev pub node_at : NodesView → ℕ → Option NodeView
-node_at none i = None
-node_at (node n ns) zero = Some n
-node_at (node n ns) (suc i) = node_at ns i
-
 -- the nodes before an index of a list
 abbrev pub nodes_before : NodesView → ℕ → NodesView
 nodes_before none i = none
@@ -56,18 +51,6 @@ nodes_before (node n ns) (suc i) = node n (nodes_before ns i)
 -- the node of an element
 abbrev pub node_of : ElementView → NodeView
 node_of e = element_node e.0 e.1
-
--- the element that a node is, if there is a node and it is one
-abbrev pub as_element : Option NodeView → Option ElementView
-as_element None = None
-as_element (Some (tag_node t)) = None
-as_element (Some (text_node s span)) = None
-as_element (Some (element_node h ns)) = Some (h, ns)
-as_element (Some (frame_node f)) = None
-
--- the element at an index of a list, if there is one
-abbrev pub element_at_index : NodesView → ℕ → Option ElementView
-element_at_index ns i = as_element (node_at ns i)
 
 -- whether an element is at an index of a list
 abbrev pub is_element_at : NodesView → ℕ → Bool

@@ -1,7 +1,7 @@
 -- The pure values of outputs, of information and of documents.
 use Rattle.std.specs.Prelude.{ℕ, List, map, option_map, String}
 use Rattle.std.specs.declared.alloc.Global.{Global}
-use Rattle.html_names.specs.Texts.{texts_view}
+use Rattle.html_names_core.specs.Texts.{texts_view}
 use Rattle.html_dom_tree.specs.Views.{text_view, optional_text_view, nodes_view}
 use Rattle.html_dom_document.specs.Introspectors.{introspector_view}
 use Rattle.html_dom_document.specs.Documents.{LocaleView, InfoView, OutputView, DocumentView}

@@ -4,7 +4,7 @@ use crate::HtmlIntrospector;
 use crate::info::DocumentInfo;
 use crate::output::HtmlOutput;
 use html_dom_tree::{HtmlElement, HtmlNode};
-use html_names::Refused;
+use html_names_core::Refused;
 use std::alloc::{AllocError, Global};
 
 /// A document: its nodes with the root among them, information about it, and the positions that its

@@ -10,10 +10,10 @@ ghost use Rattle.html_dom_document.specs.Documents.{as_element};
 ghost use Rattle.html_dom_document.specs.Places.{is_named_html};
 
 use html_dom_tree::{HtmlElement, HtmlNode};
-use html_names::tag;
+use html_names_core::tag;
 
 /// Returns whether the element is named `html`.
-#[tactic(auto, unfolding(html_names::specs::Tables::known_tags))]
+#[tactic(auto, unfolding(html_names_core::specs::Tables::known_tags))]
 pub fn is_named_html(element: &HtmlElement) -> bool
     ensures { result ≡ is_named_html (element_view element.now).0 }
 {

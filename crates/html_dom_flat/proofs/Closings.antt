@@ -2,7 +2,7 @@
 use Rattle.std.proofs.Common.{◌≡◌, ℕ, zero, suc, ◌+◌, ◌<◌, true, List, [], ◌∷◌, ◌++◌, refl, ap, ◌∙◌, arith, length, get_or}
 use Rattle.std.proofs.Math.ListN.{set}
 use Rattle.std.proofs.lemmas.Bool.{and_parts, and_from}
-use Rattle.html_names.specs.NameTables.{NamesView}
+use Rattle.html_names_table.specs.NameTables.{NamesView}
 use Rattle.html_dom_tree.specs.Tree.{Head, NodesView}
 use Rattle.html_dom_flat.specs.Flat.{FlatNodeView, flat_element, nodes_count, nodes_flat, element_flat}
 use Rattle.html_dom_flat.specs.FlatViews.{flat_node_view, flat_nodes_view, is_node_given, are_given}

@@ -4,7 +4,7 @@ use Rattle.std.proofs.lemmas.Bool.{ltb-true}
 use Rattle.std.proofs.lemmas.List.Elements.{All-drop, All-take}
 use Rattle.std.proofs.lemmas.List.Sums.{AllPass-from_list_all, list_all-from_AllPass}
 use Rattle.std.specs.List.{list_all, AllPass}
-use Rattle.html_names.specs.NameTables.{NamesView}
+use Rattle.html_names_table.specs.NameTables.{NamesView}
 use Rattle.html_dom_flat.specs.FlatViews.{FlatPair, is_pair_given, is_node_given, are_given}
 use Rattle.html_dom_flat.specs.declared.flat_node.FlatNode.{FlatNode}
 

@@ -5,10 +5,10 @@ use Rattle.std.proofs.lemmas.List.{map-append}
 use Rattle.std.proofs.lemmas.List.Folds.{list_all-append}
 use Rattle.std.specs.List.{list_all}
 use Rattle.std.specs.declared.alloc.Global.{Global}
-use Rattle.html_names.specs.Texts.{text_view, TextPair}
-use Rattle.html_names.specs.NameTables.{NamesView, Numbers, name_at, with_name, with_tag, with_attr}
-use Rattle.html_names.specs.declared.html_attr.HtmlAttr.{HtmlAttr}
-use Rattle.html_names.proofs.NameTables.{with_name-long, name_at-with_name, name_at-added}
+use Rattle.html_names_core.specs.Texts.{text_view, TextPair}
+use Rattle.html_names_table.specs.NameTables.{NamesView, Numbers, name_at, with_name, with_tag, with_attr}
+use Rattle.html_names_core.specs.declared.html_attr.HtmlAttr.{HtmlAttr}
+use Rattle.html_names_table.proofs.NameTables.{with_name-long, name_at-with_name, name_at-added}
 use Rattle.html_dom_tree.specs.Views.{pair_view}
 use Rattle.html_dom_flat.specs.FlatViews.{FlatPair, flat_pair, flat_head, flat_node_view, flat_nodes_view, is_pair_given, is_given, is_node_given, are_given}
 use Rattle.html_dom_flat.specs.Numbering.{AreKept, Grows, ArePairsOf}

@@ -3,5 +3,4 @@ pub mod Elements
 pub mod FirstSiblings
 pub mod Growth
 pub mod Closings
-pub mod Reversed
 pub mod Stacking

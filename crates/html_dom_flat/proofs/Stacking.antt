@@ -2,7 +2,7 @@
 use Rattle.std.proofs.Common.{◌≡◌, ℕ, zero, suc, ◌+◌, ◌-◌, ◌<◌, Bool, true, false, if◌then◌else◌, nat_lt, List, [], ◌∷◌, ◌++◌, refl, ap, subst, sym, ◌∙◌, arith, length, drop, get_or, None}
 use Rattle.std.proofs.lemmas.Bool.{ltb-true, lt-ltb}
 use Rattle.std.proofs.lemmas.List.{map-append, reverse-append}
-use Rattle.html_names.specs.NameTables.{NamesView}
+use Rattle.html_names_table.specs.NameTables.{NamesView}
 use Rattle.html_dom_tree.specs.Tree.{NodeView, NodesView, none, node}
 use Rattle.html_dom_tree.specs.Views.{nodes_of}
 use Rattle.html_dom_tree.specs.declared.node.HtmlNode.{HtmlNode}

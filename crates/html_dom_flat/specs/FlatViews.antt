@@ -2,8 +2,8 @@
 use Rattle.std.specs.Prelude.{ℕ, Bool, true, ◌&&◌, nat_lt, List, map, length, option_map, String}
 use Rattle.std.specs.List.{list_all}
 use Rattle.std.specs.declared.alloc.Global.{Global}
-use Rattle.html_names.specs.Texts.{text_view, TextPair}
-use Rattle.html_names.specs.NameTables.{NamesView, name_at}
+use Rattle.html_names_core.specs.Texts.{text_view, TextPair}
+use Rattle.html_names_table.specs.NameTables.{NamesView, name_at}
 use Rattle.html_dom_tree.specs.FrameViews.{html_frame_view}
 use Rattle.html_dom_tree.specs.Views.{tag_view}
 use Rattle.html_dom_tree.specs.Tree.{Head}

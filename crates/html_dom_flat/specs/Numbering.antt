@@ -1,7 +1,7 @@
 -- Names that keep their numbers when a table grows, and values with its numbers.
 use Rattle.std.specs.Prelude.{◌≡◌, ℕ, true, ◌<◌, List, map, length}
 use Rattle.std.specs.List.{list_all}
-use Rattle.html_names.specs.NameTables.{NamesView, name_at}
+use Rattle.html_names_table.specs.NameTables.{NamesView, name_at}
 use Rattle.html_dom_tree.specs.Tree.{TextPair}
 use Rattle.html_dom_flat.specs.FlatViews.{FlatPair, flat_pair, is_pair_given}
 use Rattle.html_dom_flat.specs.declared.flat_node.FlatNode.{FlatNode}

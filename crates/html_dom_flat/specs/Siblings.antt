@@ -1,6 +1,6 @@
 -- The pure values of parts of a flat tree.
 use Rattle.std.specs.Prelude.{◌≡◌, Option, Some, None}
-use Rattle.html_names.specs.Texts.{text_view}
+use Rattle.html_names_core.specs.Texts.{text_view}
 use Rattle.html_dom_tree.specs.FrameViews.{html_frame_view}
 use Rattle.html_dom_tree.specs.Tree.{Head, NodeView, tag_node, text_node, element_node, frame_node, NodesView, none, node, ElementView}
 use Rattle.html_dom_tree.specs.Views.{tag_view}

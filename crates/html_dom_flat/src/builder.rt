@@ -5,10 +5,11 @@ ghost use Rattle.html_dom_flat.specs.FlatViews.{are_given};
 
 use crate::flat_node::{FlatElement, FlatNode};
 use crate::flat_tree::FlatTree;
-use crate::moving::{STEP, give_back, reverse_nodes};
 use crate::numbering::{numbered_attrs, set_past};
+use html_dom_tree::moving::{STEP, give_back, reverse_nodes};
 use html_dom_tree::{HtmlAttrs, HtmlElement, HtmlFrame, HtmlNode, Span, Tag};
-use html_names::{HtmlTag, NameTable};
+use html_names_core::HtmlTag;
+use html_names_table::NameTable;
 use html_values_css::Properties;
 use std::alloc::{AllocError, Global};
 
@@ -24,13 +25,14 @@ pub struct Builder {
 impl Builder {
     ghost use Rattle.std.specs.Prelude.{◌+◌, ◌<◌, [], ◌∷◌, ◌++◌, IfOk, OnOk, vec_len};
     ghost use Rattle.html_dom_tree.specs.FrameViews.{html_frame_view};
+    ghost use Rattle.html_dom_tree.specs.Tree.{plain_head};
     ghost use Rattle.html_dom_tree.specs.Views.{attrs_view, node_view, element_view, nodes_view, tag_view, text_view};
     ghost use Rattle.html_dom_flat.specs.Flat.{node_count, nodes_count, node_flat, nodes_flat, element_flat};
     ghost use Rattle.html_dom_flat.specs.Flat.{flat_tag, flat_text, flat_frame, flat_element};
     ghost use Rattle.html_dom_flat.specs.FlatViews.{flat_node_view, is_node_given};
     ghost use Rattle.html_dom_flat.specs.Flat.{IsSpelling, spelled_nodes};
     ghost use Rattle.html_dom_flat.specs.FlatTrees.{tree_nodes};
-    ghost use Rattle.html_dom_flat.specs.Builders.{builder_view, plain_head};
+    ghost use Rattle.html_dom_flat.specs.Builders.{builder_view};
     ghost use Rattle.html_dom_flat.specs.ClosedElements.{closed_at};
     ghost use Rattle.html_dom_flat.specs.Numbering.{AreNumbersOf};
 

@@ -11,7 +11,7 @@ use crate::flat_node::FlatNode;
 use crate::moving::flat_tree_of;
 use crate::spelling::spelled_nodes;
 use html_dom_tree::{HtmlElement, HtmlNode};
-use html_names::NameTable;
+use html_names_table::NameTable;
 use std::alloc::{AllocError, Global};
 use std::fmt;
 

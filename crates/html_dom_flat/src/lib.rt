@@ -15,5 +15,5 @@ mod spelling;
 pub use builder::Builder;
 pub use flat_node::{FlatElement, FlatNode};
 pub use flat_tree::FlatTree;
-pub use moving::{flat_tree_of, give_back, reverse_nodes};
+pub use moving::flat_tree_of;
 pub use siblings::{Element, Node, Siblings};

@@ -6,7 +6,7 @@ ghost use Rattle.html_dom_flat.specs.Numbering.{Grows, ArePairsOf, node_with_pas
 
 use crate::flat_node::FlatNode;
 use html_dom_tree::HtmlAttrs;
-use html_names::NameTable;
+use html_names_table::NameTable;
 use std::alloc::{AllocError, Global};
 
 pub(crate) fn numbered_attrs(

@@ -2,7 +2,7 @@
 
 ghost use Rattle.std.specs.Prelude.{◌≡◌, ◌+◌, ◌<◌, ◌^◌, true, length};
 ghost use Rattle.std.proofs.Props.{props};
-ghost use Rattle.html_names.specs.NameTables.{NamesView};
+ghost use Rattle.html_names_table.specs.NameTables.{NamesView};
 ghost use Rattle.html_dom_flat.specs.Flat.{IsSpelling, past_of};
 ghost use Rattle.html_dom_flat.specs.FlatViews.{flat_node_view, flat_nodes_view, are_given, is_given};
 ghost use Rattle.html_dom_flat.specs.Sets.{flat_node_is_set};
@@ -10,7 +10,8 @@ ghost use Rattle.html_dom_flat.specs.Sets.{flat_node_is_set};
 use crate::flat_node::{FlatElement, FlatNode};
 use crate::flat_tree::FlatTree;
 use html_dom_tree::{HtmlFrame, Span, Tag};
-use html_names::{HtmlTag, NameTable};
+use html_names_core::HtmlTag;
+use html_names_table::NameTable;
 
 /// Consecutive siblings in a flat tree, with everything inside them.
 #[derive(Clone, Copy)]
@@ -115,7 +116,7 @@ impl<'a> Node<'a> {
 impl<'a> Element<'a> {
     ghost use Rattle.std.specs.Prelude.{map};
     ghost use Rattle.std.specs.List.{list_all};
-    ghost use Rattle.html_names.specs.NameTables.{name_at};
+    ghost use Rattle.html_names_table.specs.NameTables.{name_at};
     ghost use Rattle.html_dom_flat.specs.FlatViews.{flat_pair, is_pair_given};
     ghost use Rattle.html_dom_flat.specs.Siblings.{head_view};
 

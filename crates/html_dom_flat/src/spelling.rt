@@ -9,7 +9,7 @@ ghost use Rattle.html_dom_flat.specs.Stacks.{stack_view, is_top_before, stacked_
 
 use crate::flat_node::{FlatElement, FlatNode};
 use html_dom_tree::{HtmlAttrs, HtmlElement, HtmlNode};
-use html_names::NameTable;
+use html_names_table::NameTable;
 use std::alloc::{AllocError, Global};
 
 fn named_attrs(

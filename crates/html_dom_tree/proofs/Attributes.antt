@@ -2,7 +2,7 @@
 -- change.
 use Rattle.std.proofs.Common.{◌≡◌, ℕ, ◌+◌, ◌<◌, ◌≤◌, Bool, true, false, List, [], ◌∷◌, ◌++◌, length, map, get_or, set, bytes_eq, Option, Some, None, String, Global, refl, ap, sym, arith, add-one}
 use Rattle.std.specs.Prelude.{if◌then◌else◌, is_some}
-use Rattle.html_names.specs.declared.html_attr.HtmlAttr.{HtmlAttr}
+use Rattle.html_names_core.specs.declared.html_attr.HtmlAttr.{HtmlAttr}
 use Rattle.html_dom_tree.specs.Attributes.{first, place, with_set, with_value}
 use Rattle.html_dom_tree.specs.Tree.{TextPair}
 use Rattle.html_dom_tree.specs.Views.{text_view, pair_view}

@@ -1,6 +1,6 @@
 -- General facts about nodes as they are seen, plain nodes, and values that may be there.
 use Rattle.std.proofs.Common.{◌≡◌, ℕ, List, [], ◌∷◌, ◌++◌, Option, Some, None, String, Global, refl, sym, ap, append_assoc, append-nil, rules}
-use Rattle.html_names.specs.Texts.{text_view}
+use Rattle.html_names_core.specs.Texts.{text_view}
 use Rattle.html_dom_tree.specs.Attributes.{or_else}
 use Rattle.html_dom_tree.specs.FrameViews.{tag_view}
 use Rattle.html_dom_tree.specs.PlainTree.{words, branch, Plains, no_plains, plain, put_words}

@@ -3,7 +3,7 @@ use Rattle.std.proofs.Common.{◌≡◌, List, ◌++◌, map, string_bytes, sym,
 use Rattle.std.specs.Hash as fed
 use Rattle.std.proofs.lemmas.Str.{IsUtf8-string_bytes, encodes-chars}
 use lib.Utf8.{encodes}
-use Rattle.html_names.proofs.Equals as equals
+use Rattle.html_names_core.proofs.Equals as equals
 use Rattle.html_dom_tree.specs.Hashes.{pair_writes, pairs_writes}
 use Rattle.html_dom_tree.specs.Views.{pair_view}
 use Rattle.html_dom_tree.proofs.Attributes.{Item}

@@ -5,5 +5,6 @@ pub mod Folds
 pub mod Frames
 pub mod Hashed
 pub mod Nodes
+pub mod Reversed
 pub mod Styles
 pub mod Taking

@@ -3,7 +3,7 @@ use Rattle.std.proofs.Common.{◌≡◌, ℕ, ◌+◌, ◌<◌, List, [], ◌∷
 use Rattle.html_dom_tree.specs.Tree.{node, with_last}
 use Rattle.html_dom_tree.specs.Views.{node_view, nodes_view}
 use Rattle.html_dom_tree.specs.declared.node.HtmlNode.{HtmlNode}
-use Rattle.html_names.proofs.Basics.{from_place}
+use Rattle.html_names_core.proofs.Basics.{from_place}
 
 pub nodes_view-drop : (ns : List HtmlNode) (i : ℕ) (x : HtmlNode) →
     i < length ns → x ≡ get_or ns i x →

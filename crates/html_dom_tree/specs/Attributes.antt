@@ -1,6 +1,6 @@
 -- Lists of attributes, in which a name may be repeated.
 use Rattle.std.specs.Prelude.{◌≡◌, ℕ, ◌+◌, Bool, true, not, ◌&&◌, List, [], ◌∷◌, ◌++◌, bytes_eq, if◌then◌else◌, Option, Some, None, is_some}
-use Rattle.html_names.specs.Texts.{TextPair}
+use Rattle.html_names_core.specs.Texts.{TextPair}
 
 -- the value of the first pair of that name
 abbrev pub first : List TextPair → List ℕ → Option (List ℕ)

@@ -1,6 +1,6 @@
 -- Frames that are already laid out, as pure values.
 use Rattle.std.specs.Prelude.{ℕ, ℤ, List, [], Option, None}
-use Rattle.html_names.specs.Texts.{TextPair}
+use Rattle.html_names_core.specs.Texts.{TextPair}
 use Rattle.html_dom_tree.specs.Tags.{TagView}
 
 -- the distances of a position to the right and down, in millionths of a typographic point

@@ -1,7 +1,7 @@
 -- Equal lists of attributes have equal hashes.
 use Rattle.std.specs.Prelude.{◌≡◌, true}
 use Rattle.std.proofs.Common.{ap}
-pub use Rattle.html_names.specs.Hashes.{pair_writes, pairs_writes}
+pub use Rattle.html_names_core.specs.Hashes.{pair_writes, pairs_writes}
 use Rattle.html_dom_tree.specs.Views.{attrs_view}
 use Rattle.html_dom_tree.specs.NodeEqual.{same, same_decides, pairs_discrete}
 use Rattle.html_dom_tree.specs.declared.attrs.HtmlAttrs.{HtmlAttrs}

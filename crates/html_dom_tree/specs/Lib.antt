@@ -1,4 +1,5 @@
 pub mod Attributes
+pub mod ByIndex
 pub mod Frames
 pub mod NodeEqual
 pub mod FrameEqual

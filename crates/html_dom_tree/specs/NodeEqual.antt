@@ -4,7 +4,7 @@ use native.Mathlib.Decide.{ℕ_discrete}
 use mathlib.Core.Bool.{Bool-discrete}
 use mathlib.Core.HLevel.{×_discrete}
 use Rattle.std.proofs.Common.{ap}
-pub use Rattle.html_names.specs.Equal.{same, same_decides, same_equiv, option_discrete, text_discrete, pairs_discrete}
+pub use Rattle.html_names_core.specs.Equal.{same, same_decides, same_equiv, option_discrete, text_discrete, pairs_discrete}
 pub use Rattle.html_dom_tree.specs.FrameEqual.{tag_discrete, html_frame_discrete}
 use Rattle.html_dom_tree.specs.Tree.{TextPair, Head, NodeView, NodeView-discrete, NodesView, NodesView-discrete, ElementView}
 

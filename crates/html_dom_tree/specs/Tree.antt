@@ -1,7 +1,7 @@
 -- The tree of a document as a pure value, in which texts are lists of characters.
 use Rattle.std.specs.Prelude.{ℕ, List, [], ◌∷◌, ◌++◌, Bool, true, false, Option, None}
 -- an attribute is a pair: its name and its value
-pub use Rattle.html_names.specs.Texts.{TextPair}
+pub use Rattle.html_names_core.specs.Texts.{TextPair}
 pub use Rattle.html_dom_tree.specs.Tags.{TagView, TagView-discrete, starts, ends}
 use Rattle.html_dom_tree.specs.Attributes.{with_set}
 use Rattle.html_dom_tree.specs.Frames.{HtmlFrameView}
@@ -31,6 +31,11 @@ mutual
 -- an element and its children
 abbrev pub ElementView : Type 0
 ElementView = Head × NodesView
+
+-- an element with nothing but these, without its children
+abbrev pub plain_head : (name : List ℕ) (attrs : List TextPair) (span : ℕ) → Head
+plain_head name attrs span =
+    record { name = name; attrs = attrs; css = []; parent = None; span = span; pre_span = false }
 
 -- an element of that name, without attributes, css, children or parent
 abbrev pub new_element : List ℕ → ElementView

@@ -5,8 +5,8 @@ ghost use Rattle.html_dom_tree.specs.Views.{text_view, pair_view, attrs_view};
 ghost use Rattle.html_dom_tree.specs.Attributes.{first, has_name, place, union, with_set};
 
 use crate::text::same_text;
-use html_names::room::push_compact;
-use html_names::{HtmlAttr, Refused};
+use html_names_core::room::push_compact;
+use html_names_core::{HtmlAttr, Refused};
 use std::alloc::{AllocError, AllocFailed, Global};
 use std::hash::{Hash, Hasher};
 
@@ -191,7 +191,7 @@ fn same_pair(a: &(HtmlAttr, String), b: &(HtmlAttr, String)) -> bool
     a.0 == b.0 && same_text(&a.1, &b.1)
 }
 
-#[tactic(auto, using(html_names::proofs::Equals::same_count))]
+#[tactic(auto, using(html_names_core::proofs::Equals::same_count))]
 fn same_pairs(a: &[(HtmlAttr, String)], b: &[(HtmlAttr, String)]) -> bool
     ensures { IsTrue result ↔ (map pair_view a.now ≡ map pair_view b.now) }
 {

@@ -202,7 +202,7 @@ fn same_anchor(a: &(Point, String), b: &(Point, String)) -> bool
     a.0 == b.0 && same_text(&a.1, &b.1)
 }
 
-#[tactic(auto, using(html_names::proofs::Equals::same_count))]
+#[tactic(auto, using(html_names_core::proofs::Equals::same_count))]
 fn same_anchors(a: &[(Point, String)], b: &[(Point, String)]) -> bool
     ensures { IsTrue result ↔ (anchors_view a.now ≡ anchors_view b.now) }
 {

@@ -22,6 +22,7 @@ mod attrs;
 mod frame;
 mod introspection;
 pub mod laws;
+pub mod moving;
 mod node;
 mod resolve;
 mod span;

@@ -8,7 +8,7 @@ ghost use Rattle.html_dom_tree.specs.Styled.{before_value, attrs_with_style, sty
 
 use crate::attrs::HtmlAttrs;
 use crate::node::{HtmlElement, HtmlNode};
-use html_names::attr;
+use html_names_core::attr;
 use html_values_css::Properties;
 use std::alloc::{AllocError, Global};
 
@@ -120,7 +120,7 @@ fn inline_room(css: &Properties) -> usize {
 }
 
 /// Puts a text before the value of the first `style`, or appends it as an attribute.
-#[tactic(auto, unfolding(html_names::specs::Tables::known_attrs))]
+#[tactic(auto, unfolding(html_names_core::specs::Tables::known_attrs))]
 fn put_style(attrs: &mut HtmlAttrs, text: String) -> Result<(), AllocError>
     ensures { let old = attrs_view attrs.old in
         OnOk result (attrs_view attrs.new

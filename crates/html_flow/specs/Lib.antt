@@ -1,6 +1,4 @@
-pub mod Construct
-pub mod Endings
-pub mod ArgumentPieces
+pub use Rattle.html_flow_construct.specs.Construct
 pub use Rattle.html_flow_convert.specs.BareSpaces
 pub use Rattle.html_flow_convert.specs.Nodes
 pub use Rattle.html_flow_convert.specs.Pieces as TextPieces

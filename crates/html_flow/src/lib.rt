@@ -1,5 +1,5 @@
 //! The flow of a document: items, elements constructed from typed arguments, and the nodes that
-//! items become. Items and their conversion come from html_flow_convert.
+//! items become.
 //!
 //! ```
 //! use html_dom::Span;
@@ -13,12 +13,9 @@
 //! ```
 #![tactic(auto)]
 
-mod args;
-mod construction;
 pub mod laws;
 
-pub use args::{Arg, ArgValue, Args, ElementInfo};
-pub use construction::construct;
+pub use html_flow_construct::{Arg, ArgValue, Args, ElementInfo, construct};
 pub use html_flow_convert::{
     Bareness, ConstructFault, ConversionLevel, FlowFault, FrameElem, HtmlElem, Item, Pair, Role,
     Whitespace, bare_spaces, convert_to_nodes, html_block_fragment, html_inline_fragment,

@@ -3,10 +3,9 @@ use Rattle.std.proofs.Common.{◌≡◌, Bool, true, false, ◌||◌, List, [], 
 use Rattle.std.proofs.lemmas.Bool.{cases_Bool, false≢true, true≢false, or_from}
 use Rattle.html_dom_tree.specs.Tree.{NodeView, tag_node, text_node, element_node, frame_node, is_tag}
 use Rattle.std.specs.List.{filter}
-use Rattle.html_dom_tree.specs.Views.{nodes_of}
-use Rattle.html_flow_convert.specs.Nodes.{is_one, pre_wrap_head}
+use Rattle.html_flow_convert.specs.Nodes.{is_one}
 use Rattle.html_flow_convert.specs.OpenRuns.{goes_on, has_kept_run}
-use Rattle.html_flow_convert.specs.Runs.{is_blank_node, are_kept, first_node_span, run_nodes, front_nodes, blank_front, after_front, nodes_with_runs}
+use Rattle.html_flow_convert.specs.Runs.{is_blank_node, are_kept, run_nodes, front_nodes, blank_front, after_front, nodes_with_runs}
 
 -- whether blanks are kept, after a space or at the start
 abbrev pub kept_after : (space : Bool) (blanks : List NodeView) → Bool
@@ -85,13 +84,6 @@ pub runs_end : (made run : List NodeView) → begins_with_tag run ≡ false →
     runs_of made run [] ≡ made ++ run_nodes run
 unfolding blank_front after_front
 runs_end made run h = rw (append-nil run, run_is run h, append-nil) refl
-
-pub kept_run : (ns : List NodeView) → are_kept (filter is_blank_node ns) ≡ true →
-    run_nodes ns ≡ element_node (pre_wrap_head (first_node_span ns)) (nodes_of ns) ∷ []
-kept_run ns e = rw e refl
-
-pub left_run : (ns : List NodeView) → are_kept (filter is_blank_node ns) ≡ false → run_nodes ns ≡ ns
-left_run ns e = rw e refl
 
 -- nodes without a run of kept blanks stay
 mutual

@@ -3,8 +3,8 @@ use Rattle.std.proofs.Common.{◌≡◌, ℕ, ◌+◌, ◌-◌, ◌<◌, ◌≤�
 use Rattle.std.proofs.lemmas.List.{drop-map, drop_more, drop_all, drop-drop}
 use Rattle.std.proofs.Math.Seq.{drop-append_seam}
 use Rattle.std.specs.List.{list_all}
-use Rattle.html_names.specs.Characters.{is_ignorable}
-use Rattle.html_names.specs.NameTables.{NamesView}
+use Rattle.html_names_core.specs.Characters.{is_ignorable}
+use Rattle.html_names_table.specs.NameTables.{NamesView}
 use Rattle.html_dom_tree.specs.Tree.{NodeView, tag_node, text_node, element_node, frame_node, NodesView, none, node}
 use Rattle.html_dom_flat.specs.Flat.{FlatNodeView, flat_tag, flat_text, flat_frame, flat_element, node_count, nodes_count, node_flat, nodes_flat}
 use Rattle.html_dom_flat.specs.FlatViews.{flat_node_view, flat_nodes_view}

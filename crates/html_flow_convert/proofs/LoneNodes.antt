@@ -3,10 +3,10 @@ use Rattle.std.proofs.Common.{◌≡◌, ℕ, ◌+◌, ◌-◌, ◌<◌, ◌≤�
 use Rattle.std.specs.List.{list_all}
 use Rattle.std.proofs.lemmas.List.Folds.{list_all-map}
 use Rattle.std.proofs.lemmas.List.{at_drop_all, take_rest}
-use Rattle.html_names.specs.Names.{is_ascii}
-use Rattle.html_names.specs.Texts.{TextPair}
-use Rattle.html_names.proofs.Lists.{chars_ascii, bytes_eq-chars}
-use Rattle.html_names.proofs.Basics.{from_place}
+use Rattle.html_names_core.specs.Names.{is_ascii}
+use Rattle.html_names_core.specs.Texts.{TextPair}
+use Rattle.html_names_core.proofs.Lists.{chars_ascii, bytes_eq-chars}
+use Rattle.html_names_core.proofs.Basics.{from_place}
 use Rattle.html_values_css.specs.Properties.{with_property, without}
 use Rattle.html_dom_tree.specs.Tree.{Head, NodeView, element_node, node, is_tag}
 use Rattle.html_dom_tree.specs.Views.{node_view, nodes_of, nodes_view}

@@ -7,8 +7,8 @@ use Rattle.html_flow_convert.specs.BareSpaces.{Thing, border, visible, space, te
 use Rattle.html_flow_convert.specs.Looks.{look_things, head_look, text_look, is_inside}
 use Rattle.html_flow_convert.specs.declared.look.Look.{Look}
 use Rattle.html_flow_convert.specs.declared.look.Look.TheVariants.{Border, Visible, Space, Nothing, Inside}
-use Rattle.html_names.specs.Characters.{is_ignorable}
-use Rattle.html_names.specs.Kinds.{is_replaced, is_whitespace_collapsing}
+use Rattle.html_names_core.specs.Characters.{is_ignorable}
+use Rattle.html_names_core.specs.Kinds.{is_replaced, is_whitespace_collapsing}
 
 pub any_map : {A B : Type 0} (p : B → Bool) (f : A → B) (xs : List A) →
     list_any p (map f xs) ≡ list_any (λ x. p (f x)) xs

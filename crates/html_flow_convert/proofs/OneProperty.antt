@@ -1,6 +1,6 @@
 -- Css of one property, in bytes and in characters.
 use Rattle.std.proofs.Common.{◌≡◌, ℕ, List, [], ◌∷◌, chars, ap, ◌∙◌}
-use Rattle.html_names.specs.Texts.{TextPair}
+use Rattle.html_names_core.specs.Texts.{TextPair}
 use Rattle.html_values_css.specs.Properties.{with_property}
 
 pub one_property : (none css : List TextPair) (name value text : List ℕ) → none ≡ [] →

@@ -3,8 +3,8 @@ use Rattle.std.proofs.Common.{◌≡◌, ℕ, zero, suc, ◌+◌, ◌<◌, ◌�
 use Rattle.std.proofs.lemmas.List.{drop-drop, drop_more, drop-set-lt, map-append, take_more_set}
 use Rattle.std.proofs.lemmas.Bool.{and_parts, cases_Bool, false≢true}
 use Rattle.std.specs.List.{list_all}
-use Rattle.html_names.specs.Characters.{is_ignorable}
-use Rattle.html_names.specs.Kinds.{is_replaced}
+use Rattle.html_names_core.specs.Characters.{is_ignorable}
+use Rattle.html_names_core.specs.Kinds.{is_replaced}
 use Rattle.html_dom_tree.specs.Tree.{Head, NodeView, tag_node, text_node, element_node, frame_node, NodesView, none, node}
 use Rattle.html_dom_tree.specs.Views.{node_view, nodes_of, nodes_view}
 use Rattle.html_dom_tree.specs.declared.node.HtmlNode.{HtmlNode}

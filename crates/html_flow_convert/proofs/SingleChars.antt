@@ -4,7 +4,7 @@ use Rattle.std.specs.Str.{IsAscii, IsUtf8}
 use Rattle.std.proofs.lemmas.Str.{chars-IsAscii, IsUtf8-from_ascii}
 use Rattle.std.proofs.lemmas.Str.Ascii.{IsAscii-cons, IsAscii-nil}
 use Rattle.std.proofs.Math.Bool.{and-true, and-false}
-use Rattle.html_names.proofs.Lists.{bytes_eq-chars}
+use Rattle.html_names_core.proofs.Lists.{bytes_eq-chars}
 use Rattle.html_flow_convert.specs.Nodes.{is_one}
 
 one_of : (d : ℕ) (cs : List ℕ) → is_one d cs ≡ bytes_eq cs (d ∷ [])

@@ -1,9 +1,9 @@
 -- The nodes that items become (this project's rules).
 use Rattle.std.specs.Prelude.{ℕ, Bool, false, ◌||◌, List, [], ◌∷◌, ◌++◌, codes, bytes_eq, if◌then◌else◌, Option, Some, None, option_map, chars}
 use Rattle.std.specs.Borrow.{Bor}
-use Rattle.html_names.specs.Displays.{default_display}
-use Rattle.html_names.specs.Kinds.{is_raw, is_escapable_raw, shows_border}
-use Rattle.html_names.specs.Texts.{TextPair}
+use Rattle.html_names_core.specs.Displays.{default_display}
+use Rattle.html_names_core.specs.Kinds.{is_raw, is_escapable_raw, shows_border}
+use Rattle.html_names_core.specs.Texts.{TextPair}
 use Rattle.html_dom_tree.specs.Frames.{new_html_frame}
 use Rattle.html_dom_tree.specs.Tree.{Head, NodeView, tag_node, text_node, element_node, frame_node, NodesView, none}
 use Rattle.html_dom_tree.specs.Views.{nodes_of}

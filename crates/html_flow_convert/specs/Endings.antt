@@ -1,7 +1,7 @@
 -- The results of calls that may return a `FlowFault`: the stated value if nothing is too deep, or
 -- else the first item that is. An allocation may fail before either.
 use Rattle.std.specs.Prelude.{ℕ, List, Result}
-use Rattle.html_names.specs.Endings.{GivesBy, AddsBy}
+use Rattle.html_names_core.specs.Endings.{GivesBy, AddsBy}
 use Rattle.html_dom_tree.specs.Tree.{NodeView}
 use Rattle.html_flow_faults.specs.FlowFaults.{IsFirst}
 use Rattle.html_flow_faults.specs.declared.fault.FlowFault.{FlowFault}

@@ -1,6 +1,6 @@
 -- The flow of a document: items as pure values, in which texts are lists of characters.
 use Rattle.std.specs.Prelude.{ℕ, ℤ, List, [], ◌∷◌, ◌++◌, Option, None, Some}
-use Rattle.html_names.specs.Texts.{TextPair}
+use Rattle.html_names_core.specs.Texts.{TextPair}
 use Rattle.html_dom_tree.specs.Attributes.{with_set}
 use Rattle.html_dom_tree.specs.Tags.{TagView, starts, ends}
 use Rattle.html_dom_tree.specs.Frames.{FrameView}

@@ -1,6 +1,6 @@
 -- The pieces of a text where white space collapses (this project's rule; blanks as in CSS Text 4.1.1).
 use Rattle.std.specs.Prelude.{ℕ, Bool, false, not, ◌&&◌, ◌||◌, ◌==◌, List, [], ◌∷◌, map, Option, None, Some, if◌then◌else◌}
-use Rattle.html_names.specs.Characters.{is_blank, is_ignorable}
+use Rattle.html_names_core.specs.Characters.{is_blank, is_ignorable}
 use Rattle.html_dom_tree.specs.Tree.{NodeView, text_node}
 use Rattle.html_flow_convert.specs.Nodes.{break_node}
 

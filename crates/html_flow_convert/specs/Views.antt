@@ -1,7 +1,7 @@
 -- The items that the program's values stand for.
 use Rattle.std.specs.Prelude.{List, [], ◌∷◌, map, Option, None, Some, option_map, Vec}
 use Rattle.std.specs.declared.alloc.Global.{Global}
-use Rattle.html_names.specs.Texts.{text_view}
+use Rattle.html_names_core.specs.Texts.{text_view}
 use Rattle.html_dom_tree.specs.Views.{attrs_view}
 use Rattle.html_dom_tree.specs.FrameViews.{frame_view, tag_view}
 use Rattle.html_flow_convert.specs.Items.{RoleView, inherits, sets, unsets, ElemHead, FrameElemView, ItemView, tag_item, element_item, space_item, text_item, hole_item, break_item, box_item, block_item, frame_item, ItemsView, no_items, item, BodyView, absent, present, ElemView}

@@ -2,8 +2,8 @@
 #![tactic(auto, unfolding(crate::specs::Converted::item_nodes, crate::specs::Depth::item_too_deep))]
 
 ghost use Rattle.std.specs.Prelude.{◌≡◌, ◌≤◌, ◌↔◌, ◌++◌, ◌∷◌, [], if◌then◌else◌, IfOk, IsTrue, OnOk, codes, map};
-ghost use Rattle.html_names.specs.Names.{is_ascii};
-ghost use Rattle.html_names.specs.Texts.{text_view};
+ghost use Rattle.html_names_core.specs.Names.{is_ascii};
+ghost use Rattle.html_names_core.specs.Texts.{text_view};
 ghost use Rattle.html_dom_tree.specs.Tree.{element_node, tag_node, text_node};
 ghost use Rattle.html_dom_tree.specs.Views.{attrs_view, head_of, node_view, nodes_view, tag_view};
 ghost use Rattle.html_flow_convert.specs.Converted.{body_nodes, break_item_node, converted_nodes, frame_item_node, item_nodes, list_nodes, passes_role, role_pairs, role_text, text_item_nodes};
@@ -23,7 +23,7 @@ use crate::setting::{Setting, body_level, passes_role};
 use crate::{break_element, push_text_nodes};
 use html_dom_tree::{HtmlAttrs, HtmlElement, HtmlFrame, HtmlNode, Span, Tag};
 use html_flow_faults::FlowFault;
-use html_names::{HtmlTag, attr};
+use html_names_core::{HtmlTag, attr};
 use html_values_css::Properties;
 use std::alloc::{AllocError, Global};
 
@@ -301,7 +301,7 @@ fn attrs_with_role(
     Ok(attrs)
 }
 
-#[tactic(auto, unfolding(html_names::specs::Tables::known_attrs))]
+#[tactic(auto, unfolding(html_names_core::specs::Tables::known_attrs))]
 fn push_role(alloc: Global, attrs: &mut HtmlAttrs, role: Option<&str>) -> Result<(), AllocError>
     ensures { OnOk result (attrs_view attrs.new
         ≡ attrs_view attrs.old ++ role_pairs (role_text role.entry)) }

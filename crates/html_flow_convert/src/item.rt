@@ -1,14 +1,14 @@
 //! Items of the flow with their roles, elements with bodies of items, and tags that locate them.
 
 ghost use Rattle.std.specs.Prelude.{◌≡◌, ◌+◌, ◌<◌, ◌≤◌, ◌++◌, ◌∷◌, [], IfOk, IfErr, OnOk, OnErr, option_map, vec_len, vec_capacity, chars};
-ghost use Rattle.html_names.specs.Texts.{text_view};
+ghost use Rattle.html_names_core.specs.Texts.{text_view};
 ghost use Rattle.html_flow_convert.specs.Items.{absent, inheriting, item_span, located_item, new_head, text_item, with_items, with_last_item, with_optional_pair, with_pair, with_properties, with_set_pair, with_span};
 ghost use Rattle.html_flow_convert.specs.Views.{body_view, elem_view, item_view, items_view, pair_view, pairs_view, frame_elem_view, role_view};
 ghost use Rattle.html_dom_tree.specs.Views.{optional_text_view};
 
 use html_dom_tree::{Frame, HtmlAttrs, Location, Span, Tag};
-use html_names::room::push_compact;
-use html_names::{HtmlAttr, HtmlTag, Refused};
+use html_names_core::room::push_compact;
+use html_names_core::{HtmlAttr, HtmlTag, Refused};
 use html_values_css::{Abs, Properties};
 use std::alloc::{AllocError, Global};
 

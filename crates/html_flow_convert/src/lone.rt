@@ -10,8 +10,8 @@ ghost use Rattle.html_flow_convert.specs.LoneNode.{box_change, change_by_display
 ghost use Rattle.html_flow_convert.specs.LoneNode.{box_change_of, block_change_of, box_head, block_head, box_nodes, block_nodes};
 
 use html_dom_tree::{HtmlElement, HtmlNode, Span};
-use html_names::property::Display;
-use html_names::{attr, tag};
+use html_names_core::property::Display;
+use html_names_core::{attr, tag};
 use html_values_css::Properties;
 use std::alloc::{AllocError, Global};
 
@@ -66,7 +66,7 @@ fn lone_node(nodes: &[HtmlNode]) -> Option<&HtmlNode>
     None
 }
 
-#[tactic(auto, unfolding(html_names::specs::Tables::known_tags))]
+#[tactic(auto, unfolding(html_names_core::specs::Tables::known_tags))]
 fn is_math(element: &HtmlElement) -> bool
     ensures { result ≡ is_math (head_of element.now) }
 {
@@ -80,7 +80,7 @@ fn is_block(text: &String) -> bool
 }
 
 /// Returns whether the first attribute `display` is `block`.
-#[tactic(auto, unfolding(html_names::specs::Tables::known_attrs))]
+#[tactic(auto, unfolding(html_names_core::specs::Tables::known_attrs))]
 fn is_shown_as_block(element: &HtmlElement) -> bool
     ensures { result ≡ is_shown_as_block (head_of element.now) }
 {
@@ -230,7 +230,7 @@ fn inline_block_css(alloc: Global) -> Result<Properties, AllocError>
     Ok(Properties::new(alloc).with("display", value)?)
 }
 
-#[tactic(auto, unfolding(html_names::specs::Tables::known_tags))]
+#[tactic(auto, unfolding(html_names_core::specs::Tables::known_tags))]
 fn box_element(alloc: Global, span: Span) -> Result<HtmlElement, AllocError>
     ensures { IfOk result (λ element. head_of element ≡ box_head span.0) }
 {
@@ -242,7 +242,7 @@ fn box_element(alloc: Global, span: Span) -> Result<HtmlElement, AllocError>
     )
 }
 
-#[tactic(auto, unfolding(html_names::specs::Tables::known_tags))]
+#[tactic(auto, unfolding(html_names_core::specs::Tables::known_tags))]
 fn block_element(alloc: Global, span: Span) -> HtmlElement
     ensures { head_of result ≡ block_head span.0 }
 {

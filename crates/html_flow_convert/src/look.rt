@@ -5,14 +5,14 @@ ghost use Rattle.html_flow_convert.specs.BareSpaces.{is_display_block, makes_blo
 ghost use Rattle.html_flow_convert.specs.Looks.{text_look, element_look, is_inside};
 ghost use Rattle.html_dom_tree.specs.Views.{head_of};
 ghost use Rattle.html_values_css.specs.Properties.{property_view};
-ghost use Rattle.html_names.specs.Names.{is_ascii};
-ghost use Rattle.html_names.specs.Characters.{is_ignorable};
+ghost use Rattle.html_names_core.specs.Names.{is_ascii};
+ghost use Rattle.html_names_core.specs.Characters.{is_ignorable};
 ghost use Rattle.std.specs.List.{list_any, list_all};
 
 use crate::one::is_one;
 use crate::pieces::is_ignorable;
 use html_dom_tree::HtmlElement;
-use html_names::{HtmlTag, tag};
+use html_names_core::{HtmlTag, tag};
 use html_values_css::{Properties, Property};
 
 #[derive(Clone, Copy)]

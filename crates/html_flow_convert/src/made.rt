@@ -7,12 +7,12 @@ ghost use Rattle.html_flow_convert.specs.Nodes.{made_head, pre_wrap_head};
 
 use crate::reused::Reused;
 use html_dom_tree::{HtmlAttrs, HtmlElement, HtmlNode, Span};
-use html_names::tag;
+use html_names_core::tag;
 use html_values_css::Properties;
 use std::alloc::{AllocError, Global};
 
 /// Creates a forced line break.
-#[tactic(auto, unfolding(html_names::specs::Tables::known_tags))]
+#[tactic(auto, unfolding(html_names_core::specs::Tables::known_tags))]
 pub fn break_element(alloc: Global, span: Span) -> HtmlElement
     ensures { element_view result ≡ (made_head (codes "br") [] span.0, none) }
 {
@@ -29,7 +29,7 @@ pub(crate) fn pre_wrap_css(alloc: Global) -> Result<Properties, AllocError>
 
 /// Creates a `span` around these nodes, in which each character of the texts is written as a
 /// character reference.
-#[tactic(auto, unfolding(html_names::specs::Tables::known_tags))]
+#[tactic(auto, unfolding(html_names_core::specs::Tables::known_tags))]
 fn pre_wrap_span(
     alloc: Global,
     reused: &Reused,

@@ -6,15 +6,15 @@ ghost use Rattle.html_dom_tree.specs.Views.{node_view, text_view};
 ghost use Rattle.html_flow_convert.specs.Beginnings.{AddsBeginning};
 ghost use Rattle.html_flow_convert.specs.Pieces.{first_char, is_normal, is_normal_there, outside_stretch, piece_node, pieces, stretch, text_nodes};
 ghost use Rattle.html_flow_convert.specs.TextStretches.{char_before, is_above_space, is_stretch, is_within, with_stretch, Passes};
-ghost use Rattle.html_names.specs.Characters.{is_ignorable};
+ghost use Rattle.html_names_core.specs.Characters.{is_ignorable};
 
 use crate::made::break_element;
 use html_dom_tree::{HtmlNode, Span};
-use html_names::charsets::is_default_ignorable;
+use html_names_core::charsets::is_default_ignorable;
 use std::alloc::{AllocError, Global};
 
 /// Returns whether the character is invisible by default.
-#[tactic(auto, unfolding(html_names::specs::Characters::is_ignorable))]
+#[tactic(auto, unfolding(html_names_core::specs::Characters::is_ignorable))]
 #[inline(always)]
 pub(crate) fn is_ignorable(c: char) -> bool
     ensures { result ≡ is_ignorable c }

@@ -9,7 +9,7 @@ ghost use Rattle.html_flow_convert.specs.Runs.{is_space, is_tab, is_blank_node, 
 use crate::made::pre_wrap_node;
 use crate::one::is_one;
 use crate::reused::Reused;
-use html_dom_flat::give_back;
+use html_dom_tree::moving::give_back;
 use html_dom_tree::{HtmlNode, Span};
 use std::alloc::{AllocError, Global};
 use std::mem;

@@ -1,16 +1,16 @@
 //! The setting of a list of items.
 
 ghost use Rattle.std.specs.Prelude.{◌≡◌, ◌+◌, ◌<◌, nat_lt};
-ghost use Rattle.html_names.specs.Displays.{default_display};
-ghost use Rattle.html_names.specs.Kinds.{shows_border};
+ghost use Rattle.html_names_core.specs.Displays.{default_display};
+ghost use Rattle.html_names_core.specs.Kinds.{shows_border};
 ghost use Rattle.html_flow_convert.specs.Converted.{body_level, body_role, body_whitespace, is_preformatted, item_role, passes_role, role_text};
 ghost use Rattle.html_flow_convert.specs.Views.{elem_view, role_view};
 
 use crate::convert::{ConversionLevel, Whitespace};
 use crate::item::{HtmlElem, Role};
 use crate::makes_block;
-use html_names::property::Display;
-use html_names::{HtmlTag, tag};
+use html_names_core::property::Display;
+use html_names_core::{HtmlTag, tag};
 
 /// The setting of a list of items.
 #[derive(Clone, Copy)]
@@ -84,14 +84,14 @@ impl<'a> Setting<'a> {
 }
 
 /// Returns whether the element passes its role on to its content.
-#[tactic(auto, unfolding(html_names::specs::Tables::known_tags))]
+#[tactic(auto, unfolding(html_names_core::specs::Tables::known_tags))]
 pub(crate) fn passes_role(tag: &HtmlTag) -> bool
     ensures { result ≡ passes_role tag.now }
 {
     *tag == tag::p
 }
 
-#[tactic(auto, unfolding(html_names::specs::Tables::known_tags))]
+#[tactic(auto, unfolding(html_names_core::specs::Tables::known_tags))]
 fn is_preformatted(tag: &HtmlTag) -> bool
     ensures { result ≡ is_preformatted tag.now }
 {

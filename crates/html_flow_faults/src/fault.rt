@@ -4,7 +4,7 @@ ghost use Rattle.std.specs.Prelude.{◌≡◌};
 ghost use Rattle.html_flow_faults.specs.FlowFaults.{number_of};
 
 use html_dom_tree::Span;
-use html_names::Refused;
+use html_names_core::Refused;
 use std::alloc::{AllocError, AllocFailed};
 use thiserror::Error;
 

@@ -1,10 +1,10 @@
 -- Texts and lists without their last, and without their first.
-use Rattle.std.proofs.Common.{◌≡◌, ℕ, suc, ◌-◌, ◌<◌, ◌≤◌, Bool, true, false, ◌||◌, ◌==◌, Option, Some, None, IfSome, IfNone, String, Global, string_bytes, string_len, chars, IsUtf8, List, [], ◌∷◌, ◌++◌, drop, get_or, length, take, refl, ap, sym, ◌∙◌, arith}
+use Rattle.std.proofs.Common.{◌≡◌, ℕ, suc, ◌-◌, ◌<◌, ◌≤◌, Bool, true, false, ◌||◌, ◌==◌, Option, Some, None, IfSome, IfNone, String, Global, string_bytes, string_len, chars, IsUtf8, List, [], ◌∷◌, ◌++◌, get_or, length, take, refl, ap, sym, ◌∙◌, arith}
 use Rattle.std.proofs.Math.ListN.{set}
 use Rattle.std.proofs.lemmas.List.{append-nil, length-map, nil_from_length, take-map}
 use Rattle.std.proofs.lemmas.Str.{IsUtf8-string_bytes, chars-nil, chars_past_char, encodes-append, encodes-chars, encodes_same}
 use lib.Utf8.{encode, encodes}
-use Rattle.html_names.specs.Texts.{text_view}
+use Rattle.html_names_core.specs.Texts.{text_view}
 use Rattle.html_flow_convert.specs.Items.{ItemView, RoleView}
 use Rattle.html_flow_convert.specs.Views.{pair_view, pairs_view}
 use Rattle.html_flow_convert.specs.declared.item.Pair.{Pair}
@@ -34,12 +34,6 @@ popped_seen old new n counted is =
     ∙ sym (take-map pair_view (n - 1) old)
     ∙ ap (λ k. take (k - 1) (pairs_view old)) (counted ∙ sym (length-map old pair_view))
     ∙ without_last_take (pairs_view old)
-
--- items without the first one, as they are seen
-pub first_gone : (old new : List Pair) → new ≡ take 0 old ++ drop 1 old →
-    pairs_view new ≡ without_first (pairs_view old)
-first_gone [] new is = ap pairs_view is
-first_gone (p ∷ ps) new is = ap pairs_view is
 
 pub some_first : (test : ItemView × RoleView → Bool) (ps : List Pair) →
     first_passes test (pairs_view ps) ≡ true → 0 < length ps

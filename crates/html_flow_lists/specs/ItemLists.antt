@@ -1,6 +1,6 @@
 -- Lists that grow item by item (this project's rules).
 use Rattle.std.specs.Prelude.{ℕ, ◌-◌, Bool, true, false, ◌&&◌, ◌||◌, if◌then◌else◌, ◌==◌, List, [], ◌∷◌, ◌++◌, length, slice_index}
-use Rattle.html_names.specs.Kinds.{is_whitespace_collapsing}
+use Rattle.html_names_core.specs.Kinds.{is_whitespace_collapsing}
 use Rattle.html_flow_convert.specs.BareSpaces.{makes_block}
 use Rattle.html_flow_convert.specs.Items.{ItemView, tag_item, element_item, text_item, hole_item, break_item, block_item, RoleView, inherits, ElemHead, ElemView, element_as_item, inheriting, absent, new_head, with_span}
 use Rattle.html_flow_convert.specs.Nodes.{is_one}

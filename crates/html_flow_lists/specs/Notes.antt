@@ -2,7 +2,7 @@
 -- with a link back to its mark. The classes are those that Pandoc writes, the roles those of
 -- DPUB-ARIA 1.0.
 use Rattle.std.specs.Prelude.{ℕ, zero, suc, ◌+◌, ◌-◌, ◌*◌, ◌^◌, Bool, false, if◌then◌else◌, List, [], ◌∷◌, ◌++◌, Option, Some, None, codes, bytes_eq, decimal, length, nat_lt}
-use Rattle.html_names.specs.Texts.{TextPair}
+use Rattle.html_names_core.specs.Texts.{TextPair}
 use Rattle.html_flow_convert.specs.Items.{RoleView, ItemView, element_item, text_item, ItemsView, no_items, item, absent, present, ElemView, element_as_item, new_head, inheriting, located_item}
 use Rattle.html_flow_convert.specs.Views.{items_of}
 use Rattle.html_flow_lists.specs.ItemLists.{Pairs, last_passes, with_changed_last}

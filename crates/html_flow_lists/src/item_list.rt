@@ -1,19 +1,19 @@
 //! A list of items that grows item by item.
 
 ghost use Rattle.std.specs.Prelude.{◌≡◌, ◌↔◌, ◌++◌, ◌∷◌, [], IsTrue, OnOk, OnErr, IfErr, chars, length, ◌==◌, ◌||◌, ◌+◌, ◌<◌, ◌≤◌, vec_len, vec_capacity};
-ghost use Rattle.html_names.specs.Texts.{text_view};
+ghost use Rattle.html_names_core.specs.Texts.{text_view};
 ghost use Rattle.html_flow_convert.specs.Items.{inheriting, text_item};
 ghost use Rattle.html_flow_convert.specs.Views.{elem_view, pair_view, pairs_view};
 ghost use Rattle.html_flow_places.specs.NamedLocations.{link_items, place_items};
-ghost use Rattle.html_names.specs.NameTables.{with_name};
+ghost use Rattle.html_names_table.specs.NameTables.{with_name};
 ghost use Rattle.html_flow_lists.specs.ItemLists.{block_items, element_of_list, first_passes, head_ending, is_added_space, is_border, is_lone_space, item_ending, item_ends_in_space, last_passes, no_list, ready_for, tag_ending, takes_text, text_ends_in_space, with_break, with_changed_first, with_changed_last, with_cut_text, with_element, with_item, with_list_span, with_longer_text, with_more, with_space, with_text, without_end_space, without_first, without_last, without_start_space};
 ghost use Rattle.html_flow_lists.specs.ListViews.{list_view};
 
 use html_dom_tree::{Location, Span};
 use html_flow_convert::{HtmlElem, Item, Pair, Role, is_one, makes_block, push_located_reserved};
 use html_flow_places::{NamedPlaces, location_with_room};
-use html_names::room::push_compact;
-use html_names::{HtmlTag, Refused, tag};
+use html_names_core::room::push_compact;
+use html_names_core::{HtmlTag, Refused, tag};
 use std::alloc::{AllocError, Global};
 
 /// A growing list of items, and the span for the texts and line breaks in it. If an allocation
@@ -446,7 +446,7 @@ pub(crate) fn text_pair(text: String, span: Span) -> Pair
     Pair::from(Item::Text(text, span))
 }
 
-#[tactic(auto, using(html_names::proofs::EndChars::empty_chars))]
+#[tactic(auto, using(html_names_core::proofs::EndChars::empty_chars))]
 fn is_empty(text: &str) -> bool
     ensures { result ≡ (length (chars text.now) == 0) }
 {

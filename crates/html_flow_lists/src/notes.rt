@@ -1,8 +1,8 @@
 //! Footnotes.
 
 ghost use Rattle.std.specs.Prelude.{◌≡◌, ◌↔◌, ◌+◌, ◌<◌, ◌≤◌, ◌^◌, ◌++◌, ◌∷◌, [], IsTrue, OnOk, OnErr, IfOk, IfErr, is_ok, bytes_eq, chars, decimal, length, map};
-ghost use Rattle.html_names.specs.Names.{is_ascii};
-ghost use Rattle.html_names.specs.Texts.{text_view};
+ghost use Rattle.html_names_core.specs.Names.{is_ascii};
+ghost use Rattle.html_names_core.specs.Texts.{text_view};
 ghost use Rattle.html_flow_convert.specs.Views.{elem_view, item_view, pair_view, pairs_view};
 ghost use Rattle.html_flow_lists.specs.ItemLists.{last_passes, with_changed_last};
 ghost use Rattle.html_flow_lists.specs.Notes.{back_items, class_and_role, content_at, element_with, further_mark_item, has_key, in_last_line, is_marked, is_line, is_line_item, key_mark_item, located_note, mark_item, mark_location, note_items, note_link, note_location, place_of_key, section_items, with_content_at, with_key, with_longer_body, with_longer_line};
@@ -12,7 +12,7 @@ use crate::item_list::text_pair;
 use html_dom_tree::text::copy_optional_text;
 use html_dom_tree::{Location, Span};
 use html_flow_convert::{HtmlElem, Item, Pair, copied_pairs, push_located};
-use html_names::{HtmlTag, Refused, attr, tag};
+use html_names_core::{HtmlTag, Refused, attr, tag};
 use std::alloc::{AllocError, AllocFailed, Global};
 use std::mem;
 
@@ -250,7 +250,7 @@ impl Note {
     }
 }
 
-#[tactic(auto, using(html_names::proofs::Lists::in_characters))]
+#[tactic(auto, using(html_names_core::proofs::Lists::in_characters))]
 fn is_same(a: &str, b: &str) -> bool
     ensures { result ≡ bytes_eq (chars a.now) (chars b.now) }
 {
@@ -298,7 +298,7 @@ fn mark_location(number: u64) -> Location
     Location(u64::MAX - 2 * number + 1)
 }
 
-#[tactic(auto, unfolding(html_names::specs::Tables::known_tags))]
+#[tactic(auto, unfolding(html_names_core::specs::Tables::known_tags))]
 fn mark_of(alloc: Global, number: u64, span: Span) -> Result<Item, AllocError>
     requires few { number < 2 ^ 59 }
     requires some { 1 ≤ number }
@@ -315,7 +315,7 @@ fn mark_of(alloc: Global, number: u64, span: Span) -> Result<Item, AllocError>
 }
 
 /// Returns a mark of a note that has one.
-#[tactic(auto, unfolding(html_names::specs::Tables::known_tags))]
+#[tactic(auto, unfolding(html_names_core::specs::Tables::known_tags))]
 fn further_mark_of(alloc: Global, number: u64, span: Span) -> Result<Item, AllocError>
     requires { number < 2 ^ 59 }
     ensures { IfOk result (λ mark. item_view mark ≡ further_mark_item number span.0) }
@@ -359,7 +359,7 @@ fn note_link(
     Ok(Item::from(link.spanned(span)))
 }
 
-#[tactic(auto, using(html_names::proofs::Lists::chars_ascii), unfolding(html_names::specs::Tables::known_attrs))]
+#[tactic(auto, using(html_names_core::proofs::Lists::chars_ascii), unfolding(html_names_core::specs::Tables::known_attrs))]
 fn with_class_and_role(
     alloc: Global,
     tag: HtmlTag,
@@ -453,7 +453,7 @@ fn is_line_item(pair: &Pair) -> bool
     }
 }
 
-#[tactic(auto, unfolding(html_names::specs::Tables::known_tags))]
+#[tactic(auto, unfolding(html_names_core::specs::Tables::known_tags))]
 fn is_line(element: &HtmlElem) -> bool
     ensures { result ≡ is_line (elem_view element.now) }
 {

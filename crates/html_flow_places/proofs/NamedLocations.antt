@@ -3,10 +3,10 @@ use Rattle.std.proofs.Common.{◌≡◌, ℕ, suc, ◌+◌, ◌-◌, ◌<◌, �
 use Rattle.std.proofs.lemmas.Bool.{eq-eqb}
 use Rattle.std.proofs.lemmas.Option.{slice_get-get_or, slice_get-map, slice_get_read}
 use Rattle.std.proofs.lemmas.List.{length-map, map-append}
-use Rattle.html_names.specs.Names.{stands_in}
-use Rattle.html_names.specs.Texts.{text_view, texts_view}
-use Rattle.html_names.specs.NameTables.{number_in, with_name}
-use Rattle.html_names.proofs.NameTables.{equal_numbers, name_at-added, number_below, number_in-added, number_later, number_next, stands_in-both, stands_in-added, added_again}
+use Rattle.html_names_core.specs.Names.{stands_in}
+use Rattle.html_names_core.specs.Texts.{text_view, texts_view}
+use Rattle.html_names_table.specs.NameTables.{number_in, with_name}
+use Rattle.html_names_table.proofs.NameTables.{equal_numbers, name_at-added, number_below, number_in-added, number_later, number_next, stands_in-both, stands_in-added, added_again}
 use Rattle.html_flow_places.specs.NamedLocations.{location_in, name_of}
 
 pub equal_locations : (names : List (List ℕ)) (a b : List ℕ) →

@@ -4,8 +4,8 @@ use Rattle.std.specs.BTreeMap.{BTreeMap, get_by_text}
 use Rattle.std.specs.Str.{IsUtf8}
 use Rattle.std.specs.declared.alloc.AllocError.{AllocError}
 use Rattle.std.specs.declared.alloc.Global.{Global}
-use Rattle.html_names.specs.Names.{stands_in}
-use Rattle.html_names.specs.NameTables.{IsNumbered}
+use Rattle.html_names_core.specs.Names.{stands_in}
+use Rattle.html_names_table.specs.NameTables.{IsNumbered}
 use Rattle.html_dom_tree.specs.declared.introspection.Location.{Location}
 use Rattle.html_flow_places.specs.NamedLocations.{location_in}
 

@@ -2,8 +2,8 @@
 -- of characters, in the order of their locations.
 use Rattle.std.specs.Prelude.{◌≡◌, ℕ, zero, suc, ◌+◌, ◌⊎◌, false, List, slice_get, Option, Some, None, Result, IfOk, OnOk, OnErr}
 use Rattle.std.specs.declared.alloc.AllocError.{AllocError}
-use Rattle.html_names.specs.Names.{stands_in}
-use Rattle.html_names.specs.NameTables.{number_in, with_name}
+use Rattle.html_names_core.specs.Names.{stands_in}
+use Rattle.html_names_table.specs.NameTables.{number_in, with_name}
 use Rattle.html_dom_tree.specs.declared.introspection.Location.{Location}
 use Rattle.html_flow_convert.specs.Items.{RoleView, ItemView, ElemView, located_item, element_as_item}
 

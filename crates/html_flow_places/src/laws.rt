@@ -1,8 +1,8 @@
 //! Laws of names of places, as contracts of functions.
 
 ghost use Rattle.std.specs.Prelude.{◌≡◌, ◌↔◌, bytes_eq, chars, IsTrue, IfOk, OnErr, OnOk, false};
-ghost use Rattle.html_names.specs.Names.{stands_in};
-ghost use Rattle.html_names.specs.NameTables.{with_name};
+ghost use Rattle.html_names_core.specs.Names.{stands_in};
+ghost use Rattle.html_names_table.specs.NameTables.{with_name};
 ghost use Rattle.html_flow_places.specs.NamedLocations.{LocatesBoth};
 
 use crate::NamedPlaces;
@@ -46,7 +46,7 @@ pub fn name_at_location(places: &mut NamedPlaces, given: &str) -> Result<bool, A
     }
 }
 
-#[tactic(auto, using(html_names::proofs::Lists::in_characters))]
+#[tactic(auto, using(html_names_core::proofs::Lists::in_characters))]
 fn same_text(a: &str, b: &str) -> bool
     ensures { result ≡ bytes_eq (chars a.now) (chars b.now) }
 {

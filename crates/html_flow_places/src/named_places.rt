@@ -1,15 +1,15 @@
 //! The map from names of places to locations, which appends places and links to a list of items.
 
 ghost use Rattle.std.specs.Prelude.{◌≡◌, ◌+◌, ◌≤◌, ◌++◌, [], chars, false, vec_len, vec_capacity, option_map, OnErr, OnOk, IfErr, IfOk};
-ghost use Rattle.html_names.specs.Names.{stands_in};
-ghost use Rattle.html_names.specs.NameTables.{with_name};
+ghost use Rattle.html_names_core.specs.Names.{stands_in};
+ghost use Rattle.html_names_table.specs.NameTables.{with_name};
 ghost use Rattle.html_flow_convert.specs.Views.{elem_view, pairs_view};
 ghost use Rattle.html_flow_places.specs.HeldLocations.{Puts};
 ghost use Rattle.html_flow_places.specs.NamedLocations.{GivesLocation, location_in, name_of, place_items, link_items};
 
 use html_dom_tree::Location;
 use html_flow_convert::{HtmlElem, Item, Pair, push_located_reserved};
-use html_names::Refused;
+use html_names_core::Refused;
 use std::alloc::{AllocError, Global};
 use std::collections::BTreeMap;
 use std::fmt;
@@ -50,7 +50,7 @@ impl Model for NamedPlaces {
 
     ghost Value = { List (List ℕ) };
 
-    ghost use Rattle.html_names.specs.Texts.{texts_view};
+    ghost use Rattle.html_names_core.specs.Texts.{texts_view};
     ghost use Rattle.html_flow_places.specs.HeldLocations.{IsLocating};
 
     ghost view = { λ p. texts_view p.names.items };

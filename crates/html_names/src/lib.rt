@@ -14,26 +14,9 @@
 //! ```
 #![tactic(auto)]
 
-mod attr_kind;
-pub mod charsets;
-mod constants;
-mod fault;
-mod html_attr;
-mod html_tag;
-mod kind;
 pub mod laws;
-pub mod lookup;
-mod name;
-mod name_table;
-pub mod property;
-mod refused;
-pub mod room;
-mod table;
-pub mod text_writer;
 
-pub use constants::{attr, tag};
-pub use fault::NameFault;
-pub use html_attr::HtmlAttr;
-pub use html_tag::HtmlTag;
-pub use name_table::NameTable;
-pub use refused::Refused;
+pub use html_names_core::{
+    HtmlAttr, HtmlTag, NameFault, Refused, attr, charsets, lookup, property, room, tag, text_writer,
+};
+pub use html_names_table::NameTable;

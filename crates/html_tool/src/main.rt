@@ -1,10 +1,10 @@
 //! A program that writes the HTML text of a tree or of items, which standard input spells in JSON.
 #![tactic(auto)]
 
-use html_tool_run::{Status, run, words_of};
 use std::env;
 use std::io::ErrorKind;
 use std::process::ExitCode;
+use typst_html_run::{Status, run, words_of};
 
 fn main(rt: HostRuntime) -> ExitCode {
     ExitCode::from(outcome(&rt).code())

@@ -3,7 +3,7 @@
 use Rattle.std.specs.Prelude.{ℕ, ℤ, pos, negsuc, unsigned_abs, zero, suc, ltb, ◌&&◌, ◌/◌, ◌%◌, ◌==◌, List, [], ◌∷◌, ◌++◌, codes, Bool, true, false, if◌then◌else◌, Option, None, Some, option_map}
 use Rattle.std.specs.Fmt.{decimal}
 use Rattle.std.specs.Int.NonZero.{non_zero_u64_get}
-use Rattle.html_names.specs.Texts.{text_view, two_digits}
+use Rattle.html_names_core.specs.Texts.{text_view, two_digits}
 use Rattle.html_values.specs.declared.image.ImageCandidate.{ImageCandidate}
 use Rattle.html_values_css.specs.declared.direction.Dir.{Dir}
 use Rattle.html_values_css.specs.declared.direction.Dir.TheVariants.{LTR, RTL, TTB, BTT}

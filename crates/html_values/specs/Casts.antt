@@ -5,8 +5,8 @@ use Rattle.std.specs.Int.NonZero.{non_zero_u64_get}
 use Rattle.std.specs.Fmt.{decimal, signed_decimal}
 use Rattle.std.specs.List.{join_by, list_any}
 use Rattle.std.specs.declared.alloc.Global.{Global}
-use Rattle.html_names.specs.Names.{stands_in}
-use Rattle.html_names.specs.Texts.{text_view, texts_view}
+use Rattle.html_names_core.specs.Names.{stands_in}
+use Rattle.html_names_core.specs.Texts.{text_view, texts_view}
 use Rattle.html_values_css.specs.CastFaults.{IsFirst}
 use Rattle.html_values_css.specs.Colors.{color_text}
 use Rattle.html_values_css.specs.Endings.{Gives}

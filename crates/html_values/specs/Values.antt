@@ -1,6 +1,6 @@
 -- Values of a document, as pure values.
 use Rattle.std.specs.Prelude.{ℕ, ℤ, List, [], ◌∷◌, map, Bool, Option}
-use Rattle.html_names.specs.Texts.{text_view}
+use Rattle.html_names_core.specs.Texts.{text_view}
 use Rattle.html_values_css.specs.declared.direction.Dir.{Dir}
 use Rattle.html_values_css.specs.declared.paint.Rgba.{Rgba}
 use Rattle.html_values.specs.declared.moment.Moment.{Moment}

@@ -1,7 +1,7 @@
 //! Types of attributes, alone, in unions and in lists, and the cast of a value to a text by each.
 
 ghost use Rattle.std.specs.Prelude.{◌≡◌, ◌&&◌, false, IfOk, IfErr, Ok};
-ghost use Rattle.html_names.specs.Texts.{text_view, texts_view};
+ghost use Rattle.html_names_core.specs.Texts.{text_view, texts_view};
 ghost use Rattle.html_values.specs.Casts.{GivesCast, GivesTexts, shorthand_answer, option_answer, cast, castable, castable_by_any, first_cast, has_presence, item_texts, presence_in, text_answer};
 ghost use Rattle.html_values.specs.Types.{inner_view, list, list_type_view, attr_type_view, attr_types_view};
 ghost use Rattle.html_values.specs.Values.{value_view, values_view};
@@ -10,7 +10,7 @@ use crate::cast::{allowed_text, is_among, join, text_or_empty, without_separator
 use crate::native_type::NativeType;
 use crate::text::empty;
 use crate::value::Value;
-use html_names::Refused;
+use html_names_core::Refused;
 use html_values_css::CastFault;
 use std::alloc::{AllocFailed, Global};
 

@@ -3,19 +3,19 @@
 ghost use Rattle.std.specs.Prelude.{◌≡◌, ◌++◌, ◌==◌, chars, IfOk, IfErr, OnOk, Ok, Err};
 ghost use Rattle.std.specs.List.{flat_map, join_by, list_any};
 ghost use Rattle.std.specs.Str.{bytes_eq};
-ghost use Rattle.html_names.specs.Names.{stands_in};
-ghost use Rattle.html_names.specs.Texts.{text_view, texts_view};
+ghost use Rattle.html_names_core.specs.Names.{stands_in};
+ghost use Rattle.html_names_core.specs.Texts.{text_view, texts_view};
 ghost use Rattle.html_values.specs.Attributes.{IsText};
 ghost use Rattle.html_values.specs.Casts.{option_answer, list_separator_text, item_answer, gives, GivesCast, text_answer, text_result, item_text, strings_cast};
 ghost use Rattle.html_values.specs.Values.{value_view};
 
 use crate::text::empty;
 use crate::value::Value;
-use html_names::text_writer::TextWriter;
+use html_names_core::text_writer::TextWriter;
 use html_values_css::CastFault;
 use std::alloc::{AllocError, Global};
 
-#[tactic(auto, unfolding(html_names::specs::Names::stands_in))]
+#[tactic(auto, unfolding(html_names_core::specs::Names::stands_in))]
 pub(crate) fn is_among(text: &str, texts: &[String]) -> bool
     ensures { result ≡ stands_in (texts_view texts.now) (chars text.now) }
 {
@@ -27,7 +27,7 @@ pub(crate) fn is_among(text: &str, texts: &[String]) -> bool
     false
 }
 
-#[tactic(auto, using(html_names::proofs::Lists::in_characters))]
+#[tactic(auto, using(html_names_core::proofs::Lists::in_characters))]
 fn is_same(a: &str, b: &str) -> bool
     ensures { result ≡ bytes_eq (chars a.now) (chars b.now) }
 {

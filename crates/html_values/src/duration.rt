@@ -1,14 +1,14 @@
 //! Spans of time, written as duration strings such as `1w 2d`.
 
 ghost use Rattle.std.specs.Prelude.{◌≡◌, ◌++◌, OnOk, codes, IsTrue};
-ghost use Rattle.html_names.specs.Names.{is_ascii};
-ghost use Rattle.html_names.specs.Texts.{text_view};
+ghost use Rattle.html_names_core.specs.Names.{is_ascii};
+ghost use Rattle.html_names_core.specs.Texts.{text_view};
 ghost use Rattle.html_values.specs.AttrTexts.{counts_text, count_text, gap_after, texts_with_gap};
 ghost use Rattle.html_values.specs.Attributes.{IsText};
 
 use crate::into_attr::IntoAttr;
 use crate::text::ascii;
-use html_names::text_writer::TextWriter;
+use html_names_core::text_writer::TextWriter;
 use std::alloc::{AllocError, Global};
 
 const MINUTE: u64 = 60;

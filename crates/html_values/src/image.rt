@@ -2,11 +2,11 @@
 
 ghost use Rattle.std.specs.Prelude.{option_map};
 ghost use Rattle.std.specs.Int.NonZero.{non_zero_u64_get};
-ghost use Rattle.html_names.specs.Texts.{text_view};
+ghost use Rattle.html_names_core.specs.Texts.{text_view};
 ghost use Rattle.html_values.specs.AttrTexts.{size_text, candidate_text};
 
 use crate::into_attr::IntoAttr;
-use html_names::text_writer::TextWriter;
+use html_names_core::text_writer::TextWriter;
 use std::alloc::{AllocError, Global};
 use std::num::NonZeroU64;
 

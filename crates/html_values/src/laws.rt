@@ -2,7 +2,7 @@
 //! are in [`css`]; the type of quantities and its units are beside it.
 
 ghost use Rattle.std.specs.Prelude.{◌≡◌, ◌↔◌, IsTrue};
-ghost use Rattle.html_names.specs.Texts.{text_view};
+ghost use Rattle.html_names_core.specs.Texts.{text_view};
 ghost use Rattle.html_values.specs.AttrTexts.{image_candidate_view};
 ghost use Rattle.html_values.specs.Moments.{moment_view};
 

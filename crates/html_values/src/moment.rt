@@ -1,12 +1,12 @@
 //! Dates and times of day without a time zone, and those of them that have a text.
 
 ghost use Rattle.std.specs.Prelude.{◌≡◌, ◌++◌, OnOk, IsTrue, IsFalse, IfOk, IfErr, ◌<◌};
-ghost use Rattle.html_names.specs.Texts.{text_view};
+ghost use Rattle.html_names_core.specs.Texts.{text_view};
 ghost use Rattle.html_values.specs.AttrTexts.{date_text, time_text, seconds_text, has_year, year_fits};
 ghost use Rattle.html_values_css.specs.declared.cast_fault.CastFault.TheVariants.{YearRange};
 
 use crate::into_attr::IntoAttr;
-use html_names::text_writer::TextWriter;
+use html_names_core::text_writer::TextWriter;
 use html_values_css::CastFault;
 use jiff::civil::{Date, DateTime, Time};
 use std::alloc::{AllocError, Global};

@@ -2,7 +2,7 @@
 
 ghost use Rattle.std.specs.Prelude.{◌≡◌, IfOk, IfErr, None, Some, length, slice_index, ◌-◌, ◌==◌, [], ◌∷◌, chars, option_map};
 ghost use Rattle.std.specs.Int.NonZero.{non_zero_u64_get};
-ghost use Rattle.html_names.specs.Texts.{text_view};
+ghost use Rattle.html_names_core.specs.Texts.{text_view};
 ghost use Rattle.html_values.specs.AttrTexts.{horizontal_text, size_text};
 ghost use Rattle.html_values.specs.Casts.{candidate_answer, GivesCast, Finds, horizontal, icon_size, image, int_of, is_bad_source, native_cast, native_castable, natural, one_char, positive, text_answer, gives};
 ghost use Rattle.html_values.specs.Values.{array_value, auto_value, bool_value, color_value, datetime_value, dir_value, duration_value, image_value, int_value, none_value, str_value, value_view, values_view};
@@ -263,7 +263,7 @@ fn icon_size(items: &[Value]) -> Result<IconSize, CastFault>
     })
 }
 
-#[tactic(auto, using(html_names::proofs::EndChars::empty_chars))]
+#[tactic(auto, using(html_names_core::proofs::EndChars::empty_chars))]
 fn is_empty(src: &str) -> bool
     ensures { result ≡ (length (chars src.now) == 0) }
 {

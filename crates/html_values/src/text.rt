@@ -1,8 +1,8 @@
 //! Functions that create simple texts.
 
 ghost use Rattle.std.specs.Prelude.{◌≡◌, [], IsTrue};
-ghost use Rattle.html_names.specs.Names.{is_ascii};
-ghost use Rattle.html_names.specs.Texts.{text_view};
+ghost use Rattle.html_names_core.specs.Names.{is_ascii};
+ghost use Rattle.html_names_core.specs.Texts.{text_view};
 ghost use Rattle.html_values.specs.Attributes.{IsText};
 
 use std::alloc::{AllocError, Global};
@@ -14,7 +14,7 @@ pub(crate) fn empty(alloc: Global) -> String
     String::new(alloc)
 }
 
-#[tactic(auto, using(html_names::proofs::Lists::chars_ascii))]
+#[tactic(auto, using(html_names_core::proofs::Lists::chars_ascii))]
 pub(crate) fn ascii(alloc: Global, text: &str) -> Result<String, AllocError>
     requires { IsTrue (is_ascii text.now) }
     ensures { IsText result text.now }

@@ -2,7 +2,7 @@
 use Rattle.std.proofs.Common.{◌≡◌, ℕ, List, [], ◌∷◌, ◌++◌, if◌then◌else◌, Result, Ok, Err, is_ok, refl, sym, ap, subst, ◌∙◌, chars, IsUtf8}
 use Rattle.std.specs.declared.alloc.AllocError.{AllocError}
 use Rattle.std.proofs.Math.Bool.{or-false}
-use Rattle.html_names.proofs.Texts.{chars_add}
+use Rattle.html_names_core.proofs.Texts.{chars_add}
 use Rattle.html_values_css.specs.Sink.{SinkAnswers}
 use Rattle.html_values_css.specs.Writer.{WriterState, Emits}
 use Rattle.html_values_css.specs.declared.sink.Warning.{Warning}

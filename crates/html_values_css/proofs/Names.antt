@@ -4,8 +4,8 @@ use Rattle.std.specs.Result.{OnOk, OnErr}
 use Rattle.std.specs.List.{AllWithin, HoldsAt}
 use Rattle.std.specs.List.Sorted.{IsStrictlySortedBy}
 use Rattle.std.specs.declared.cmp.Ordering.TheVariants.{Less, Equal, Greater}
-use Rattle.html_names.specs.Texts.{TextPair}
-use Rattle.html_names.specs.declared.refused.Refused.{Refused}
+use Rattle.html_names_core.specs.Texts.{TextPair}
+use Rattle.html_names_core.specs.declared.refused.Refused.{Refused}
 use Rattle.html_values_css.proofs.Listing.{drop_found, drop_gap, listed_with, listed_without}
 use Rattle.std.specs.Cmp.{IsTotalOrder}
 use Rattle.std.specs.Cmp.Lexicographic.{slice_cmp, lists_total}

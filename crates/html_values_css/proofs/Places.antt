@@ -7,7 +7,7 @@ use Rattle.std.specs.Result.{OnOk, OnErr}
 use Rattle.std.specs.declared.alloc.AllocError.{AllocError}
 use Rattle.std.proofs.Math.Bool.{or-false}
 use lib.Utf8.{encodes}
-use Rattle.html_names.proofs.Lists.{chars_ascii}
+use Rattle.html_names_core.proofs.Lists.{chars_ascii}
 use Rattle.html_values_css.specs.Calc.{next_part_text, with_opening}
 use Rattle.html_values_css.specs.Sums.{Part, Parts, Zero, One, More, with_part}
 use Rattle.html_values_css.specs.Sink.{StartsWith, SinkAnswers, Hands}

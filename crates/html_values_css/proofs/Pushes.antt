@@ -22,7 +22,7 @@ use Rattle.std.proofs.lemmas.List.Sorted.{IsPermutation-map, IsPermutation-sym, 
 use Rattle.std.proofs.lemmas.Slice.Eq.{bytes_eq-Decides}
 use Rattle.std.proofs.lemmas.Str.{encodes_same}
 use lib.Utf8.{encodes}
-use Rattle.html_names.specs.Texts.{TextPair}
+use Rattle.html_names_core.specs.Texts.{TextPair}
 use Rattle.html_values_css.specs.Properties.{by_name, IsListed, value_of, with_property, inline_text}
 use Rattle.html_values_css.specs.PropertyLaws.{properties_after, AnyOrder, PushSets, RemoveClears, ValuesDecide}
 use Rattle.html_values_css.proofs.Names.{by_name_total}

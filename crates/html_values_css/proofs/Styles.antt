@@ -3,8 +3,8 @@ use Rattle.std.proofs.Common.{◌≡◌, ℕ, List, [], ◌∷◌, ◌++◌, cod
 use Rattle.std.specs.List.{flat_map}
 use Rattle.std.proofs.lemmas.Str.{chars-append, chars-nil, IsUtf8-append, encodes-append, encodes-chars, IsUtf8-string_bytes}
 use lib.Utf8.{encodes}
-use Rattle.html_names.specs.Texts.{text_view}
-use Rattle.html_names.proofs.Lists.{chars_ascii}
+use Rattle.html_names_core.specs.Texts.{text_view}
+use Rattle.html_names_core.proofs.Lists.{chars_ascii}
 use Rattle.html_values_css.specs.Properties.{property_view, list_view, declaration, following_pairs, inline_text}
 use Rattle.html_values_css.specs.declared.property.Property.{Property}
 

@@ -6,7 +6,7 @@ use Rattle.std.specs.Str.Parse.{AllDigits}
 use Rattle.std.proofs.lemmas.Bool.Decides.{nat_tests}
 use Rattle.std.proofs.lemmas.Fmt.{decimal_is_IsNumeral}
 use lib.IntN.{+ℤ_idl, +ℤ_idr}
-use Rattle.html_names.specs.Names.{listed_names}
+use Rattle.html_names_core.specs.Names.{listed_names}
 use Rattle.html_values_css.specs.Quantities.{IsQuantity, is_zero, is_negative, nearest_hundreds, point_text, sign_text, fixed_text}
 use Rattle.html_values_css.specs.Sums.{Part, following_part, whole_sum, sum_text, quantity_part}
 use Rattle.html_values_css.specs.Lengths.{Amounts, nothing, negative_amounts, amounts_sum, both, part_value, value_with_sign, terms, sum_value, before_close, of_body, css_value, round, LengthValue, RelValue}

@@ -1,7 +1,7 @@
 -- The numbers of the faults of casts, the first of several faults, and their decidable equality.
 use Rattle.std.specs.Prelude.{◌≡◌, ℕ, ◌==◌, List, ◌∷◌, if◌then◌else◌, refl}
 use native.Mathlib.Decide.{ℕ_discrete}
-use Rattle.html_names.specs.Equal.{discrete_by}
+use Rattle.html_names_core.specs.Equal.{discrete_by}
 use Rattle.html_values_css.specs.declared.cast_fault.CastFault.{CastFault}
 use Rattle.html_values_css.specs.declared.cast_fault.CastFault.TheVariants.{OutOfMemory, WrongKind, NotInStrings, NumberRange, NotOneChar, VerticalDir, BadImageSource, SeparatorInItem, YearRange}
 

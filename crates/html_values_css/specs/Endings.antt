@@ -1,7 +1,7 @@
 -- The results of calls that may return a `CastFault`: the stated value if there is no fault, or the
 -- first fault; out of memory may come before.
 use Rattle.std.specs.Prelude.{List, Result}
-use Rattle.html_names.specs.Endings.{GivesBy}
+use Rattle.html_names_core.specs.Endings.{GivesBy}
 use Rattle.html_values_css.specs.CastFaults.{IsFirst}
 use Rattle.html_values_css.specs.declared.cast_fault.CastFault.{CastFault}
 

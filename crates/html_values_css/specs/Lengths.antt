@@ -4,7 +4,7 @@ use Rattle.std.specs.Prelude.{◌≡◌, ℕ, suc, ◌≤◌, ◌<◌, ◌+◌, 
 use Rattle.std.specs.List.{take_while, prefix_len}
 use Rattle.std.specs.Char.{digit_value}
 use Rattle.std.specs.Str.Parse.{digits_value}
-use Rattle.html_names.specs.Names.{listed_names}
+use Rattle.html_names_core.specs.Names.{listed_names}
 use Rattle.html_values_css.specs.Quantities.{IsQuantity}
 use Rattle.html_values_css.specs.Sums.{length_text, rel_text}
 

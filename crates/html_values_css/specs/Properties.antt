@@ -9,7 +9,7 @@ use Rattle.std.specs.declared.cmp.Ordering.{Ordering}
 use Rattle.std.specs.Ordering.{nat_cmp}
 use Rattle.std.specs.Cmp.Lexicographic.{slice_cmp}
 use lib.Utf8.{encodes}
-use Rattle.html_names.specs.Texts.{text_view, TextPair}
+use Rattle.html_names_core.specs.Texts.{text_view, TextPair}
 use Rattle.std.specs.Arc.{arc_value}
 use Rattle.html_values_css.specs.declared.property.Property.{Property}
 use Rattle.html_values_css.specs.declared.property_list.PropertyList.{PropertyList}

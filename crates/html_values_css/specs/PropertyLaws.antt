@@ -3,7 +3,7 @@ use Rattle.std.specs.Prelude.{◌≡◌, ℕ, List, [], ◌∷◌, bytes_eq, Som
 use Rattle.std.specs.List.{IsDistinct}
 use Rattle.std.specs.List.Sorted.{IsPermutation}
 use Rattle.std.specs.Map.{keys_of}
-use Rattle.html_names.specs.Texts.{TextPair}
+use Rattle.html_names_core.specs.Texts.{TextPair}
 use Rattle.html_values_css.specs.Properties.{IsListed, value_of, with_property, without, inline_text}
 
 -- the properties after pushing these, one after another

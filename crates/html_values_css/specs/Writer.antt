@@ -1,7 +1,7 @@
 -- The state of a css writer, and what a call adds.
 use Rattle.std.specs.Prelude.{◌≡◌, ℕ, List, [], ◌∷◌, ◌++◌, Bool, true, false, ◌||◌, Result, OnOk, OnErr}
 use Rattle.std.specs.declared.alloc.AllocError.{AllocError}
-use Rattle.html_names.specs.Texts.{text_view}
+use Rattle.html_names_core.specs.Texts.{text_view}
 use Rattle.html_values_css.specs.Sink.{StartsWith, SinkAnswers, Hands}
 use Rattle.html_values_css.specs.declared.sink.Warning.{Warning}
 use Rattle.html_values_css.specs.declared.writer.CssWriter.{CssWriter}

@@ -9,7 +9,7 @@ use crate::properties::Properties;
 use crate::sink::{WarningSink, pass_on};
 use crate::to_css::ToCss;
 use crate::writer::CssWriter;
-use html_names::Refused;
+use html_names_core::Refused;
 use std::alloc::{AllocError, Global};
 
 /// Properties that are being built from values. Warnings of values go to the sink.

@@ -2,7 +2,7 @@
 
 ghost use Rattle.std.specs.Prelude.{◌≡◌};
 
-use html_names::Refused;
+use html_names_core::Refused;
 use std::alloc::{AllocError, AllocFailed};
 use thiserror::Error;
 

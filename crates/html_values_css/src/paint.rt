@@ -1,7 +1,7 @@
 //! Colours, whose css is hexadecimal, and paints, of which only the solid ones have a css text.
 
 ghost use Rattle.std.specs.Prelude.{◌≡◌, ℕ, [], IfOk, OnOk, ◌++◌, ◌<◌, string_bytes};
-ghost use Rattle.html_names.specs.Texts.{text_view};
+ghost use Rattle.html_names_core.specs.Texts.{text_view};
 ghost use Rattle.html_values_css.specs.Colors.{hex_byte, alpha_text};
 ghost use Rattle.html_values_css.specs.Sink.{TakesWarning};
 ghost use Rattle.html_values_css.specs.Writer.{writer_state, Emits};

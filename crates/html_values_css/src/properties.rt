@@ -1,14 +1,14 @@
 //! Css properties as a map from names to values, in the order of the names.
 
 ghost use Rattle.std.specs.Prelude.{◌≡◌, ◌↔◌, [], IsTrue, chars, OnOk, OnErr, IfOk, IfErr};
-ghost use Rattle.html_names.specs.Texts.{text_view};
+ghost use Rattle.html_names_core.specs.Texts.{text_view};
 ghost use Rattle.html_values_css.specs.Properties.{list_view, IsListed, with_property, without, inline_text};
 ghost use lib.Utf8.{encodes};
 
 use crate::inline::Inline;
 use crate::property::Property;
 use crate::property_list::PropertyList;
-use html_names::Refused;
+use html_names_core::Refused;
 use std::alloc::{AllocError, Global};
 use std::fmt;
 use std::hash::{Hash, Hasher};
@@ -37,7 +37,7 @@ pub struct Properties {
 
 impl Model for Properties {
     ghost use Rattle.std.specs.Prelude.{List};
-    ghost use Rattle.html_names.specs.Texts.{TextPair};
+    ghost use Rattle.html_names_core.specs.Texts.{TextPair};
     ghost use Rattle.html_values_css.specs.Properties.{list_view, items_of, IsListed};
 
     ghost Value = { List TextPair };
@@ -149,7 +149,7 @@ impl fmt::Debug for Properties {
 
 impl PartialEq for Properties {
     ghost use Rattle.std.specs.Cmp.{partial_equiv_from_equiv};
-    ghost use Rattle.html_names.specs.Equal.{same, same_equiv, pairs_discrete};
+    ghost use Rattle.html_names_core.specs.Equal.{same, same_equiv, pairs_discrete};
 
     ghost eq = { same (λ p. p) pairs_discrete };
 
@@ -161,13 +161,13 @@ impl PartialEq for Properties {
 }
 
 impl Eq for Properties {
-    ghost use Rattle.html_names.specs.Equal.{same_equiv, pairs_discrete};
+    ghost use Rattle.html_names_core.specs.Equal.{same_equiv, pairs_discrete};
 
     ghost laws = { same_equiv (λ p. p) pairs_discrete };
 }
 
 impl Hash for Properties {
-    ghost use Rattle.html_names.specs.Hashes.{pairs_writes};
+    ghost use Rattle.html_names_core.specs.Hashes.{pairs_writes};
     ghost use Rattle.html_values_css.specs.Hashes.{equal_fed};
 
     ghost hash_input = { λ p. pairs_writes p };

@@ -1,12 +1,12 @@
 //! The list of css properties of an element.
 
 ghost use Rattle.std.specs.Prelude.{◌≡◌, ℕ, [], ◌∷◌, chars, MatchResult, OnOk, OnErr, IfOk, IfErr, if◌then◌else◌};
-ghost use Rattle.html_names.specs.Texts.{text_view};
+ghost use Rattle.html_names_core.specs.Texts.{text_view};
 ghost use Rattle.html_values_css.specs.Properties.{list_view, items_of, property_view, by_name, property_name, IsListed, with_property, without};
 ghost use Rattle.html_values_css.specs.Search.{IsFound, IsGap};
 
 use crate::property::Property;
-use html_names::Refused;
+use html_names_core::Refused;
 use std::alloc::{AllocError, AllocFailed, Global};
 use std::cmp::Ordering;
 use std::slice;

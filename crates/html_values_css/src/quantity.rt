@@ -1,7 +1,7 @@
 //! Quantities in millionths of a unit: lengths in points and ems, ratios, and angles.
 
 ghost use Rattle.std.specs.Prelude.{◌≡◌, ◌<◌, ◌↔◌, ◌++◌, ℕ, List, [], IsTrue, IsSome, IfSome, codes, neg_ℤ, refl};
-ghost use Rattle.html_names.specs.Names.{is_ascii};
+ghost use Rattle.html_names_core.specs.Names.{is_ascii};
 ghost use Rattle.html_values_css.specs.Quantities.{IsQuantity, fixed_text};
 
 use crate::calc::CalcPart;

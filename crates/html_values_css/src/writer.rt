@@ -2,8 +2,8 @@
 
 ghost use Rattle.std.specs.Prelude.{◌≡◌, ◌<◌, ◌≤◌, [], ◌∷◌, ◌++◌, OnOk, OnErr, IsTrue, chars, take, drop, length, string_bytes};
 ghost use Rattle.std.specs.Str.{IsUtf8};
-ghost use Rattle.html_names.specs.Names.{is_ascii};
-ghost use Rattle.html_names.specs.Texts.{text_view};
+ghost use Rattle.html_names_core.specs.Names.{is_ascii};
+ghost use Rattle.html_names_core.specs.Texts.{text_view};
 ghost use Rattle.html_values_css.specs.Quantities.{IsQuantity, fixed_text};
 ghost use Rattle.html_values_css.specs.Sink.{AddsAtMost, TakesWarning};
 ghost use Rattle.html_values_css.specs.Writer.{writer_state, empty, Emits, text_of};
@@ -58,7 +58,7 @@ impl<S: WarningSink> CssWriter<S> {
         self.text.push_str(text)
     }
 
-    #[tactic(auto, using(html_names::proofs::Lists::chars_ascii))]
+    #[tactic(auto, using(html_names_core::proofs::Lists::chars_ascii))]
     pub(crate) fn write_ascii(&mut self, text: &str) -> Result<(), AllocError>
         requires { IsTrue (is_ascii text.now) }
         ensures { Emits (TakesWarning S.warnings S.borrow S.emit_gives) result

@@ -1,10 +1,10 @@
 //! Faults of calls, by their numbers.
 
-use html_names::Refused;
-use html_tool_spell::Fault;
+use html_names_core::Refused;
+use html_page_read::PageFault;
 use std::alloc::AllocError;
 use typst_html_encode::ExportFault;
-use typst_html_parse::PageFault;
+use typst_html_json::Fault;
 
 /// The number of the fault of a call, which is 0 if an allocation failed.
 #[derive(Debug, Drop)]

@@ -2,22 +2,22 @@
 
 use crate::answer::Answer;
 use crate::given::{DOCUMENT, Given, ITEMS, OWN_ROOT, PAGE, TREE};
-use html_dom_findings::{
+use html_flow_convert::ConversionLevel;
+use html_links::{decoded_fragment, fragment_in, fragment_leads, place_in, place_names};
+use html_page_findings::{
     DeadFragment, RepeatedId, Wanted, report_dead_fragments, report_repeated_ids, report_texts,
 };
-use html_dom_link::{decoded_fragment, fragment_in, fragment_leads, place_in, place_names};
-use html_dom_nest::{Misnested, misnested, report_misnested_of};
-use html_flow_convert::ConversionLevel;
-use html_tool_run::{Settings, text_of_document, text_of_fragment, unused_of_document};
-use html_tool_spell::{document_in, document_items_in, element_in, items_in};
+use html_page_nesting::{Misnested, misnested, report_misnested_of};
+use html_page_read::read_page_bytes;
 use std::alloc::{AllocError, Global};
-use typst_html_c::{
+use typst_html_encode::html_fragment;
+use typst_html_export::{export_fragment, html_document_with_head};
+use typst_html_ffi::{
     Reply, typst_html_check, typst_html_dead_links, typst_html_document, typst_html_fragment,
     typst_html_links, typst_html_unused, typst_html_write,
 };
-use typst_html_encode::html_fragment;
-use typst_html_export::{export_fragment, html_document_with_head};
-use typst_html_parse::read_page_bytes;
+use typst_html_json::{document_in, document_items_in, element_in, items_in};
+use typst_html_run::{Settings, text_of_document, text_of_fragment, unused_of_document};
 
 /// How deep bodies and elements may be nested.
 const LIMIT: usize = 9;

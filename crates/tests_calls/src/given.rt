@@ -1,15 +1,15 @@
 //! The arguments that the calls borrow.
 
 use html_dom_document::DocumentInfo;
-use html_dom_link::place_names;
 use html_dom_tree::{HtmlElement, HtmlNode};
 use html_flow_convert::Pair;
-use html_tool_spell::{items_in, parse};
+use html_links::place_names;
 use serde_json::Value;
 use std::alloc::Global;
 use std::collections::BTreeSet;
 use std::test::Fail;
-use tests_given::{info_of, inner_of};
+use tests_samples::{info_of, inner_of};
+use typst_html_json::{items_in, parse};
 use typst_html_read::read_html;
 
 /// A page with a `div` in a `p`, which browsers move, a repeated id, a link to a place by its

@@ -4,9 +4,9 @@ use crate::calls::CALLS;
 use crate::given::{Given, given_of};
 use html_flow_convert::{HtmlElem, Pair};
 use html_flow_places::NamedPlaces;
-use html_names::{Refused, tag};
+use html_names_core::{Refused, tag};
 use tests_asserts::TestResult;
-use tests_growth::{refuses_given, refuses_lent};
+use tests_failing_alloc::{refuses_given, refuses_lent};
 use tests_items::elem_of;
 
 /// Refuses each growth of each call.

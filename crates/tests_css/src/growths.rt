@@ -1,14 +1,14 @@
 //! Css texts, sinks of their warnings, and maps of properties, when growths of memory are refused.
 
-use html_names::Refused;
-use html_names::property::Display;
+use html_names_core::Refused;
+use html_names_core::property::Display;
 use html_values_css::{
     Abs, Angle, CssWriter, Em, Length, Paint, Properties, PropertiesBuilder, Property, Ratio, Rel,
     Rgba, Separator, ToCss, Warning, WarningSink,
 };
 use std::alloc::{AllocError, Global};
 use tests_asserts::TestResult;
-use tests_growth::{refuses, refuses_copy, refuses_given, refuses_kept, refuses_lent};
+use tests_failing_alloc::{refuses, refuses_copy, refuses_given, refuses_kept, refuses_lent};
 
 /// The number of letters that fill the text of a writer that got them one by one.
 const FULL: usize = 32;

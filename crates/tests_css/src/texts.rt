@@ -1,7 +1,7 @@
 //! The css texts of quantities, sums, calls, colours, displays and of a caller's own values.
 
 use crate::asserts::assert_css;
-use html_names::property::Display;
+use html_names_core::property::Display;
 use html_values_css::{
     Abs, Angle, CalcPart, CssWriter, Em, Length, Paint, Ratio, Rel, Rgba, Separator, ToCss,
     WarningSink,

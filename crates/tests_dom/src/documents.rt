@@ -5,7 +5,7 @@ use html_dom_document::{DocumentInfo, HtmlDocument, Locale};
 use html_dom_tree::{Location, Span};
 use std::collections::BTreeMap;
 use tests_asserts::{TestResult, Tester, assert_text};
-use tests_given::{document_of, info_of, output_of};
+use tests_samples::{document_of, info_of, output_of};
 
 /// The root is one of the nodes, even after it changed.
 #[test]

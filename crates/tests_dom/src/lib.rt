@@ -10,3 +10,5 @@ mod growths;
 mod places;
 #[cfg(test)]
 mod trees;
+#[cfg(test)]
+mod walk;

@@ -1,13 +1,13 @@
 //! Tests of positions and links in a tree, and of the elements that paths lead to.
 
 use html_dom_document::{HtmlIntrospector, HtmlPosition, HtmlSliceExt};
-use html_dom_findings::element_at;
 use html_dom_tree::{Frame, FrameItem, HtmlElement, HtmlFrame, HtmlNode, Location, Point, Span};
-use html_names::tag;
+use html_names_core::tag;
+use html_page_findings::element_at;
 use html_values_css::Abs;
 use std::alloc::{AllocError, Global};
 use tests_asserts::{TestResult, Tester, assert_debug, assert_number};
-use tests_given::{nested, point, start, text_of};
+use tests_samples::{nested, point, start, text_of};
 
 /// Returns a node for each word: a start tag for `-`, a `span` for `<`, a text for any other.
 fn nodes(alloc: Global, words: &[&str]) -> Result<Vec<HtmlNode>, AllocError> {

@@ -2,11 +2,11 @@
 
 use html_dom_flat::{FlatElement, FlatNode, FlatTree};
 use html_dom_tree::{HtmlAttrs, HtmlElement, HtmlNode};
-use html_names::{HtmlTag, attr, tag};
+use html_names_core::{HtmlTag, attr, tag};
 use std::alloc::Global;
 use std::test::Fail;
 use tests_asserts::{TestResult, Tester, assert_number, assert_text};
-use tests_given::{attrs_of, nested, text_of};
+use tests_samples::{attrs_of, nested, text_of};
 
 fn assert_attrs(rt: &impl Tester, list: &HtmlAttrs, wanted: &[(&str, &str)]) -> TestResult {
     assert!(rt; *list == attrs_of(rt.alloc(), wanted)?);

@@ -1,12 +1,12 @@
 //! Written texts, and assertions about them.
 
 use html_dom_tree::{HtmlElement, Span};
-use html_names::HtmlTag;
+use html_names_core::HtmlTag;
 use std::alloc::{AllocError, Global};
 use std::test::Fail;
 use tests_asserts::{TestResult, Tester, assert_text};
-use tests_given::text_of;
 use tests_reading::reads_back;
+use tests_samples::text_of;
 use typst_html_encode::{ExportFault, FrameWriter, HtmlOptions, html_in_bundle};
 
 pub(crate) const PLAIN: HtmlOptions = HtmlOptions { pretty: false };

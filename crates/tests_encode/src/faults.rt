@@ -1,7 +1,7 @@
 //! Numbers, spans and texts of faults.
 
 use html_dom_tree::Span;
-use html_names::tag;
+use html_names_core::tag;
 use std::alloc::AllocError;
 use tests_asserts::{TestResult, assert_text};
 use typst_html_encode::{ExportFault, FrameFault};

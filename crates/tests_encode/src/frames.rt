@@ -10,7 +10,7 @@ use html_values_css::Abs;
 use std::alloc::{AllocError, Global};
 use std::test::Fail;
 use tests_asserts::{TestResult, Tester};
-use tests_given::point;
+use tests_samples::point;
 use typst_html_encode::{FrameFault, FrameWriter, HtmlOptions};
 
 /// A writer with one text for pretty and another for plain writing, which refuses the pictures with

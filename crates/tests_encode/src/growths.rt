@@ -2,9 +2,9 @@
 
 use html_dom_tree::HtmlElement;
 use tests_asserts::TestResult;
+use tests_failing_alloc::refuses_lent;
 use tests_frames::OneText;
-use tests_given::element_of;
-use tests_growth::refuses_lent;
+use tests_samples::element_of;
 use typst_html_encode::{HtmlOptions, html_in_bundle};
 
 #[test]

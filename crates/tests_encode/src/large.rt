@@ -2,11 +2,11 @@
 
 use crate::asserts::{PLAIN, PRETTY, element};
 use html_dom_tree::{HtmlElement, HtmlNode, Span};
-use html_names::tag;
+use html_names_core::tag;
 use std::alloc::{AllocError, Global};
 use tests_asserts::{TestResult, Tester, assert_number};
-use tests_given::nested;
 use tests_reading::reads_back;
+use tests_samples::nested;
 use typst_html_encode::{HtmlOptions, html_in_bundle};
 
 /// Asserts the length in bytes of the element's text, and that the text is read back.

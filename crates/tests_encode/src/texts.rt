@@ -2,9 +2,9 @@
 
 use crate::asserts::{assert_answer, element};
 use html_dom_tree::{HtmlElement, HtmlNode, Location, Tag, resolve_inline_styles};
-use html_names::tag;
+use html_names_core::tag;
 use tests_asserts::{TestResult, Tester};
-use tests_given::{attrs_of, css_of};
+use tests_samples::{attrs_of, css_of};
 use typst_html_encode::HtmlOptions;
 
 /// Asserts the result of writing an element without frames. New options are plain.

@@ -1,15 +1,15 @@
 //! Frames: their ids and anchors, and links to them.
 
+use html_anchors::{ids_are_distinct, resolve_links};
 use html_dom_document::{DocumentInfo, HtmlDocument};
-use html_dom_findings::{dead_fragments, repeated_ids};
-use html_dom_link::{ids_are_distinct, resolve_links};
 use html_dom_tree::{Frame, FrameItem, HtmlElement, HtmlFrame, HtmlNode, Location, Point, Span};
 use html_flow_convert::{FrameElem, HtmlElem, Item, Pair};
-use html_names::{attr, tag};
+use html_names_core::{attr, tag};
+use html_page_findings::{dead_fragments, repeated_ids};
 use html_values_css::Abs;
 use std::alloc::{AllocError, Global};
 use std::process::Abort;
-use tests_given::{point, start};
+use tests_samples::{point, start};
 use typst_html_export::html_document;
 
 fn text_of(rt: &impl Abort, alloc: Global, text: &str) -> String {

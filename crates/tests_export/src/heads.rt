@@ -3,10 +3,10 @@
 use html_dom_document::DocumentInfo;
 use html_dom_tree::{HtmlElement, HtmlNode, Location};
 use html_flow_convert::{HtmlElem, Item, Pair, push_located};
-use html_names::tag;
+use html_names_core::tag;
 use std::alloc::{AllocError, Global};
 use tests_asserts::TestResult;
-use tests_given::{css_of, id_of};
+use tests_samples::{css_of, id_of};
 use typst_html_encode::HtmlOptions;
 use typst_html_export::{export_with_head, has_own_root, html_document_with_head};
 

@@ -8,10 +8,10 @@
 
 use html_dom_tree::Span;
 use html_flow_convert::{FrameElem, HtmlElem, Item, Pair, Role};
-use html_names::{HtmlTag, attr, tag};
+use html_names_core::{HtmlTag, attr, tag};
 use html_values_css::Abs;
 use std::alloc::{AllocError, Global};
-use tests_given::{css_of, frame_of, id_of, start_of};
+use tests_samples::{css_of, frame_of, id_of, start_of};
 
 /// Returns a frame with a frame in it.
 pub fn frame_elem_of(alloc: Global) -> Result<FrameElem, AllocError> {

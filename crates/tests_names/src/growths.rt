@@ -5,7 +5,7 @@ use html_names::text_writer::TextWriter;
 use html_names::{HtmlAttr, HtmlTag, NameTable, Refused, attr, laws, tag};
 use std::alloc::{AllocError, Global};
 use tests_asserts::TestResult;
-use tests_growth::{refuses, refuses_copy, refuses_given, refuses_kept};
+use tests_failing_alloc::{refuses, refuses_copy, refuses_given, refuses_kept};
 
 /// The number of letters that fill the text of a `TextWriter` that got them one by one.
 const FULL: usize = 32;

@@ -11,8 +11,8 @@
 #![tactic(auto)]
 
 use anyhow::{Context, Result, ensure};
-use html_dom_nest::{Misnested, misnested};
 use html_dom_tree::HtmlElement;
+use html_page_nesting::{Misnested, misnested};
 use serde_json::Value;
 use std::alloc::Global;
 use std::{env, fs};

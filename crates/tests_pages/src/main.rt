@@ -11,11 +11,12 @@
 #![tactic(auto)]
 
 use anyhow::{Context, Result};
-use html_dom_tree::{HtmlAttrs, HtmlElement, HtmlNode};
+use html_dom_tree::{HtmlAttrs, HtmlElement};
+use html_dom_walk::{Visit, Walk};
+use html_page_read::read_page_bytes;
 use serde_json::Value;
 use std::alloc::Global;
 use std::{env, fs};
-use typst_html_parse::read_page_bytes;
 
 /// The greatest depth of elements.
 const DEEPEST: usize = 1000;
@@ -40,21 +41,38 @@ fn page_line(alloc: Global, page: &[u8]) -> Result<String> {
             return Ok(line);
         }
     };
-    push_element(&root, alloc, &mut line)?;
+    push_tree(alloc, &mut line, &root)?;
     Ok(line)
 }
 
-// The node comes first among the parameters: its depth proves that the recursion ends.
+/// Adds an element with its children, with commas between them.
+fn push_tree(alloc: Global, line: &mut String, root: &HtmlElement) -> Result<()> {
+    push_start(alloc, line, root)?;
+    let mut walk = Walk::over(alloc, &root.children);
+    let mut is_first = true;
+    while let Some(visit) = walk.next()? {
+        if !is_first && !matches!(visit, Visit::Leave) {
+            line.push(',')?;
+        }
+        match visit {
+            Visit::Enter(element) => push_start(alloc, line, element)?,
+            Visit::Text(text, _) => push_text(alloc, line, text)?,
+            Visit::Leave => line.push_str("]]")?,
+            Visit::Tag(_) | Visit::Frame(_) => {}
+        }
+        is_first = matches!(visit, Visit::Enter(_));
+    }
+    line.push_str("]]")?;
+    Ok(())
+}
 
-#[cycle(tree)]
-fn push_element(element: &HtmlElement, alloc: Global, line: &mut String) -> Result<()> {
+/// Adds an element up to its children.
+fn push_start(alloc: Global, line: &mut String, element: &HtmlElement) -> Result<()> {
     line.push('[')?;
     push_text(alloc, line, element.tag.resolve())?;
     line.push_str(",[")?;
     push_attrs(alloc, line, &element.attrs)?;
     line.push_str("],[")?;
-    push_children(&element.children, alloc, line)?;
-    line.push_str("]]")?;
     Ok(())
 }
 
@@ -69,22 +87,6 @@ fn push_attrs(alloc: Global, line: &mut String, attrs: &HtmlAttrs) -> Result<()>
         line.push(',')?;
         push_text(alloc, line, value)?;
         line.push(']')?;
-    }
-    Ok(())
-}
-
-/// Adds texts and elements, with commas between them.
-#[cycle(tree)]
-fn push_children(children: &[HtmlNode], alloc: Global, line: &mut String) -> Result<()> {
-    for (index, child) in children.iter().enumerate() {
-        if index > 0 {
-            line.push(',')?;
-        }
-        match child {
-            HtmlNode::Text(text, _) => push_text(alloc, line, text)?,
-            HtmlNode::Element(element) => push_element(element, alloc, line)?,
-            HtmlNode::Tag(_) | HtmlNode::Frame(_) => {}
-        }
     }
     Ok(())
 }

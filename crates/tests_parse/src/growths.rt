@@ -1,9 +1,9 @@
 //! Reading of pages when growths of memory are refused.
 
+use html_page_read::{PageFault, read_page};
 use std::alloc::Global;
 use tests_asserts::TestResult;
-use tests_growth::refuses;
-use typst_html_parse::{PageFault, read_page};
+use tests_failing_alloc::refuses;
 
 /// A page with names of the author's own, attributes, references, raw texts, implied elements, SVG
 /// and a table. The reader recovers from three errors: `<ul>` closes a `p` in which an element is

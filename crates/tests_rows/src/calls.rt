@@ -30,7 +30,7 @@
 //! - `items-text`: what is visible of their document, written plain and pretty
 //!
 //! For items, or an object with `items`, `footnotes`, `head`, and information about a document
-//! (`title`, `description`, `authors`, `keywords`, `lang`, `region`) as `html_tool_spell` reads it,
+//! (`title`, `description`, `authors`, `keywords`, `lang`, `region`) as `typst_html_json` reads it,
 //! each with `[limit=N]`:
 //!
 //! - `document`: the content of the body, or the whole text if there is information

@@ -3,12 +3,11 @@
 use crate::documents::{document_of, linked_of, separate};
 use crate::pages::root_of;
 use anyhow::{Context, Result, ensure};
+use html_anchors::{DeadLink, dead_links, ids_are_distinct};
 use html_dom_document::HtmlDocument;
-use html_dom_findings::{dead_fragments, repeated_ids};
-use html_dom_link::{
-    DeadLink, dead_links, decoded_fragment, href_is_script, ids_are_distinct, place_in,
-};
-use html_dom_nest::{misnested, report_misnested_of};
+use html_links::{decoded_fragment, href_is_script, place_in};
+use html_page_findings::{dead_fragments, repeated_ids};
+use html_page_nesting::{misnested, report_misnested_of};
 use serde_json::Value;
 use std::alloc::Global;
 use std::collections::BTreeSet;

@@ -4,11 +4,10 @@ ghost use Rattle.std.specs.Prelude.{◌≤◌};
 
 use crate::runs::{PLAIN, inner_text};
 use anyhow::{Context, Result, bail, ensure};
+use html_anchors::resolve_links;
 use html_dom_document::{DocumentInfo, HtmlDocument, HtmlIntrospector};
-use html_dom_link::resolve_links;
 use html_dom_tree::Location;
 use html_flow_convert::{ConversionLevel, is_depth_limit};
-use html_tool_spell::{SpelledDocument, document_in};
 use serde_json::Value;
 use std::alloc::Global;
 use tests_frames::OneText;
@@ -18,6 +17,7 @@ use typst_html_encode::{ExportFault, HtmlOptions};
 use typst_html_export::{
     export, export_fragment, export_linked, export_with_head, html_document_with_head,
 };
+use typst_html_json::{SpelledDocument, document_in};
 
 /// The greatest depth of bodies, unless a row gives one.
 const DEPTH_LIMIT: usize = 50;

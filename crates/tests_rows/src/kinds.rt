@@ -1,9 +1,9 @@
 //! Kinds and default displays of elements, and kinds of attributes, by their names.
 
 use anyhow::Result;
-use html_names::property::Display;
-use html_names::tag::mathml::{annotation_xml, is_mathml, is_token};
-use html_names::{HtmlAttr, HtmlTag, NameFault, attr, tag};
+use html_names_core::property::Display;
+use html_names_core::tag::mathml::{annotation_xml, is_mathml, is_token};
+use html_names_core::{HtmlAttr, HtmlTag, NameFault, attr, tag};
 use std::alloc::Global;
 use tests_rows_run::Row;
 

@@ -13,14 +13,14 @@ use html_dom_document::DocumentInfo;
 use html_dom_tree::{HtmlElement, HtmlNode, Span};
 use html_flow_convert::{HtmlElem, Pair, makes_block};
 use html_flow_lists::{ItemList, Notes};
-use html_names::{HtmlAttr, HtmlTag, tag};
+use html_names_core::{HtmlAttr, HtmlTag, tag};
+use html_page_text::{PageText, Shown, page_text};
 use serde_json::Value;
 use std::alloc::Global;
 use tests_rows_items::items_of;
 use tests_rows_run::Row;
 use typst_html_encode::HtmlOptions;
 use typst_html_export::export_linked;
-use typst_html_page::{PageText, Shown, page_text};
 use typst_html_read::read_html;
 
 /// The greatest depth of bodies.

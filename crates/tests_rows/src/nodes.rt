@@ -8,7 +8,7 @@ use html_flow_convert::{
     ConversionLevel, FlowFault, Whitespace, bare_spaces, convert_to_nodes, html_block_fragment,
     html_inline_fragment, html_math_fragment, is_depth_limit,
 };
-use html_names::tag;
+use html_names_core::tag;
 use std::alloc::{AllocError, Global};
 use tests_frames::OneText;
 use tests_rows_items::items_in;

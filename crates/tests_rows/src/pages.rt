@@ -5,14 +5,14 @@ use anyhow::{Result, ensure};
 use html_dom_document::DocumentInfo;
 use html_dom_tree::{HtmlElement, HtmlNode};
 use html_flow_convert::is_depth_limit;
+use html_page_read::{PageFault, Places, read_page_bytes};
+use html_page_text::{Shown, page_text};
 use std::alloc::Global;
 use std::str;
 use tests_rows_items::items_in;
 use tests_rows_run::Row;
 use typst_html_encode::{HtmlOptions, html_in_bundle};
 use typst_html_export::export;
-use typst_html_page::{Shown, page_text};
-use typst_html_parse::{PageFault, Places, read_page_bytes};
 use typst_html_read::{ReadFault, read_html};
 
 /// The greatest depth of elements, unless a row gives one.

@@ -3,7 +3,7 @@
 use anyhow::Result;
 use std::alloc::Global;
 use tests_rows_run::Row;
-use typst_html_c::{
+use typst_html_ffi::{
     Reply, typst_html_check, typst_html_dead_links, typst_html_document, typst_html_fragment,
     typst_html_links, typst_html_unused, typst_html_version, typst_html_write,
 };

@@ -12,9 +12,9 @@
 //!   line feeds that `--pretty` writes at the beginning and at the end are left out, too.
 
 use anyhow::{Context, Result, bail, ensure};
-use html_tool_run::{Fault, InputPlace, Status, Task, run, text_of_input, wanted_task};
 use std::alloc::Global;
 use tests_rows_run::Row;
+use typst_html_run::{Fault, InputPlace, Status, Task, run, text_of_input, wanted_task};
 
 /// The text before and after the body of a document without information.
 pub(crate) const PLAIN: (&str, &str) = (

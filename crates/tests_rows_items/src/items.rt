@@ -8,7 +8,7 @@
 use anyhow::{Context, Result, bail};
 use html_dom_tree::{Frame, Location, Span, Tag};
 use html_flow_convert::{FrameElem, HtmlElem, Item, Pair, Role};
-use html_names::{HtmlAttr, HtmlTag};
+use html_names_core::{HtmlAttr, HtmlTag};
 use html_values_css::Abs;
 use serde_json::Value;
 use std::alloc::Global;

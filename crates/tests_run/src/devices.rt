@@ -3,7 +3,7 @@
 mod readers;
 mod writers;
 
-use html_tool_run::Status;
+use typst_html_run::Status;
 
 const INPUT: &str = r#"["el","p",[],[["text","x"]]]"#;
 

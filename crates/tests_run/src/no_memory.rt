@@ -1,10 +1,10 @@
 //! The program ends with status 3 and writes nothing if memory runs out.
 
 use crate::runs::words;
-use html_tool_run::{Status, run};
 use std::alloc::{AllocError, Global};
 use tests_asserts::TestResult;
-use tests_growth::refuses_lent;
+use tests_failing_alloc::refuses_lent;
+use typst_html_run::{Status, run};
 
 /// The greatest number of bytes that are written.
 const ROOM: usize = 4096;

@@ -1,9 +1,9 @@
 //! Runs on given inputs.
 
-use html_tool_run::{Status, run};
 use std::alloc::Global;
 use std::io::Read;
 use std::process::Abort;
+use typst_html_run::{Status, run};
 
 // A test that calls a few small functions is proved in a second or two; the time grows with the
 // square of what one function does itself.

@@ -1,10 +1,10 @@
 //! The values that JSON spells, without a run.
 
-use html_tool_run::{Fault, InputPlace, element_in, items_in};
 use serde_json::Value;
 use std::alloc::Global;
 use std::process::Abort;
 use typst_html::Span;
+use typst_html_run::{Fault, InputPlace, element_in, items_in};
 
 fn value_of(rt: &impl Abort, alloc: Global, text: &str) -> Value {
     Value::from_str(alloc, text).expect(rt, "a value")

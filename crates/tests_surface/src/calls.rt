@@ -1,13 +1,16 @@
 //! Calls that no other test makes.
 
+use html_page::{
+    Misnested, Misnesting, PageError, PageNote, PageNotes, Places, misnested, read_page,
+    read_page_bytes,
+};
 use std::test::Fail;
 use tests_asserts::assert_text;
 use typst_html::property::Display;
 use typst_html::text_writer::TextWriter;
 use typst_html::{
-    ConstructFault, Dir, HorizontalDir, HtmlAttrs, HtmlElem, HtmlElement, Misnested, Misnesting,
-    PageError, PageNote, PageNotes, Place, Places, Span, ToCss, attr, misnested, read_page,
-    read_page_bytes, tag,
+    ConstructFault, Dir, HorizontalDir, HtmlAttrs, HtmlElem, HtmlElement, Place, Span, ToCss, attr,
+    tag,
 };
 
 #[test]

@@ -1,13 +1,14 @@
 //! Numbers, spans and texts of faults, and the faults that `?` makes of those of the layers below.
 
-use html_tool_run::{Fault, WriteFailed};
+use html_page::{PageFault, PageRefusal};
 use std::alloc::{AllocError, AllocFailed};
 use std::test::Fail;
 use tests_asserts::assert_text;
 use typst_html::{
-    CastFault, ConstructFault, ExportFault, FlowFault, FrameFault, NameFault, NameTable, PageFault,
-    PageRefusal, Place, ReadFault, Refused, Span,
+    CastFault, ConstructFault, ExportFault, FlowFault, FrameFault, NameFault, NameTable, Place,
+    ReadFault, Refused, Span,
 };
+use typst_html_run::{Fault, WriteFailed};
 
 /// The faults made of those of the layers below: numbers, spans and texts.
 const MADE: &str = "\

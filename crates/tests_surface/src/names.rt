@@ -3,12 +3,11 @@
 /// Trees and items, in html_dom and html_flow.
 mod trees {
     use html_dom::{
-        DeadFragment, DeadLink, DocumentInfo, DomIndices, FlatElement, FlatNode, FlatTree, Frame,
-        FrameItem, HtmlAttrs, HtmlDocument, HtmlElement, HtmlFrame, HtmlIntrospector, HtmlNode,
-        HtmlOutput, HtmlPosition, HtmlSliceExt, Locale, Location, Misnested, Misnesting, Point,
-        RepeatedId, Span, Tag, base_of, create_link_anchors, dead_fragments, dead_links,
-        decoded_fragment, element_at, fragment_in, fragment_leads, href_is_script, href_to,
-        ids_are_distinct, laws, misnested, place_in, place_names, repeated_ids,
+        DeadLink, DocumentInfo, DomIndices, FlatElement, FlatNode, FlatTree, Frame, FrameItem,
+        HtmlAttrs, HtmlDocument, HtmlElement, HtmlFrame, HtmlIntrospector, HtmlNode, HtmlOutput,
+        HtmlPosition, HtmlSliceExt, Locale, Location, Point, Span, Tag, base_of,
+        create_link_anchors, dead_links, decoded_fragment, fragment_in, fragment_leads,
+        href_is_script, href_to, ids_are_distinct, laws, place_in, place_names,
         resolve_inline_styles, resolve_links, with_resolved_links,
     };
     use html_flow::{
@@ -37,9 +36,21 @@ mod values {
     };
 }
 
-/// The program, in html_tool_run.
+/// Pages and the trees that they become, in html_page.
+mod pages {
+    use html_page::{
+        DeadFragment, Frame, FrameItem, HtmlAttr, HtmlAttrs, HtmlElement, HtmlFrame, HtmlNode,
+        HtmlTag, Location, Misnested, Misnesting, NameFault, PageError, PageFault, PageNote,
+        PageNotes, PageRefusal, PageText, Place, Places, Point, Refused, RepeatedId, Shown, Span,
+        Tag, Visit, Walk, attr, base_of, dead_fragments, decoded_fragment, element_at, fragment_in,
+        fragment_leads, href_is_script, laws, misnested, page_text, place_in, place_names,
+        property, read_page, read_page_bytes, repeated_ids, tag,
+    };
+}
+
+/// The program, in typst_html_run.
 mod program {
-    use html_tool_run::{
+    use typst_html_run::{
         DocumentText, Fault, InputPlace, LastCall, Recorded, Settings, Status, Task, WriteFailed,
         element_in, items_in, run, run_recorded, text_of_document, text_of_fragment, text_of_input,
         unused_of_document, wanted_task, words_of,
@@ -49,14 +60,12 @@ mod program {
 /// Types and traits of trees, items and documents, in typst_html.
 mod all_types {
     use typst_html::{
-        Arg, ArgValue, Args, Bareness, ConstructFault, ConversionLevel, DeadFragment, DeadLink,
-        DocumentInfo, DomIndices, ElementInfo, ExportFault, FlatElement, FlatNode, FlatTree,
-        FlowFault, Frame, FrameElem, FrameFault, FrameItem, FrameWriter, HtmlAttr, HtmlAttrs,
-        HtmlDocument, HtmlElem, HtmlElement, HtmlFrame, HtmlIntrospector, HtmlNode, HtmlOptions,
-        HtmlOutput, HtmlPosition, HtmlSliceExt, HtmlTag, Item, ItemList, Locale, Location,
-        Misnested, Misnesting, NameFault, NameTable, NamedPlaces, Notes, PageError, PageFault,
-        PageNote, PageNotes, PageRefusal, PageText, Pair, Place, Places, Point, ReadFault, Refused,
-        RepeatedId, Role, Shown, Span, Tag, Whitespace,
+        Arg, ArgValue, Args, Bareness, ConstructFault, ConversionLevel, DeadLink, DocumentInfo,
+        DomIndices, ElementInfo, ExportFault, FlatElement, FlatNode, FlatTree, FlowFault, Frame,
+        FrameElem, FrameFault, FrameItem, FrameWriter, HtmlAttr, HtmlAttrs, HtmlDocument, HtmlElem,
+        HtmlElement, HtmlFrame, HtmlIntrospector, HtmlNode, HtmlOptions, HtmlOutput, HtmlPosition,
+        HtmlSliceExt, HtmlTag, Item, ItemList, Locale, Location, NameFault, NameTable, NamedPlaces,
+        Notes, Pair, Place, Point, ReadFault, Refused, Role, Span, Tag, Visit, Walk, Whitespace,
     };
 }
 
@@ -75,12 +84,11 @@ mod all_values {
 mod all_calls {
     use typst_html::{
         attr, bare_spaces, base_of, charsets, civil, construct, convert_to_nodes,
-        create_link_anchors, dead_fragments, dead_links, decoded_fragment, element_at, export,
-        export_linked, export_with_head, fragment_in, fragment_leads, has_own_root, href_is_script,
-        href_to, html, html_block_fragment, html_document, html_document_for_bundle,
-        html_document_with_head, html_in_bundle, html_inline_fragment, html_math_fragment,
-        ids_are_distinct, is_depth_limit, laws, misnested, page_text, place_in, place_names,
-        property, push_located, read_html, read_page, read_page_bytes, repeated_ids,
-        resolve_inline_styles, resolve_links, tag, text_writer, with_resolved_links,
+        create_link_anchors, dead_links, decoded_fragment, export, export_linked, export_with_head,
+        fragment_in, fragment_leads, has_own_root, href_is_script, href_to, html,
+        html_block_fragment, html_document, html_document_for_bundle, html_document_with_head,
+        html_in_bundle, html_inline_fragment, html_math_fragment, ids_are_distinct, is_depth_limit,
+        laws, place_in, place_names, property, push_located, read_html, resolve_inline_styles,
+        resolve_links, tag, text_writer, with_resolved_links,
     };
 }

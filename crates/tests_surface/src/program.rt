@@ -1,10 +1,10 @@
 //! The parts of the program's runs.
 
-use html_tool_run::{LastCall, Recorded, Status, Task, WriteFailed, wanted_task, words_of};
 use std::alloc::Global;
 use std::io;
 use std::io::{Error, ErrorKind, Write};
 use std::test::Fail;
+use typst_html_run::{LastCall, Recorded, Status, Task, WriteFailed, wanted_task, words_of};
 
 #[test]
 fn statuses_have_codes(rt: HostRuntime) {

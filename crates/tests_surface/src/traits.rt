@@ -1,6 +1,6 @@
 //! The traits of public types. Functions that do nothing are there for their bounds.
 
-use html_tool_run::{Fault, InputPlace, LastCall, Settings, Status, Task, WriteFailed};
+use html_page::{DeadFragment, PageError, PageFault, PageNote, PageRefusal, PageText, RepeatedId};
 use std::alloc::{AllocError, Global};
 use std::collections::HashMap;
 use std::error::Error;
@@ -12,14 +12,14 @@ use std::test::Fail;
 use typst_html::property::Display;
 use typst_html::{
     Abs, Angle, AutoValue, CalcPart, CastFault, ConstructFault, ConversionLevel, Datetime,
-    DeadFragment, DeadLink, Dir, DocumentInfo, Duration, Em, ExportFault, FlowFault, Frame,
-    FrameFault, FrameItem, FrameWriter, HorizontalDir, HtmlAttr, HtmlAttrs, HtmlElement, HtmlFrame,
-    HtmlNode, HtmlOptions, HtmlTag, IconSize, ImageCandidate, Inline, IntoAttr, Length, Locale,
-    Location, Moment, NameFault, NativeType, NoneEmpty, NoneUndefined, NoneValue, OnOffBool,
-    PageError, PageFault, PageNote, PageRefusal, PageText, Paint, Place, Point, Properties,
-    Property, Ratio, ReadFault, Refused, Rel, RepeatedId, Rgba, Separator, Span, Str, Tag, ToCss,
-    TrueFalseBool, Warning, WarningSink, Whitespace, YesNoBool, attr, tag,
+    DeadLink, Dir, DocumentInfo, Duration, Em, ExportFault, FlowFault, Frame, FrameFault,
+    FrameItem, FrameWriter, HorizontalDir, HtmlAttr, HtmlAttrs, HtmlElement, HtmlFrame, HtmlNode,
+    HtmlOptions, HtmlTag, IconSize, ImageCandidate, Inline, IntoAttr, Length, Locale, Location,
+    Moment, NameFault, NativeType, NoneEmpty, NoneUndefined, NoneValue, OnOffBool, Paint, Place,
+    Point, Properties, Property, Ratio, ReadFault, Refused, Rel, Rgba, Separator, Span, Str, Tag,
+    ToCss, TrueFalseBool, Warning, WarningSink, Whitespace, YesNoBool, attr, tag,
 };
+use typst_html_run::{Fault, InputPlace, LastCall, Settings, Status, Task, WriteFailed};
 
 fn are_compared<T: Debug + Drop + Eq>() {}
 

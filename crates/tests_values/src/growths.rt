@@ -9,7 +9,7 @@ use html_values::{
 use std::alloc::{AllocError, Global};
 use std::num::{NonZeroI64, NonZeroU64};
 use tests_asserts::TestResult;
-use tests_growth::{refuses, refuses_given};
+use tests_failing_alloc::{refuses, refuses_given};
 
 const RED: Rgba = Rgba {
     r: 255,

@@ -1,5 +1,5 @@
 -- The definitions of its parts and of the layers below that the contracts of its re-exports use.
-pub use Rattle.typst_html_encode.specs.Collapsing
+pub use Rattle.html_dom_shown.specs.Collapsing
 pub use Rattle.typst_html_encode.specs.Conversions
 pub use Rattle.typst_html_encode.specs.FaultViews
 pub use Rattle.typst_html_encode.specs.ExportFaults
@@ -18,25 +18,7 @@ pub use Rattle.typst_html_read.specs.ReadFaults
 pub use Rattle.typst_html_read.specs.ReadLaws
 pub use Rattle.typst_html_read.specs.LimitedReading
 pub use Rattle.typst_html_read.specs.BegunReferences
-pub use Rattle.typst_html_read.specs.Places
-pub use Rattle.typst_html_parse_names.specs.PageNames
-pub use Rattle.typst_html_parse_open.specs.OpenElements
-pub use Rattle.typst_html_parse_tree.specs.PageBodies
-pub use Rattle.typst_html_parse_open.specs.PageRefusals
-pub use Rattle.typst_html_parse_tree.specs.PageTrees
-pub use Rattle.typst_html_parse_open.specs.Pages
-pub use Rattle.typst_html_parse.specs.DocumentTypes
-pub use Rattle.typst_html_parse.specs.PageAnswers
-pub use Rattle.typst_html_parse.specs.PageFaults
-pub use Rattle.typst_html_parse.specs.PagePlaces
-pub use Rattle.typst_html_parse.specs.PageReading
-pub use Rattle.typst_html_parse.specs.PageReferences
-pub use Rattle.typst_html_parse.specs.PageTokens
-pub use Rattle.typst_html_parse.specs.PlaceViews
-pub use Rattle.typst_html_page.specs.PageLaws
-pub use Rattle.typst_html_page.specs.PageTexts
-pub use Rattle.typst_html_page.specs.PageViews
-pub use Rattle.typst_html_page.specs.Parts
+pub use Rattle.html_text.specs.Places
 pub use Rattle.typst_html_spaces.specs.CleanItems
 pub use Rattle.typst_html_spaces.specs.ItemText
 pub use Rattle.typst_html_spaces.specs.PlainFlow
@@ -48,16 +30,13 @@ pub use Rattle.typst_html_export.specs.CleanInfo
 pub use Rattle.typst_html_export.specs.DocumentHead
 pub use Rattle.typst_html_export.specs.Exported
 pub use Rattle.typst_html_export.specs.Linked
-pub use Rattle.typst_html_export.specs.OwnHead
+pub use Rattle.typst_html_export.specs.OwnRoots
 pub use Rattle.typst_html_export.specs.SpacesInDocuments
-pub use Rattle.typst_html_nest.specs.TreesStay
-pub use Rattle.typst_html_laws.specs.ItemHyperlinks
-pub use Rattle.typst_html_laws.specs.SoundLinks
-pub use Rattle.html_names.specs.Characters
-pub use Rattle.html_names.specs.Displays
-pub use Rattle.html_names.specs.Kinds
-pub use Rattle.html_names.specs.Names
-pub use Rattle.html_names.specs.Texts
+pub use Rattle.html_names_core.specs.Characters
+pub use Rattle.html_names_core.specs.Displays
+pub use Rattle.html_names_core.specs.Kinds
+pub use Rattle.html_names_core.specs.Names
+pub use Rattle.html_names_core.specs.Texts
 pub use Rattle.html_values_css.specs.Properties
 pub use Rattle.html_values_css.specs.Quantities
 pub use Rattle.html_values_css.specs.Sink
@@ -66,8 +45,10 @@ pub use Rattle.html_dom_tree.specs.FrameViews
 pub use Rattle.html_dom_tree.specs.PlainTree
 pub use Rattle.html_dom_tree.specs.Tree
 pub use Rattle.html_dom_tree.specs.Views as TreeViews
-pub use Rattle.html_dom_nest.specs.Misnested
-pub use Rattle.html_dom_nest.specs.MisnestedViews
+pub use Rattle.html_dom_walk.specs.Events
+pub use Rattle.html_dom_walk.specs.Gathered
+pub use Rattle.html_dom_walk.specs.WalkLaws
+pub use Rattle.html_dom_walk.specs.Walks
 pub use Rattle.html_dom_document.specs.Documents
 pub use Rattle.html_dom_document.specs.Views as DocumentViews
 pub use Rattle.html_flow_convert.specs.Items
@@ -79,9 +60,4 @@ pub use Rattle.html_flow_places.specs.NamedLocations
 pub use Rattle.typst_html_encode.specs.declared.fault.ExportFault
 pub use Rattle.typst_html_encode.specs.declared.frame.FrameFault
 pub use Rattle.typst_html_read.specs.declared.fault.ReadFault
-pub use Rattle.typst_html_read.specs.declared.place.Place
-pub use Rattle.typst_html_parse_open.specs.declared.error.PageError
-pub use Rattle.typst_html_parse_open.specs.declared.fault.PageRefusal
-pub use Rattle.typst_html_parse.specs.declared.fault.PageFault
-pub use Rattle.typst_html_parse.specs.declared.fault.PageNote
-pub use Rattle.typst_html_parse.specs.declared.fault.PageNotes
+pub use Rattle.html_text.specs.declared.place.Place

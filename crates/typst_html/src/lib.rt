@@ -1,5 +1,6 @@
 //! Documents made from items, and their HTML text. Re-exports everything that users of this project
-//! name: each public name of `html_names`, `html_values`, `html_dom` and `html_flow`.
+//! name: each public name of `html_names`, `html_values`, `html_dom` and `html_flow`. Reading pages from
+//! elsewhere is in `html_page`.
 //!
 //! Examples here and in those crates are bodies of tests, which take `rt: HostRuntime`, return
 //! `Result<(), Fail>`, with `Fail` of `std::test`, and end in `Ok(())`. An example that implements
@@ -22,7 +23,6 @@
 
 pub mod laws;
 
-pub use html_dom::DeadFragment;
 pub use html_dom::DeadLink;
 pub use html_dom::DocumentInfo;
 pub use html_dom::DomIndices;
@@ -42,30 +42,25 @@ pub use html_dom::HtmlPosition;
 pub use html_dom::HtmlSliceExt;
 pub use html_dom::Locale;
 pub use html_dom::Location;
-pub use html_dom::Misnested;
-pub use html_dom::Misnesting;
 pub use html_dom::Point;
-pub use html_dom::RepeatedId;
 pub use html_dom::Span;
 pub use html_dom::Tag;
 pub use html_dom::base_of;
 pub use html_dom::create_link_anchors;
-pub use html_dom::dead_fragments;
 pub use html_dom::dead_links;
 pub use html_dom::decoded_fragment;
-pub use html_dom::element_at;
 pub use html_dom::fragment_in;
 pub use html_dom::fragment_leads;
 pub use html_dom::href_is_script;
 pub use html_dom::href_to;
 pub use html_dom::ids_are_distinct;
-pub use html_dom::misnested;
 pub use html_dom::place_in;
 pub use html_dom::place_names;
-pub use html_dom::repeated_ids;
 pub use html_dom::resolve_inline_styles;
 pub use html_dom::resolve_links;
 pub use html_dom::with_resolved_links;
+pub use html_dom_walk::Visit;
+pub use html_dom_walk::Walk;
 pub use html_flow::Arg;
 pub use html_flow::ArgValue;
 pub use html_flow::Args;
@@ -158,17 +153,6 @@ pub use typst_html_export::html;
 pub use typst_html_export::html_document;
 pub use typst_html_export::html_document_for_bundle;
 pub use typst_html_export::html_document_with_head;
-pub use typst_html_page::PageText;
-pub use typst_html_page::Shown;
-pub use typst_html_page::page_text;
-pub use typst_html_parse::PageFault;
-pub use typst_html_parse::PageNote;
-pub use typst_html_parse::PageNotes;
-pub use typst_html_parse::Places;
-pub use typst_html_parse::read_page;
-pub use typst_html_parse::read_page_bytes;
-pub use typst_html_parse_open::PageError;
-pub use typst_html_parse_open::PageRefusal;
 pub use typst_html_read::Place;
 pub use typst_html_read::ReadFault;
 pub use typst_html_read::read_html;

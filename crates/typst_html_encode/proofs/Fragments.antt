@@ -1,7 +1,7 @@
 -- Nodes by themselves are written as the children of a `div` are.
 use Rattle.std.proofs.Common.{◌≡◌, ℕ, Bool, false, true, List, [], ◌++◌, codes, Result, refl, ap, ◌∙◌, sym, subst, append-nil}
-use Rattle.html_names.specs.Kinds.{is_void, is_raw, is_escapable_raw, is_foreign_self_closing}
-use Rattle.html_names.specs.Names.{stands_in}
+use Rattle.html_names_core.specs.Kinds.{is_void, is_raw, is_escapable_raw, is_foreign_self_closing}
+use Rattle.html_names_core.specs.Names.{stands_in}
 use Rattle.html_dom_tree.specs.FrameFree.{NodesAreFrameFree}
 use Rattle.html_dom_tree.specs.Tree.{NodesView, none, node}
 use Rattle.typst_html_encode.specs.ExportFaults.{node_faults, nodes_faults}

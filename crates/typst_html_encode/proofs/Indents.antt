@@ -4,8 +4,8 @@ use Rattle.std.specs.List.{slice_range}
 use Rattle.std.specs.Str.{IsAscii}
 use Rattle.std.proofs.lemmas.Bool.{agree_below_at}
 use Rattle.std.proofs.lemmas.Slice.Eq.{bytes_eq-Decides}
-use Rattle.html_names.specs.Names.{is_ascii}
-use Rattle.html_names.proofs.Basics.{is_ascii_is}
+use Rattle.html_names_core.specs.Names.{is_ascii}
+use Rattle.html_names_core.proofs.Basics.{is_ascii_is}
 use Rattle.typst_html_encode.specs.Layout.{spaces, indent}
 use Rattle.typst_html_encode.specs.declared.indent.TheConstants.{LINE}
 

@@ -1,20 +1,22 @@
 -- Indents are not seen: each touches a border.
 use Rattle.std.proofs.Common.{◌≡◌, ◌⊎◌, ℕ, zero, suc, ◌+◌, List, [], ◌∷◌, ◌++◌, Bool, true, false, cond, ◌&&◌, ◌||◌, Some, refl, ap, sym, ◌∙◌, inl, inr, append_assoc, append-nil, codes}
-use Rattle.std.specs.Prelude.{bytes_eq}
+use Rattle.std.specs.Prelude.{bytes_eq, option_map}
 use Rattle.std.proofs.lemmas.Bool.{cases_Bool, and_parts, both_ways, and_left, and_right}
 use Rattle.std.proofs.lemmas.Slice.Eq.{bytes_eq-Decides}
-use Rattle.html_names.specs.Displays.{default_display}
-use Rattle.html_names.specs.Names.{stands_in}
-use Rattle.html_names.specs.Kinds.{is_raw, is_escapable_raw, is_replaced, is_line_break}
-use Rattle.html_dom_tree.specs.PlainTree.{words, branch, Plains, no_plains, plain, put_words, nodes_normal}
+use Rattle.html_names_core.specs.Displays.{default_display}
+use Rattle.html_names_core.specs.Names.{stands_in}
+use Rattle.html_names_core.specs.Kinds.{is_raw, is_escapable_raw, is_replaced, is_line_break}
+use Rattle.html_dom_tree.specs.PlainTree.{Plains, nodes_normal}
 use Rattle.html_dom_tree.specs.Tree.{TextPair, Head, NodeView, tag_node, text_node, element_node, frame_node, NodesView, none, node}
-use Rattle.typst_html_encode.specs.Collapsing.{Atom, ignorable, collapsible, object, border, Piece, char, edge, merged_edges, text_atoms, preserves, has_border_display, has_border, element_atoms, plains_atoms, is_supported_by, then_supports, atoms_pieces, collapsed_pieces}
+use Rattle.html_dom_shown.specs.Bodies.{body_children, body_in}
+use Rattle.html_dom_shown.specs.Collapsing.{Atom, ignorable, collapsible, object, border, Piece, char, edge, merged_edges, text_atoms, preserves, has_border_display, has_border, element_atoms, plains_atoms, is_supported_by, then_supports, atoms_pieces, collapsed_pieces}
+use Rattle.html_dom_shown.proofs.Bodies.{body_in_normal, past_words}
+use Rattle.html_dom_shown.proofs.NodeAtoms.{node_atoms, nodes_atoms, normal_atoms}
 use Rattle.typst_html_encode.specs.Indented.{with_indent, node_layout, nodes_layout, content_layout}
-use Rattle.typst_html_encode.specs.IndentsCollapse.{HeadIsEdged, NodesAreEdged, body_children, body_in, ContentCollapses, BodyCollapses}
+use Rattle.typst_html_encode.specs.IndentsCollapse.{HeadIsEdged, NodesAreEdged, ContentCollapses, BodyCollapses}
 use Rattle.typst_html_encode.specs.Layout.{spaces, indent, allows_pretty_inside, wants_pretty_around, nodes_want_pretty, is_pretty_inside}
 use Rattle.typst_html_encode.specs.Text.{ends_at_once}
 use Rattle.typst_html_encode.specs.declared.layout.Margin.{Margin}
-use Rattle.typst_html_encode.proofs.NodeAtoms.{node_atoms, nodes_atoms, normal_atoms}
 use Rattle.typst_html_encode.proofs.Plainly.{children_stay}
 
 -- the lists look the same from before, and are seen the same after what supports and after what
@@ -313,12 +315,6 @@ content_collapses level h ns r c =
 
 -- the body
 
-pub past_words : (s : List ℕ) (ps : Plains) → body_in (put_words s ps) ≡ body_in ps
-past_words [] ps = refl
-past_words (c ∷ cs) no_plains = refl
-past_words (c ∷ cs) (plain (words t) ps) = refl
-past_words (c ∷ cs) (plain (branch name attrs kids) ps) = refl
-
 past_indent : (b : Bool) (level : ℕ) (ns : NodesView) →
     body_in (nodes_normal (with_indent b level ns)) ≡ body_in (nodes_normal ns)
 unfolding nodes_normal
@@ -334,18 +330,7 @@ is_body name e = ap is_raw ((bytes_eq-Decides name (codes "body")).0 e) ∙ body
 
 pub body_normal : (ns below : NodesView) → body_children ns ≡ Some below →
     body_in (nodes_normal ns) ≡ Some (nodes_normal below)
-unfolding nodes_normal
-body_normal none below e = cc
-body_normal (node (tag_node t) ns) below e = body_normal ns below e
-body_normal (node (text_node s span) ns) below e = past_words s (nodes_normal ns)
-    ∙ body_normal ns below e
-body_normal (node (frame_node b) ns) below e = body_normal ns below e
-body_normal (node (element_node h kids) ns) below e =
-    elim (cases_Bool (bytes_eq h.name (codes "body"))) [
-      | inl t ↦ let f : Some kids ≡ Some below = rw t at e in let g : kids ≡ below =
-          cc in rw (t, g) refl
-      | inr t ↦ let f : body_children ns ≡ Some below = rw t at e in rw t (body_normal ns below f)
-    ]
+body_normal ns below e = body_in_normal ns ∙ ap (option_map nodes_normal) e
 
 -- the first body of the row collapses to the same
 abbrev HoldsBody : NodesView → NodesView → Type 0

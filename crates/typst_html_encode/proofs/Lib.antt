@@ -1,5 +1,4 @@
 pub mod BlankReferences
-pub mod Closings
 pub mod Escapes
 pub mod Firsts
 pub mod Fragments
@@ -10,7 +9,6 @@ pub mod Layouts
 pub mod Lines
 pub mod LinesEnd
 pub mod Named
-pub mod NodeAtoms
 pub mod Normals
 pub mod PassedBytes
 pub mod Plainly

@@ -5,8 +5,8 @@ use Rattle.std.specs.Char.{to_ascii_lowercase}
 use Rattle.std.specs.List.{AllByRecursion}
 use Rattle.std.specs.Str.Lines.{lines}
 use Rattle.std.proofs.lemmas.Bool.{cases_Bool, and_parts, or_parts, or_from, not-true}
-use Rattle.html_names.specs.Kinds.{is_raw}
-use Rattle.typst_html_encode.specs.ClosingTags.{is_tag_end, closing, begins_closing, has_closing, holds_closing}
+use Rattle.html_names_core.specs.Kinds.{is_raw}
+use Rattle.html_text.specs.ClosingTags.{is_tag_end, closing, begins_closing, has_closing, holds_closing}
 use Rattle.typst_html_encode.specs.Layout.{spaces, indent, by_lines, keeps_lines, lines_text}
 use Rattle.typst_html_encode.proofs.RawNames.{of_raw}
 use Rattle.typst_html_encode.proofs.Lines.{lines_are}

@@ -1,20 +1,18 @@
 -- Bytes that are passed, and the characters that they make.
-use Rattle.std.proofs.Common.{◌≡◌, ℕ, ◌+◌, ◌/◌, ◌<◌, ◌≤◌, length, take, drop, get_or, subst, Bool, true, false, not, ◌&&◌, cond, List, [], ◌∷◌, ◌++◌, arith, refl, ap, ◌∙◌, sym, chars, bit_and}
-use Rattle.std.proofs.lemmas.Bool.{agree_below, agree_below_at, and_from, and_parts, not-true}
+use Rattle.std.proofs.Common.{◌≡◌, ℕ, ◌+◌, ◌/◌, ◌<◌, ◌≤◌, Bool, true, false, not, ◌&&◌, cond, List, [], ◌∷◌, arith, refl, ap, ◌∙◌, sym, chars, bit_and}
+use Rattle.std.specs.List.{list_all}
+use Rattle.std.proofs.lemmas.Bool.{agree_below, and_parts, not-true}
 use Rattle.std.proofs.lemmas.Bool.Decides.{nat_tests}
-use Rattle.std.proofs.lemmas.List.{take-append-drop, take_more, get_or_past}
-use Rattle.std.proofs.lemmas.Str.{IsUtf8-take, IsUtf8-drop, encodes-chars, scalars-chars}
-use Rattle.std.specs.Prelude.{◌==◌}
-use Rattle.std.specs.Str.{IsUtf8, IsCharBoundary}
-use Rattle.html_names.specs.Characters.{all, is_text_char}
-use Rattle.html_names.proofs.Basics.{all_append}
+use Rattle.html_names_core.specs.Characters.{is_text_char}
+use Rattle.html_text.specs.Fronts.{SplitsFront, StopsBetween, has_byte}
+use Rattle.html_text.proofs.Fronts.{IsByBytes, all_of, by_table, of_class}
 use Rattle.typst_html_encode.specs.ExportFaults.{is_reference}
-use Rattle.typst_html_encode.specs.PlainStretches.{is_passed, is_passed_high, is_plain, is_selected, PassesPlain, Selects}
+use Rattle.typst_html_encode.specs.PlainStretches.{is_passed, is_passed_high, is_plain, PassesPlain, Selects}
 use Rattle.typst_html_encode.specs.declared.escape.Escaping.{Escaping}
 use Rattle.typst_html_encode.specs.declared.stretch.TheConstants.{PASSED}
 use Rattle.typst_html_encode.specs.declared.escape.Escaping.TheVariants as escaping
 use lib.Dec.{ltb, leb}
-use lib.Utf8.{scalar, scalars, encode, encodes, next}
+use lib.Utf8.{scalar, encode, next}
 
 high_text : (c : ℕ) → scalar c ≡ true → 192 ≤ c → c < 61440 → is_text_char c ≡ true
 high_text c s low high = grind (arith, nat_tests)
@@ -45,7 +43,7 @@ passed_lead e b low h =
 
 by_width : (e : Escaping) (c : ℕ) (x y z : Bool) → scalar c ≡ true → ltb c 128 ≡ x →
     ltb c 2048 ≡ y → ltb c 65536 ≡ z →
-    all (is_passed e) (cond x (c ∷ []) (cond y ((192 + c / 64) ∷ next c ∷ [])
+    list_all (is_passed e) (cond x (c ∷ []) (cond y ((192 + c / 64) ∷ next c ∷ [])
     (cond z ((224 + c / 4096) ∷ next (c / 64) ∷ next c ∷ [])
     ((240 + c / 262144) ∷ next (c / 4096) ∷ next (c / 64) ∷ next c ∷ [])))) ≡ true →
     is_plain e c ≡ true
@@ -65,33 +63,9 @@ by_width e c false false false s one two three h =
     let lead = passed_lead e (240 + c / 262144) (omega arith) (and_parts _ _ h).0 in
     absurd (omega (arith, lead.2))
 
-passed_char : (e : Escaping) (c : ℕ) → scalar c ≡ true → all (is_passed e) (encode c) ≡ true →
-    is_plain e c ≡ true
+passed_char : (e : Escaping) → IsByBytes (is_plain e) (is_passed e)
 unfolding encode
 passed_char e c s h = by_width e c (ltb c 128) (ltb c 2048) (ltb c 65536) s refl refl refl h
-
-all_parts : (p : ℕ → Bool) (xs ys : List ℕ) → all p (xs ++ ys) ≡ true →
-    (all p xs ≡ true) × (all p ys ≡ true)
-all_parts p [] ys h = (refl, h)
-all_parts p (x ∷ xs) ys h =
-    let first = and_parts (p x) (all p (xs ++ ys)) h in
-    let others = all_parts p xs ys first.1 in
-    (and_from (p x) (all p xs) first.0 others.0, others.1)
-
-passed_chars : (e : Escaping) (cs : List ℕ) → scalars cs ≡ true →
-    all (is_passed e) (encodes cs) ≡ true → all (is_plain e) cs ≡ true
-passed_chars e [] s h = refl
-passed_chars e (c ∷ cs) s h =
-    let valid = and_parts (scalar c) (scalars cs) s in
-    let parts = all_parts (is_passed e) (encode c) (encodes cs) h in
-    and_from (is_plain e c) (all (is_plain e) cs) (passed_char e c valid.0 parts.0)
-    (passed_chars e cs valid.1 parts.1)
-
--- a text with such bytes alone has plain characters alone
-passed_plain : (e : Escaping) (text : List ℕ) → IsUtf8 text →
-    all (is_passed e) text ≡ true → all (is_plain e) (chars text) ≡ true
-passed_plain e text u h = passed_chars e (chars text) (scalars-chars text u)
-    (ap (all (is_passed e)) (encodes-chars text u) ∙ h)
 
 -- a byte that is not passed begins a character
 begins_char : (e : Escaping) (b : ℕ) → is_reference e ≡ false → is_passed e b ≡ false → 128 ≤ b →
@@ -102,35 +76,26 @@ begins_char e b r h over =
     let high = rw (r, is) at h in
     grind (arith, nat_tests, high)
 
-pub stops_between : (e : Escaping) (text : List ℕ) (at : ℕ) → is_reference e ≡ false →
-    at ≤ length text → (at < length text → is_passed e (get_or text at 0) ≡ false) →
-    IsCharBoundary text at
-stops_between e text at r within stops =
-    (within, λ below over. begins_char e (get_or text at 0) r (stops below) over)
+pub stops_between : (e : Escaping) (way : ℕ) → is_reference e ≡ false → Selects e way →
+    StopsBetween (has_byte PASSED way)
+stops_between e way r selects b h over = begins_char e b r (sym (selects b) ∙ h) over
 
-pub passes_bytes : (e : Escaping) (text rest : List ℕ) (at : ℕ) → IsUtf8 text →
-    IsCharBoundary text at → all (is_passed e) (take at text) ≡ true → rest ≡ drop at text →
-    PassesPlain e text rest
-passes_bytes e text rest at u cut passed is = record {
-  front = take at text;
-  split = sym (take-append-drop at text) ∙ ap (λ l. take at text ++ l) (sym is);
-  front_utf8 = IsUtf8-take text at u cut;
-  rest_utf8 = subst IsUtf8 (sym is) (IsUtf8-drop text at u cut);
-  plain = passed_plain e (take at text) (IsUtf8-take text at u cut) passed;
-}
+pub passes_front : (e : Escaping) (way : ℕ) (text front rest : List ℕ) → Selects e way →
+    SplitsFront (has_byte PASSED way) text front rest → PassesPlain e text rest
+passes_front e way text front rest selects split =
+    let same : has_byte PASSED way ≡ is_passed e = λ i b. selects b i in
+    let passed : list_all (is_passed e) front ≡ true =
+    ap (λ p. list_all p front) (sym same) ∙ split.had in
+    record {
+      front = front;
+      split = split.parts;
+      front_utf8 = split.front_utf8;
+      rest_utf8 = split.rest_utf8;
+      plain = all_of (is_plain e) (chars front)
+          (of_class (is_plain e) (is_passed e) (passed_char e) front split.front_utf8 passed);
+    }
 
 -- the numbers of the escapings
-
-by_test : (p q : ℕ → Bool) → agree_below p q 256 ≡ true → ((b : ℕ) → 256 ≤ b → p b ≡ false) →
-    ((b : ℕ) → 256 ≤ b → q b ≡ false) → (b : ℕ) (x : Bool) → ltb b 256 ≡ x → p b ≡ q b
-by_test p q low f g b true is = agree_below_at p q 256 b low (grind (arith, nat_tests))
-by_test p q low f g b false is =
-    let over : 256 ≤ b = grind (arith, nat_tests) in
-    f b over ∙ sym (g b over)
-
-unselected : (way b : ℕ) → bit_and 0 way ≡ 0 → 256 ≤ b → is_selected way b ≡ false
-unselected way b zeros over =
-    ap (λ x. not (bit_and x way == 0)) (get_or_past PASSED b 0 over) ∙ ap (λ x. not (x == 0)) zeros
 
 unpassed : (e : Escaping) (b : ℕ) → 256 ≤ b → is_passed e b ≡ false
 unfolding is_passed is_passed_high
@@ -144,10 +109,11 @@ unpassed e b over =
       both true false = refl
       both false y = refl
 
-selects : (e : Escaping) (way : ℕ) → agree_below (is_selected way) (is_passed e) 256 ≡ true →
+selects : (e : Escaping) (way : ℕ) → agree_below (has_byte PASSED way) (is_passed e) 256 ≡ true →
     bit_and 0 way ≡ 0 → Selects e way
-selects e way low zeros = λ b. by_test (is_selected way) (is_passed e) low
-    (λ b over. unselected way b zeros over) (unpassed e) b (ltb b 256) refl
+selects e way low zeros =
+    let same = by_table PASSED way (is_passed e) refl zeros low (unpassed e) in
+    λ b. ap (λ p. p b) same
 
 pub selects_text : Selects escaping.Text 1
 unfolding is_passed is_passed_high
@@ -164,29 +130,3 @@ selects_value = selects escaping.Value 2 refl refl
 pub selects_raw : Selects escaping.Raw 4
 unfolding is_passed is_passed_high
 selects_raw = selects escaping.Raw 4 refl refl
-
-pub passed_one : (e : Escaping) (way : ℕ) (text : List ℕ) (at : ℕ) → Selects e way →
-    at < length text → is_selected way (get_or text at 0) ≡ true →
-    all (is_passed e) (take at text) ≡ true → all (is_passed e) (take (at + 1) text) ≡ true
-passed_one e way text at selects within h passed =
-    ap (all (is_passed e)) (take_more text at 0 within)
-    ∙ all_append (is_passed e) (take at text) (get_or text at 0 ∷ []) passed
-    (and_from (is_passed e (get_or text at 0)) true (sym (selects (get_or text at 0)) ∙ h) refl)
-
-pub passed_four : (e : Escaping) (way : ℕ) (text : List ℕ) (at : ℕ) → Selects e way →
-    at + 4 ≤ length text →
-    (is_selected way (get_or text at 0) && (is_selected way (get_or text (at + 1) 0)
-    && (is_selected way (get_or text (at + 2) 0) && is_selected way (get_or text (at + 3) 0))))
-    ≡ true →
-    all (is_passed e) (take at text) ≡ true → all (is_passed e) (take (at + 4) text) ≡ true
-passed_four e way text at selects within h passed =
-    let first = and_parts (is_selected way (get_or text at 0)) _ h in
-    let second = and_parts (is_selected way (get_or text (at + 1) 0)) _ first.1 in
-    let last = and_parts (is_selected way (get_or text (at + 2) 0)) _ second.1 in
-    let one = passed_one e way text at selects (omega (arith, within)) first.0 passed in
-    let two = passed_one e way text (at + 1) selects (omega (arith, within)) second.0 one in
-    let three = passed_one e way text (at + 2) selects (omega (arith, within)) last.0
-    (subst (λ n. all (is_passed e) (take n text) ≡ true) {x = at + 1 + 1} {y = at + 2} (omega arith) two) in
-    subst (λ n. all (is_passed e) (take n text) ≡ true) {x = at + 3 + 1} {y = at + 4} (omega arith)
-    (passed_one e way text (at + 3) selects (omega (arith, within)) last.1
-    (subst (λ n. all (is_passed e) (take n text) ≡ true) {x = at + 2 + 1} {y = at + 3} (omega arith) three))

@@ -2,7 +2,7 @@
 use Rattle.std.proofs.Common.{◌≡◌, ℕ, ◌+◌, Bool, true, false, refl, ap, ◌∙◌}
 use Rattle.std.specs.Prelude.{if◌then◌else◌}
 use Rattle.std.proofs.lemmas.Bool.{false≢true}
-use Rattle.html_names.specs.Kinds.{is_raw, is_escapable_raw}
+use Rattle.html_names_core.specs.Kinds.{is_raw, is_escapable_raw}
 use Rattle.html_dom_tree.specs.Tree.{Head, tag_node, text_node, element_node, frame_node, NodesView, none, node, ElementView}
 use Rattle.typst_html_encode.specs.Indented.{node_layout, nodes_layout, content_layout, NodeEndsWell, NodesEndWell, ElementEndsWell}
 use Rattle.typst_html_encode.specs.Content.{by_kind}

@@ -6,8 +6,8 @@ use Rattle.std.proofs.lemmas.Bool.{and_parts, and_from, or_left, or_right, false
 use Rattle.std.proofs.lemmas.Bool.Decides.{nat_tests}
 use Rattle.std.proofs.lemmas.List.{append-nil, take-append-drop, take_at, drop_at, drop-append-le, map-append, length-map}
 use Rattle.std.proofs.lemmas.Slice.Eq.{bytes_eq-Decides}
-use Rattle.html_names.specs.Characters.{all, IsOf, is_tag_char}
-use Rattle.typst_html_encode.specs.ClosingTags.{is_tag_end, closing, begins_closing, has_closing, holds_closing, ends_closing, ends_exact}
+use Rattle.html_names_core.specs.Characters.{all, IsOf, is_tag_char}
+use Rattle.html_text.specs.ClosingTags.{is_tag_end, closing, begins_closing, has_closing, holds_closing, ends_closing, ends_exact}
 use Rattle.html_dom_tree.specs.Tree.{TextPair}
 use Rattle.html_dom_tree.specs.PlainTree.{no_plains}
 use Rattle.typst_html_encode.specs.Reader.{Raw, Open, with_text, complete, run, step}

@@ -1,10 +1,10 @@
 -- What the names of raw elements and of those that drop a line feed are.
 use Rattle.std.proofs.Common.{◌≡◌, ℕ, Bool, true, false, ◌&&◌, ◌||◌, List, codes, bytes_eq, sym, subst, refl}
 use Rattle.std.proofs.lemmas.Bool.{false≢true}
-use Rattle.html_names.specs.Names.{stands_in}
-use Rattle.html_names.specs.Kinds.{is_raw, is_mathml, is_token}
-use Rattle.html_names.specs.Displays.{default_display}
-use Rattle.html_names.proofs.Basics.{bytes_eq-same}
+use Rattle.html_names_core.specs.Names.{stands_in}
+use Rattle.html_names_core.specs.Kinds.{is_raw, is_mathml, is_token}
+use Rattle.html_names_core.specs.Displays.{default_display}
+use Rattle.html_names_core.proofs.Basics.{bytes_eq-same}
 use Rattle.html_dom_tree.specs.Tree.{Head, NodesView}
 use Rattle.typst_html_encode.specs.Layout.{allows_pretty_inside, is_pretty_inside}
 use Rattle.typst_html_encode.specs.Reader.{drops_feed}

@@ -9,8 +9,8 @@ use Rattle.std.proofs.lemmas.Bool.Decides.{nat_tests}
 use Rattle.std.proofs.lemmas.Fmt.{digits_is_IsNumeral}
 use Rattle.std.proofs.lemmas.List.{append-nil}
 use Rattle.std.proofs.lemmas.Slice.Eq.{bytes_eq-Decides}
-use Rattle.html_names.specs.Characters.{all, is_text_char, is_element_text_char}
-use Rattle.html_names.proofs.Basics.{all_append}
+use Rattle.html_names_core.specs.Characters.{all, is_text_char, is_element_text_char}
+use Rattle.html_names_core.proofs.Basics.{all_append}
 use Rattle.html_dom_tree.specs.Tree.{tag_node, text_node, element_node, frame_node, NodesView, none, node}
 use Rattle.typst_html_encode.specs.References.{numeric, numbered_char, reference, reference_to}
 use Rattle.typst_html_encode.specs.Text.{char_text, escaped_text, escaping_of, nodes_raw_text}

@@ -3,7 +3,7 @@ use Rattle.std.proofs.Common.{◌≡◌, ℕ, Bool, true, false, List, [], ◌�
 use Rattle.std.specs.Prelude.{if◌then◌else◌}
 use Rattle.std.proofs.lemmas.Bool.{and_parts, and_from}
 use Rattle.std.proofs.lemmas.List.{append-nil}
-use Rattle.html_names.specs.Characters.{all, IsOf}
+use Rattle.html_names_core.specs.Characters.{all, IsOf}
 use Rattle.typst_html_encode.specs.Reader.{ReaderState, run, step}
 
 pub run-append : (s : ReaderState) (xs ys : List ℕ) → run s (xs ++ ys) ≡ run (run s xs) ys

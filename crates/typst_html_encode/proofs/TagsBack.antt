@@ -6,8 +6,8 @@ use Rattle.std.proofs.lemmas.Bool.{cases_Bool, and_parts, not-true}
 use Rattle.std.proofs.lemmas.Bool.Decides.{nat_tests}
 use Rattle.std.proofs.lemmas.List.{append-nil}
 use Rattle.std.proofs.lemmas.Slice.Eq.{bytes_eq-Decides}
-use Rattle.html_names.specs.Characters.{all, IsOf, is_tag_char, is_attr_char, is_text_char, is_value_char}
-use Rattle.html_names.specs.Kinds.{is_foreign_self_closing}
+use Rattle.html_names_core.specs.Characters.{all, IsOf, is_tag_char, is_attr_char, is_text_char, is_value_char}
+use Rattle.html_names_core.specs.Kinds.{is_foreign_self_closing}
 use Rattle.html_dom_tree.specs.Tree.{TextPair}
 use Rattle.html_dom_tree.specs.PlainTree.{no_plains}
 use Rattle.typst_html_encode.specs.declared.escape.Escaping.TheVariants as escaping

@@ -1,6 +1,6 @@
 -- What may stand between the tags of an element: HTML Standard 13.1.2.
 use Rattle.std.specs.Prelude.{ℕ, List, if◌then◌else◌}
-use Rattle.html_names.specs.Kinds.{is_raw, is_escapable_raw}
+use Rattle.html_names_core.specs.Kinds.{is_raw, is_escapable_raw}
 use Rattle.typst_html_encode.specs.declared.content.ContentKind.{ContentKind}
 use Rattle.typst_html_encode.specs.declared.content.ContentKind.TheVariants.{Raw, EscapableRaw, Nodes}
 

@@ -1,7 +1,7 @@
 -- Faults of the layers below, and of writers of frames, as faults of an export: out of memory stays
 -- out of memory.
-use Rattle.html_names.specs.declared.fault.NameFault.{NameFault}
-use Rattle.html_names.specs.declared.fault.NameFault.TheVariants as name
+use Rattle.html_names_core.specs.declared.fault.NameFault.{NameFault}
+use Rattle.html_names_core.specs.declared.fault.NameFault.TheVariants as name
 use Rattle.html_values_css.specs.declared.cast_fault.CastFault.{CastFault}
 use Rattle.html_values_css.specs.declared.cast_fault.CastFault.TheVariants as cast
 use Rattle.html_flow_faults.specs.declared.construct_fault.ConstructFault.{ConstructFault}

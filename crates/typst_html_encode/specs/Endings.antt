@@ -2,8 +2,8 @@
 -- fault, or the first fault; memory may run out before either.
 use Rattle.std.specs.Prelude.{◌≡◌, ℕ, List, [], ◌++◌, Result, String, OnOk, IfOk, IfErr}
 use Rattle.std.specs.declared.alloc.Global.{Global}
-use Rattle.html_names.specs.Endings.{GivesBy, AddsBy}
-use Rattle.html_names.specs.Texts.{text_view}
+use Rattle.html_names_core.specs.Endings.{GivesBy, AddsBy}
+use Rattle.html_names_core.specs.Texts.{text_view}
 use Rattle.typst_html_encode.specs.ExportFaults.{IsFirst}
 use Rattle.typst_html_encode.specs.declared.fault.ExportFault.{ExportFault}
 

@@ -2,13 +2,13 @@
 -- finds them. Pretty writing matters to frames alone: their writer receives whether it is on at the
 -- frame.
 use Rattle.std.specs.Prelude.{◌≡◌, ℕ, Bool, true, false, not, ◌||◌, ◌&&◌, ◌==◌, List, [], ◌∷◌, ◌++◌, if◌then◌else◌, Option, Some, None}
-use Rattle.html_names.specs.Characters.{is_text_char}
-use Rattle.html_names.specs.NameFaults as names
+use Rattle.html_names_core.specs.Characters.{is_text_char}
+use Rattle.html_names_core.specs.NameFaults as names
 use Rattle.html_values_css.specs.CastFaults as casts
 use Rattle.html_flow_faults.specs.ConstructFaults as constructs
 use Rattle.html_dom_tree.specs.declared.span.Span.{Span}
 use Rattle.html_dom_tree.specs.Tree.{TextPair, Head, NodeView, tag_node, text_node, element_node, frame_node, NodesView, none, node, ElementView}
-use Rattle.typst_html_encode.specs.ClosingTags.{holds_closing}
+use Rattle.html_text.specs.ClosingTags.{holds_closing}
 use Rattle.typst_html_encode.specs.Content.{content_kind, by_kind}
 use Rattle.typst_html_encode.specs.FrameWriters.{Frames}
 use Rattle.typst_html_encode.specs.Layout.{is_pretty_inside}

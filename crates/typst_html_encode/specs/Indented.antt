@@ -1,9 +1,9 @@
 -- The tree that pretty text reads back as: the tree with a text at each indent, and with one text
 -- for a raw text that is written on lines of its own.
 use Rattle.std.specs.Prelude.{◌≡◌, ℕ, Bool, true, false, ◌&&◌, ◌++◌, if◌then◌else◌, codes}
-use Rattle.html_names.specs.Kinds.{is_raw}
+use Rattle.html_names_core.specs.Kinds.{is_raw}
 use Rattle.html_dom_tree.specs.Tree.{Head, NodeView, tag_node, text_node, element_node, frame_node, NodesView, none, node, ElementView}
-use Rattle.typst_html_encode.specs.ClosingTags.{holds_closing}
+use Rattle.html_text.specs.ClosingTags.{holds_closing}
 use Rattle.typst_html_encode.specs.Content.{content_kind, by_kind}
 use Rattle.typst_html_encode.specs.Layout.{indent, is_pretty_inside, deeper, margin_inside, has_indent, due_after, is_by_lines, lines_text}
 use Rattle.typst_html_encode.specs.Text.{nodes_raw_text, ends_at_once, root_margin, pretty_options}

@@ -1,9 +1,10 @@
 -- Indents are not visible: each touches a border.
-use Rattle.std.specs.Prelude.{◌≡◌, ℕ, true, false, if◌then◌else◌, bytes_eq, codes, Option, Some, None}
-use Rattle.html_names.specs.Kinds.{is_raw}
-use Rattle.html_dom_tree.specs.PlainTree.{words, branch, Plains, no_plains, plain, nodes_normal}
+use Rattle.std.specs.Prelude.{◌≡◌, ℕ, true, false, Some}
+use Rattle.html_names_core.specs.Kinds.{is_raw}
+use Rattle.html_dom_tree.specs.PlainTree.{Plains, nodes_normal}
 use Rattle.html_dom_tree.specs.Tree.{Head, tag_node, text_node, element_node, frame_node, NodesView, none, node, ElementView}
-use Rattle.typst_html_encode.specs.Collapsing.{preserves, has_border_display, plains_atoms, collapsed_pieces}
+pub use Rattle.html_dom_shown.specs.Bodies.{body_children, body_in}
+use Rattle.html_dom_shown.specs.Collapsing.{preserves, has_border_display, plains_atoms, collapsed_pieces}
 use Rattle.typst_html_encode.specs.Indented.{content_layout, element_layout}
 use Rattle.typst_html_encode.specs.Layout.{allows_pretty_inside, wants_pretty_around}
 
@@ -24,21 +25,6 @@ NodesAreEdged (node (text_node s span) ns) = NodesAreEdged ns
 NodesAreEdged (node (element_node h kids) ns) = (HeadIsEdged h × NodesAreEdged kids)
     × NodesAreEdged ns
 NodesAreEdged (node (frame_node b) ns) = ⊥
-
--- the children of the first `body`
-abbrev pub body_children : NodesView → Option NodesView
-body_children none = None
-body_children (node (tag_node t) ns) = body_children ns
-body_children (node (text_node s span) ns) = body_children ns
-body_children (node (element_node h kids) ns) = if bytes_eq h.name (codes "body") then Some kids
-    else body_children ns
-body_children (node (frame_node b) ns) = body_children ns
-
-abbrev pub body_in : Plains → Option Plains
-body_in no_plains = None
-body_in (plain (words t) ps) = body_in ps
-body_in (plain (branch name attrs kids) ps) = if bytes_eq name (codes "body") then Some kids
-    else body_in ps
 
 -- in the content of an element that is not raw, on any level, indents collapse
 abbrev pub ContentCollapses : Type 0

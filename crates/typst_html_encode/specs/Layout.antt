@@ -2,12 +2,13 @@
 use Rattle.std.specs.Prelude.{ℕ, zero, suc, ◌+◌, Bool, true, false, not, ◌&&◌, ◌||◌, ◌==◌, List, [], ◌∷◌, ◌++◌, if◌then◌else◌, codes, Option, Some, None, bytes_eq}
 use Rattle.std.specs.List.{list_any}
 use Rattle.std.specs.Str.Lines.{lines}
-use Rattle.html_names.specs.Displays.{default_display, is_tabular}
-use Rattle.html_names.specs.Kinds.{is_mathml, is_token, is_metadata_content}
-use Rattle.html_names.specs.declared.property.Display.{Display}
-use Rattle.html_names.specs.declared.property.Display.TheVariants as display
+use Rattle.html_names_core.specs.Displays.{default_display, is_tabular}
+use Rattle.html_names_core.specs.Kinds.{is_mathml, is_token, is_metadata_content}
+use Rattle.html_names_core.specs.declared.property.Display.{Display}
+use Rattle.html_names_core.specs.declared.property.Display.TheVariants as display
 use Rattle.html_dom_tree.specs.Attributes.{first}
 use Rattle.html_dom_tree.specs.Tree.{TextPair, Head, NodeView, tag_node, text_node, element_node, frame_node, NodesView, none, node}
+pub use Rattle.html_dom_shown.specs.Values.{is_text}
 use Rattle.typst_html_encode.specs.declared.layout.Margin.{Margin}
 
 -- two spaces per level
@@ -37,11 +38,6 @@ unfoldable pub allows_pretty_inside : List ℕ → Bool
 allows_pretty_inside name = (is_mathml name && not (is_token name))
     || ((is_of_lines (default_display name) && not (bytes_eq name (codes "pre"))) || bytes_eq name
     (codes "head"))
-
--- the value exists and is that text
-abbrev pub is_text : List ℕ → Option (List ℕ) → Bool
-is_text s None = false
-is_text s (Some t) = bytes_eq s t
 
 -- the element wants lines of its own; `math` does if its first `display` is `block`
 unfoldable pub wants_pretty_around : Head → Bool

@@ -1,5 +1,3 @@
-pub mod ClosingTags
-pub mod Collapsing
 pub mod Content
 pub mod Conversions
 pub mod Endings
@@ -20,3 +18,4 @@ pub mod ReadingBack
 pub mod References
 pub mod Text
 pub mod WriterWalk
+pub use Rattle.html_dom_shown.specs.Collapsing

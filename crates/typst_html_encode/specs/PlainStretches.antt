@@ -1,16 +1,12 @@
 -- Stretches of a text that are written as they are, in one piece.
-use Rattle.std.specs.Prelude.{◌≡◌, ℕ, Bool, true, false, not, ◌||◌, ◌&&◌, ◌==◌, if◌then◌else◌, nat_le, nat_lt, bit_and, get_or, List, [], ◌∷◌, ◌++◌, chars, length, ◌≤◌}
+use Rattle.std.specs.Prelude.{◌≡◌, ℕ, Bool, true, not, ◌||◌, ◌&&◌, if◌then◌else◌, nat_le, nat_lt, List, ◌++◌, chars, length, ◌≤◌}
 use Rattle.std.specs.Str.{IsUtf8}
-use Rattle.html_names.specs.Characters.{all}
+use Rattle.html_names_core.specs.Characters.{all}
+use Rattle.html_text.specs.Fronts.{has_byte}
 use Rattle.typst_html_encode.specs.ExportFaults.{is_bad, is_reference, text_faults}
 use Rattle.typst_html_encode.specs.Text.{stands_as_is, escaped_text}
 use Rattle.typst_html_encode.specs.declared.escape.Escaping.{Escaping}
 use Rattle.typst_html_encode.specs.declared.stretch.TheConstants.{PASSED}
-
--- visible ASCII and the space, without `"`, `&` and `<`
-unfoldable pub is_common : ℕ → Bool
-is_common c = (nat_le 61 c && nat_le c 126) || (nat_le 39 c && nat_le c 59)
-    || (nat_le 32 c && nat_le c 33) || (nat_le 35 c && nat_le c 37)
 
 -- the character can be written, and is written as it is
 abbrev pub is_plain : Escaping → ℕ → Bool
@@ -25,25 +21,9 @@ unfoldable pub is_passed : Escaping → ℕ → Bool
 is_passed e b =
     not (is_reference e) && (if nat_lt b 128 then is_plain e b else is_passed_high b)
 
--- the table has the byte, under the number of an escaping
-abbrev pub is_selected : (way : ℕ) → ℕ → Bool
-is_selected way b = not (bit_and (get_or PASSED b 0) way == 0)
-
 -- the number is that of the escaping
 abbrev pub Selects : Escaping → (way : ℕ) → Type 0
-Selects e way = (b : ℕ) → is_selected way b ≡ is_passed e b
-
--- the first byte is a common character
-abbrev pub begins_common : List ℕ → Bool
-begins_common [] = false
-begins_common (c ∷ cs) = is_common c
-
--- the rest is the text without all the common characters at its beginning
-pub record PassesCommon (text rest : List ℕ) : Type 0 where
-  pub front : List ℕ
-  pub split : text ≡ front ++ rest
-  pub common : all is_common front ≡ true
-  pub stops : begins_common rest ≡ false
+Selects e way = (b : ℕ) → has_byte PASSED way b ≡ is_passed e b
 
 -- the rest is the text without some characters at its beginning, each of which is written as it is
 pub record PassesPlain (e : Escaping) (text rest : List ℕ) : Type 0 where

@@ -1,7 +1,7 @@
 -- What is written is read back.
 use Rattle.std.specs.Prelude.{◌≡◌, true, List, [], Some}
 use Rattle.std.specs.List.{AllByRecursion}
-use Rattle.html_names.specs.Characters.{is_tag_char, is_attr_char, IsOf}
+use Rattle.html_names_core.specs.Characters.{is_tag_char, is_attr_char, IsOf}
 use Rattle.html_dom_tree.specs.FrameFree.{ElementIsFrameFree}
 use Rattle.html_dom_tree.specs.Tree.{TextPair, Head, NodeView, tag_node, text_node, element_node, frame_node, NodesView, none, node, ElementView}
 use Rattle.html_dom_tree.specs.PlainTree.{element_normal}

@@ -1,7 +1,7 @@
 -- The text of a tree, plain and pretty: HTML Standard 13.1, with the choices of this project.
 use Rattle.std.specs.Prelude.{ℕ, Bool, true, false, ◌||◌, ◌&&◌, ◌==◌, List, [], ◌∷◌, ◌++◌, if◌then◌else◌, codes}
-use Rattle.html_names.specs.Characters.{is_element_text_char, is_value_char}
-use Rattle.html_names.specs.Kinds.{is_void, is_foreign_self_closing}
+use Rattle.html_names_core.specs.Characters.{is_element_text_char, is_value_char}
+use Rattle.html_names_core.specs.Kinds.{is_void, is_foreign_self_closing}
 use Rattle.html_dom_tree.specs.Tree.{TextPair, Head, NodeView, tag_node, text_node, element_node, frame_node, NodesView, none, node, ElementView}
 use Rattle.typst_html_encode.specs.Content.{content_kind, by_kind}
 use Rattle.typst_html_encode.specs.FrameWriters.{Frames}

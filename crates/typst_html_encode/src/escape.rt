@@ -1,7 +1,7 @@
 //! The escaping of texts and values.
 
 ghost use Rattle.std.specs.Prelude.{◌≡◌, ◌<◌, ◌++◌, ◌∷◌, [], true, false, OnOk, IfOk, IfSome, chars};
-ghost use Rattle.html_names.specs.Characters.{is_text_char};
+ghost use Rattle.html_names_core.specs.Characters.{is_text_char};
 ghost use Rattle.typst_html_encode.specs.ExportFaults.{is_bad, is_reference, char_faults, text_faults};
 ghost use Rattle.typst_html_encode.specs.References.{reference_to};
 ghost use Rattle.typst_html_encode.specs.PlainStretches.{is_plain, PassesPlain, WritesUpTo};
@@ -11,10 +11,10 @@ ghost use Rattle.typst_html_encode.specs.Endings.{Adds};
 use crate::fault::ExportFault;
 use crate::stretch::past_passed;
 use html_dom_tree::Span;
-use html_names::charsets::{
+use html_names_core::charsets::{
     is_valid_in_attribute_value, is_valid_in_normal_element_text, is_w3c_text_char,
 };
-use html_names::text_writer::TextWriter;
+use html_names_core::text_writer::TextWriter;
 use std::alloc::AllocError;
 
 /// The ways to write the characters of a text.

@@ -21,7 +21,7 @@ use crate::options::HtmlOptions;
 use crate::write::write_tree;
 use html_dom_flat::{FlatTree, flat_tree_of};
 use html_dom_tree::HtmlElement;
-use html_names::text_writer::TextWriter;
+use html_names_core::text_writer::TextWriter;
 use std::alloc::Global;
 
 /// Returns the HTML text of a tree: the document type and the root, plain or pretty.

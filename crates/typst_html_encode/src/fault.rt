@@ -8,7 +8,7 @@ use crate::frame::FrameFault;
 use html_dom_tree::Span;
 use html_flow_faults::laws::equal_construct_faults;
 use html_flow_faults::{ConstructFault, FlowFault};
-use html_names::{HtmlTag, NameFault, Refused};
+use html_names_core::{HtmlTag, NameFault, Refused};
 use html_values_css::CastFault;
 use std::alloc::{AllocError, AllocFailed};
 use thiserror::Error;
@@ -188,7 +188,7 @@ fn same_spans(a: &[Span], b: &[Span]) -> bool
 
 impl PartialEq for ExportFault {
     ghost use Rattle.std.specs.Cmp.{partial_equiv_from_equiv};
-    ghost use Rattle.html_names.specs.Equal.{same, same_equiv};
+    ghost use Rattle.html_names_core.specs.Equal.{same, same_equiv};
     ghost use Rattle.typst_html_encode.specs.FaultViews.{export_fault_discrete};
 
     ghost eq = { same export_fault_view export_fault_discrete };
@@ -201,7 +201,7 @@ impl PartialEq for ExportFault {
 }
 
 impl Eq for ExportFault {
-    ghost use Rattle.html_names.specs.Equal.{same_equiv};
+    ghost use Rattle.html_names_core.specs.Equal.{same_equiv};
     ghost use Rattle.typst_html_encode.specs.FaultViews.{export_fault_discrete};
 
     ghost laws = { same_equiv export_fault_view export_fault_discrete };

@@ -12,7 +12,7 @@ use crate::layout::Margin;
 use crate::write::write_tree;
 use html_dom_flat::FlatTree;
 use html_dom_tree::HtmlNode;
-use html_names::text_writer::TextWriter;
+use html_names_core::text_writer::TextWriter;
 use std::alloc::Global;
 
 /// Returns the HTML text of nodes without a document type: a piece of a page that another program

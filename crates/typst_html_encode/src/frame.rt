@@ -6,7 +6,7 @@ ghost use Rattle.html_dom_tree.specs.FrameViews.{html_frame_view};
 ghost use Rattle.typst_html_encode.specs.FrameWriters.{Draws};
 
 use html_dom_tree::HtmlFrame;
-use html_names::Refused;
+use html_names_core::Refused;
 use std::alloc::{AllocError, AllocFailed, Global};
 use thiserror::Error;
 

@@ -1,15 +1,15 @@
 //! The properties of an element that its name decides.
 
 ghost use Rattle.std.specs.Prelude.{◌≡◌};
-ghost use Rattle.html_names.specs.Displays.{default_display};
-ghost use Rattle.html_names.specs.Kinds.{is_foreign_self_closing};
+ghost use Rattle.html_names_core.specs.Displays.{default_display};
+ghost use Rattle.html_names_core.specs.Kinds.{is_foreign_self_closing};
 ghost use Rattle.html_dom_flat.specs.Siblings.{head_view};
 ghost use Rattle.typst_html_encode.specs.Content.{content_kind};
 ghost use Rattle.typst_html_encode.specs.Text.{ends_at_once};
 
 use crate::content::ContentKind;
 use html_dom_flat::Element;
-use html_names::property::Display;
+use html_names_core::property::Display;
 
 pub(crate) fn is_foreign_self_closing(element: &Element) -> bool
     ensures { result ≡ is_foreign_self_closing (head_view element.now).name }

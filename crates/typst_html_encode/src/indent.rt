@@ -4,7 +4,7 @@ ghost use Rattle.std.specs.Prelude.{◌≡◌, ◌++◌, ◌<◌, ◌≤◌, OnO
 ghost use Rattle.std.specs.Str.Lines.{lines};
 ghost use Rattle.typst_html_encode.specs.Layout.{spaces, indent, indent_where, feed_where, by_lines};
 
-use html_names::text_writer::TextWriter;
+use html_names_core::text_writer::TextWriter;
 use std::alloc::AllocError;
 
 /// A line feed, and the spaces of `MOST_LEVELS` levels.

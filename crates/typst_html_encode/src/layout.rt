@@ -3,20 +3,20 @@
 
 ghost use Rattle.std.specs.Prelude.{◌≡◌, ◌==◌, ◌&&◌, IfOk, IsTrue, true, bytes_eq, chars, codes};
 ghost use Rattle.std.specs.List.{list_any};
-ghost use Rattle.html_names.specs.Names.{is_ascii};
+ghost use Rattle.html_names_core.specs.Names.{is_ascii};
 ghost use Rattle.html_dom_tree.specs.Attributes.{first};
 ghost use Rattle.html_dom_tree.specs.Views.{text_view};
+ghost use Rattle.html_dom_shown.specs.Values.{is_text};
 ghost use Rattle.html_dom_flat.specs.Siblings.{head_view, node_view, siblings_view};
 ghost use Rattle.typst_html_encode.specs.Layout.{deeper, margin_inside, is_of_lines};
 ghost use Rattle.typst_html_encode.specs.Layout.{allows_pretty_inside, wants_pretty_around};
 ghost use Rattle.typst_html_encode.specs.Layout.{node_wants_pretty, nodes_want_pretty, is_pretty_inside};
-ghost use Rattle.typst_html_encode.specs.Layout.{is_text};
 ghost use Rattle.typst_html_encode.specs.Layout.{has_other_type, is_by_lines, keeps_lines};
 
 use crate::head::default_display;
 use html_dom_flat::{Element, Node, Siblings};
-use html_names::property::Display;
-use html_names::{HtmlTag, attr, tag};
+use html_names_core::property::Display;
+use html_names_core::{HtmlTag, attr, tag};
 use std::alloc::AllocError;
 
 /// The indentation of a node, and whether pretty writing is on there.
@@ -64,7 +64,7 @@ fn is_of_lines(display: Option<Display>) -> bool
     }
 }
 
-#[tactic(auto, unfolding(html_names::specs::Tables::known_tags, crate::specs::Layout::allows_pretty_inside))]
+#[tactic(auto, unfolding(html_names_core::specs::Tables::known_tags, crate::specs::Layout::allows_pretty_inside))]
 fn allows_pretty_inside(element: &Element) -> bool
     ensures { result ≡ allows_pretty_inside (head_view element.now).name }
 {
@@ -81,7 +81,7 @@ fn is_text(text: &String, expected: &'static str) -> bool
     expected == text.as_str()
 }
 
-#[tactic(auto, unfolding(html_names::specs::Tables::known_attrs), using(crate::proofs::Given::pair_given))]
+#[tactic(auto, unfolding(html_names_core::specs::Tables::known_attrs), using(crate::proofs::Given::pair_given))]
 fn shows_as_block(element: &Element) -> bool
     ensures { result ≡
         is_text (codes "block") (first (head_view element.now).attrs (codes "display")) }
@@ -97,7 +97,7 @@ fn shows_as_block(element: &Element) -> bool
 
 #[rattlefmt::skip]
 #[tactic(auto,
-    unfolding(html_names::specs::Tables::known_tags, crate::specs::Layout::wants_pretty_around),
+    unfolding(html_names_core::specs::Tables::known_tags, crate::specs::Layout::wants_pretty_around),
     using(crate::proofs::Layouts::last_first))]
 pub(crate) fn wants_pretty_around(element: &Element) -> bool
     ensures { result ≡ wants_pretty_around (head_view element.now) }
@@ -145,7 +145,7 @@ fn is_pretty_inside(element: &Element) -> bool
 }
 
 /// Returns whether an attribute `type` has a value other than `text/javascript`.
-#[tactic(auto, unfolding(html_names::specs::Tables::known_attrs), using(crate::proofs::Given::pair_given))]
+#[tactic(auto, unfolding(html_names_core::specs::Tables::known_attrs), using(crate::proofs::Given::pair_given))]
 fn has_other_type(element: &Element) -> bool
     ensures { result ≡ has_other_type (head_view element.now).attrs }
 {
@@ -159,7 +159,7 @@ fn has_other_type(element: &Element) -> bool
 }
 
 /// Returns whether pretty writing puts the text of a raw element on lines of its own.
-#[tactic(auto, unfolding(html_names::specs::Tables::known_tags, crate::specs::Layout::is_by_lines))]
+#[tactic(auto, unfolding(html_names_core::specs::Tables::known_tags, crate::specs::Layout::is_by_lines))]
 pub(crate) fn is_by_lines(element: &Element) -> bool
     ensures { result ≡ is_by_lines (head_view element.now) }
 {
@@ -174,7 +174,7 @@ fn holds_backquote(text: &str) -> bool
 
 /// Returns whether a raw text keeps its lines as they are: the text of a script that holds a
 /// backquote, as template literals do.
-#[tactic(auto, unfolding(html_names::specs::Tables::known_tags, crate::specs::Layout::keeps_lines))]
+#[tactic(auto, unfolding(html_names_core::specs::Tables::known_tags, crate::specs::Layout::keeps_lines))]
 pub(crate) fn keeps_lines(tag: &HtmlTag, text: &str) -> bool
     ensures { result ≡ keeps_lines tag.now (chars text.now) }
 {

@@ -23,8 +23,6 @@
 //! ```
 #![tactic(auto)]
 
-mod closing;
-mod common;
 mod content;
 mod escape;
 mod export;
@@ -43,8 +41,6 @@ mod stretch;
 mod tags;
 mod write;
 
-pub use closing::is_tag_end;
-pub use common::past_common;
 pub use export::{html_in_bundle, html_of, tree_html};
 pub use fault::ExportFault;
 pub use fragment::html_fragment;

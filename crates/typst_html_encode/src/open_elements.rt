@@ -9,7 +9,7 @@ ghost use Rattle.typst_html_encode.specs.WriterWalk.{open_element, next_place};
 use crate::layout::Margin;
 use crate::place::Place;
 use html_dom_flat::{Element, Siblings};
-use html_names::HtmlTag;
+use html_names_core::HtmlTag;
 use std::alloc::{AllocError, Global};
 
 /// An element that the walk has entered.

@@ -7,14 +7,14 @@ ghost use Rattle.typst_html_encode.specs.Layout.{lines_text, raw_text};
 ghost use Rattle.typst_html_encode.specs.Text.{escaped_text, node_raw_text, nodes_raw_text};
 ghost use Rattle.typst_html_encode.specs.Endings.{Adds, Gives};
 
-use crate::closing::holds_closing;
 use crate::escape::{Escaping, write_text};
 use crate::fault::ExportFault;
 use crate::indent::{push_indent, push_lines};
 use crate::layout::{Margin, is_by_lines, keeps_lines};
 use html_dom_flat::{Element, Node, Siblings};
-use html_names::HtmlTag;
-use html_names::text_writer::TextWriter;
+use html_names_core::HtmlTag;
+use html_names_core::text_writer::TextWriter;
+use html_text::holds_closing;
 use std::alloc::{AllocError, Global};
 
 pub(crate) fn write_raw(

@@ -1,10 +1,11 @@
 //! Stretches of a text that are written as they are, found by its bytes.
 
-ghost use Rattle.std.specs.Prelude.{◌≡◌, ◌+◌, ◌≤◌, ◌&&◌, false, get_or, length};
+ghost use Rattle.std.specs.Prelude.{◌≡◌, false};
 ghost use Rattle.typst_html_encode.specs.ExportFaults.{is_reference};
-ghost use Rattle.typst_html_encode.specs.PlainStretches.{Selects, is_selected, PassesPlain};
+ghost use Rattle.typst_html_encode.specs.PlainStretches.{Selects, PassesPlain};
 
 use crate::escape::Escaping;
+use html_text::split_front;
 
 /// A table of bytes: the sum of 1 if texts of ordinary elements are written as they are as far as
 /// they have this byte, 2 for values, and 4 for raw texts. The bytes that are not ASCII are those
@@ -32,25 +33,6 @@ fn way_of(escaping: Escaping) -> u8
     }
 }
 
-fn is_passed(way: u8, byte: u8) -> bool
-    ensures { result ≡ is_selected way byte }
-{
-    PASSED[byte as usize] & way != 0
-}
-
-fn are_passed(way: u8, bytes: &[u8], at: usize) -> bool
-    requires { at + 4 ≤ length bytes.now }
-    ensures { result ≡ (is_selected way (get_or bytes.now at 0)
-        && (is_selected way (get_or bytes.now (at + 1) 0)
-        && (is_selected way (get_or bytes.now (at + 2) 0)
-        && is_selected way (get_or bytes.now (at + 3) 0)))) }
-{
-    is_passed(way, bytes[at])
-        && is_passed(way, bytes[at + 1])
-        && is_passed(way, bytes[at + 2])
-        && is_passed(way, bytes[at + 3])
-}
-
 /// Returns the rest of the text from its first byte on that `PASSED` does not have. Every character
 /// before it can be written, and is written as it is.
 ///
@@ -59,14 +41,5 @@ pub(crate) fn past_passed(escaping: Escaping, text: &str) -> &str
     requires { is_reference escaping ≡ false }
     ensures { PassesPlain escaping text.now result.now }
 {
-    let way = way_of(escaping);
-    let bytes = text.as_bytes();
-    let mut at = 0;
-    while bytes.len() - at >= 4 && are_passed(way, bytes, at) {
-        at += 4;
-    }
-    while at < bytes.len() && is_passed(way, bytes[at]) {
-        at += 1;
-    }
-    &text[at..]
+    split_front(&PASSED, way_of(escaping), text).1
 }

@@ -15,8 +15,8 @@ use crate::fault::ExportFault;
 use crate::head::is_foreign_self_closing;
 use html_dom_flat::{Element, Node, Siblings};
 use html_dom_tree::Span;
-use html_names::text_writer::TextWriter;
-use html_names::{HtmlTag, tag};
+use html_names_core::text_writer::TextWriter;
+use html_names_core::{HtmlTag, tag};
 use std::alloc::AllocError;
 
 /// Writes the value of an attribute, or nothing if the value is empty.
@@ -102,7 +102,7 @@ fn begins_with_feed(children: &Siblings) -> bool
     false
 }
 
-#[tactic(auto, unfolding(html_names::specs::Tables::known_tags, crate::specs::Reader::drops_feed))]
+#[tactic(auto, unfolding(html_names_core::specs::Tables::known_tags, crate::specs::Reader::drops_feed))]
 fn drops_feed(tag: &HtmlTag) -> bool
     ensures { result ≡ drops_feed tag.now }
 {

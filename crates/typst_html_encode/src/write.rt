@@ -26,7 +26,7 @@ use crate::raw;
 use crate::tags::{write_end, write_feed, write_start};
 use html_dom_flat::{Element, FlatTree, Node, Siblings};
 use html_dom_tree::HtmlFrame;
-use html_names::text_writer::TextWriter;
+use html_names_core::text_writer::TextWriter;
 use std::alloc::{AllocError, Global};
 
 /// Writes the nodes of a tree. Nodes that are inside no element have the margin `outer`.

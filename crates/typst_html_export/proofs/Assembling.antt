@@ -5,8 +5,7 @@ use Rattle.html_dom_tree.specs.Tree.{NodeView, NodesView}
 use Rattle.html_dom_document.specs.Documents.{InfoView}
 use Rattle.html_flow_convert.specs.Depth.{items_too_deep}
 use Rattle.html_flow_convert.specs.Items.{ItemsView, no_items, item}
-use Rattle.typst_html_export.specs.Assembled.{Outline, own_html, document_outline, first_own, shown_count, styled_output, item_spans, note_faults, outline_faults, depth_faults, assembly_faults}
-use Rattle.typst_html_export.specs.OwnHead.{assembled_output_with_head, output_with_head}
+use Rattle.typst_html_export.specs.Assembled.{Outline, own_html, document_outline, assembled_output, output_by, first_own, shown_count, styled_output, item_spans, note_faults, outline_faults, depth_faults, assembly_faults}
 use Rattle.typst_html_export.specs.Roots.{styled_root}
 use Rattle.typst_html_export.proofs.Firsts.{none_after_none}
 use Rattle.typst_html_export.proofs.Outlines.{own_found, own_stands}
@@ -32,8 +31,8 @@ alone_faults limit content = append-nil (outline_faults (document_outline conten
 
 styled_by : (o : Outline) (info : InfoView) (head : List NodeView) (content notes : NodesView)
     → o ≡ document_outline content
-    → styled_root (output_with_head o info head content notes)
-    ≡ styled_output (output_with_head o info head content notes)
+    → styled_root (output_by o info head content notes)
+    ≡ styled_output (output_by o info head content notes)
 unfolding styled_nodes
 styled_by (own_html place) info head content notes e =
     let found = own_found (shown_count content) (first_own content) place e in
@@ -42,7 +41,7 @@ styled_by (own_html place) info head content notes e =
 styled_by o info head content notes e = refl
 
 pub assembled_styled : (info : InfoView) (head : List NodeView) (content notes : NodesView)
-    → styled_root (assembled_output_with_head info head content notes)
-    ≡ styled_output (assembled_output_with_head info head content notes)
+    → styled_root (assembled_output info head content notes)
+    ≡ styled_output (assembled_output info head content notes)
 assembled_styled info head content notes =
     styled_by (document_outline content) info head content notes refl

@@ -5,10 +5,10 @@ use Rattle.std.specs.Prelude.{option_map}
 use Rattle.std.proofs.lemmas.Bool.{agree_below_at}
 use Rattle.std.proofs.lemmas.Bool.Decides.{nat_tests}
 use Rattle.std.proofs.lemmas.List.Elements.{All-head, All-tail}
-use Rattle.html_names.specs.Characters.{all, is_text_char}
-use Rattle.html_dom_link.specs.Links.{Anchors, anchor_hrefs, some_name}
-use Rattle.html_dom_link.specs.Spellings.{href_with, is_in_fragment_set, leading_href, leading_spelling}
-use Rattle.html_dom_link.proofs.SpelledNames.{ArePlain, leading_is_plain}
+use Rattle.html_names_core.specs.Characters.{all, is_text_char}
+use Rattle.html_anchors.specs.Links.{Anchors, anchor_hrefs}
+use Rattle.html_links.specs.Spellings.{some_name, href_with, is_in_fragment_set, leading_href, leading_spelling}
+use Rattle.html_links.proofs.SpelledNames.{ArePlain, leading_is_plain}
 use Rattle.typst_html_spaces.specs.CleanNodes.{IsCleanValue}
 
 -- a character that a browser leaves as it is is a text character

@@ -5,16 +5,16 @@ use Rattle.std.specs.List.{flat_map}
 use Rattle.std.specs.Prelude.{if◌then◌else◌}
 use Rattle.std.proofs.lemmas.Bool.{and_parts}
 use Rattle.std.proofs.lemmas.List.{drop-drop}
-use Rattle.html_names.specs.Characters.{all, is_text_char}
-use Rattle.html_names.specs.Displays.{default_display}
-use Rattle.html_names.specs.Kinds.{is_void, is_raw, is_escapable_raw, is_foreign_self_closing, is_mathml, is_token, is_metadata_content}
-use Rattle.html_names.specs.Names.{stands_in}
-use Rattle.html_names.specs.Texts.{TextPair}
-use Rattle.html_names.proofs.Basics.{all_append}
+use Rattle.html_names_core.specs.Characters.{all, is_text_char}
+use Rattle.html_names_core.specs.Displays.{default_display}
+use Rattle.html_names_core.specs.Kinds.{is_void, is_raw, is_escapable_raw, is_foreign_self_closing, is_mathml, is_token, is_metadata_content}
+use Rattle.html_names_core.specs.Names.{stands_in}
+use Rattle.html_names_core.specs.Texts.{TextPair}
+use Rattle.html_names_core.proofs.Basics.{all_append}
 use Rattle.html_dom_tree.specs.Styled.{styled_node, styled_nodes}
-use Rattle.html_dom_tree.specs.Tree.{Head, NodeView, text_node, element_node, NodesView, none, node, ElementView}
+use Rattle.html_dom_tree.specs.Tree.{Head, NodeView, text_node, element_node, NodesView, none, node, ElementView, plain_head}
 use Rattle.html_dom_tree.specs.Views.{nodes_of}
-use Rattle.html_dom_document.specs.Documents.{LocaleView, InfoView, document_root}
+use Rattle.html_dom_document.specs.Documents.{LocaleView, InfoView}
 use Rattle.typst_html_encode.specs.FaultViews.{export_fault_view}
 use Rattle.typst_html_encode.specs.ExportFaults.{node_faults, nodes_faults}
 use Rattle.typst_html_encode.specs.ExportFaults as writing
@@ -23,12 +23,12 @@ use Rattle.typst_html_encode.specs.Layout.{allows_pretty_inside, is_pretty_insid
 use Rattle.typst_html_encode.specs.Text.{ends_at_once, escaping_of}
 use Rattle.typst_html_encode.specs.declared.options.HtmlOptions.{HtmlOptions}
 use Rattle.html_flow_convert.specs.Items.{ItemsView, no_items}
-use Rattle.html_dom_link.specs.Anchors.{nodes_size, nodes_with_anchors, element_with_anchors}
-use Rattle.html_dom_link.specs.Events.{Event, Targets, events}
-use Rattle.html_dom_link.specs.Groups.{cuts}
-use Rattle.html_dom_link.specs.Namings.{namings}
-use Rattle.html_dom_link.specs.Links.{Anchors, Hrefs, anchor_hrefs, dest_before, is_open, nodes_with_links, open_dest, root_with_links}
-use Rattle.html_dom_link.specs.NewNames.{Name, element_names}
+use Rattle.html_anchors.specs.Anchors.{nodes_size, nodes_with_anchors, element_with_anchors}
+use Rattle.html_anchors.specs.Events.{Event, Targets, events}
+use Rattle.html_anchors.specs.Groups.{cuts}
+use Rattle.html_anchors.specs.Namings.{namings}
+use Rattle.html_anchors.specs.Links.{Anchors, Hrefs, anchor_hrefs, dest_before, is_open, nodes_with_links, open_dest, root_with_links}
+use Rattle.html_links.specs.TreeNames.{Name, element_names}
 use Rattle.typst_html_spaces.specs.CleanItems.{are_clean_items}
 use Rattle.typst_html_spaces.specs.CleanNodes.{is_clean_text, are_clean_values, IsCleanValue, AreCleanNodes}
 use Rattle.typst_html_spaces.specs.DeepNodes.{HoldsOf, HoldsOfAll}
@@ -41,15 +41,13 @@ use Rattle.typst_html_spaces.proofs.Each.{Each, Each-append}
 use Rattle.typst_html_export.specs.Assembled.{document_nodes}
 use Rattle.typst_html_export.specs.CleanInfo.{are_clean_texts, is_clean_locale, is_clean_info, CleanDocumentsAreWritten, CleanLinkedDocumentsAreWritten}
 use Rattle.typst_html_export.specs.DocumentHead.{made_node, charset_node, entry_node, viewport_node, title_node, title_nodes, description_nodes, joined_text, list_meta_nodes, entry_nodes, lang_text}
-use Rattle.typst_html_export.specs.Exported.{linked_root, root_faults}
+use Rattle.typst_html_export.specs.Exported.{linked_root, linked_root_with_head, root_faults}
 use Rattle.typst_html_export.specs.HeadNodes.{elements_and_texts, AreElementsAndTexts, HeadIsClean, CleanHeadsAreWritten}
-use Rattle.typst_html_export.specs.OwnHead.{linked_root_with_head}
 use Rattle.typst_html_export.specs.SpacesInDocuments.{ArePlainItems}
 use Rattle.typst_html_export.proofs.AnchoredRoots.{MadePasses, nodes_are_anchored}
 use Rattle.typst_html_export.proofs.CleanLinks.{href_is_clean}
 use Rattle.typst_html_export.proofs.CleanNames.{clean_namings}
 use Rattle.typst_html_export.proofs.LinkedRoots.{links_are_anchored}
-use Rattle.typst_html_export.proofs.OwnHead.{no_nodes_change_nothing}
 use Rattle.typst_html_export.proofs.PlainRoots.{entries_with, root_over, linked_root_is}
 
 -- what stands before all tags gets no anchor
@@ -275,13 +273,9 @@ lang_is_clean (Some locale) e =
 
 -- the root
 
-abbrev plain_made : (name : List ℕ) → List TextPair → Head
-plain_made name attrs =
-    record { name = name; attrs = attrs; css = []; parent = None; span = 0; pre_span = false }
-
 abbrev made_root : (lang : List ℕ) (kids inside : NodesView) → ElementView
-made_root lang kids inside = root_of_both (plain_made (codes "html") ((codes "lang", lang) ∷ []))
-    (plain_made (codes "head") []) (plain_made (codes "body") []) kids inside
+made_root lang kids inside = root_of_both (plain_head (codes "html") ((codes "lang", lang) ∷ []) 0)
+    (plain_head (codes "head") [] 0) (plain_head (codes "body") [] 0) kids inside
 
 -- the children of a root and of its head are written as the document is
 root_mode : (pretty : Bool) (lang : List ℕ) (kids inside : NodesView) →
@@ -291,8 +285,8 @@ root_mode true lang kids inside = refl
 root_mode false lang kids inside = refl
 
 head_mode : (pretty : Bool) (more : NodesView) →
-    (pretty && is_pretty_inside (plain_made (codes "head") []) (node (styled_node charset_node) more))
-    ≡ pretty
+    (pretty && is_pretty_inside (plain_head (codes "head") [] 0)
+    (node (styled_node charset_node) more)) ≡ pretty
 unfolding styled_node is_pretty_inside allows_pretty_inside wants_pretty_around is_mathml is_token
     is_metadata_content default_display stands_in
 head_mode true more = refl
@@ -308,8 +302,8 @@ unfolding nodes_faults is_void is_foreign_self_closing is_raw is_escapable_raw s
 root_written frames pretty lang more inside e own below =
     let kids = node (styled_node charset_node) more in
     let root = made_root lang kids inside in
-    let head = plain_made (codes "head") [] in
-    let body = plain_made (codes "body") [] in
+    let head = plain_head (codes "head") [] 0 in
+    let body = plain_head (codes "body") [] 0 in
     element_written frames false pretty root.0 root.1 (rw e refl) refl refl refl
     (rw (root_mode pretty lang kids inside) (rw (
       element_written frames false pretty head kids refl refl refl refl (rw (head_mode pretty more) own),
@@ -351,7 +345,7 @@ clean_body info head items c plain clean =
     let ns = document_nodes items in
     let root = linked_root_is info head items plain in
     let anchored = body_anchored root.0 (made_root (lang_text info.locale) none none).0
-    (plain_made (codes "head") []) (plain_made (codes "body") []) (head_inside info head)
+    (plain_head (codes "head") [] 0) (plain_head (codes "body") [] 0) (head_inside info head)
     (styled_nodes ns) (all_quiet info head c)
     (clean_items_make_clean_nodes None items refl plain clean) in (
       anchored.0,
@@ -397,41 +391,26 @@ clean_heads_are_written frames options info head items plain clean known own =
 
 -- without nodes of one's own in the head
 
-module _ (frames : Frames) (options : HtmlOptions) (info : InfoView) (items : ItemsView)
-    (plain : is_plain_flow items ≡ true) (clean : are_clean_items items ≡ true)
-    (known : is_clean_info info ≡ true) where
-  no_head : CleanParts info []
-  no_head = record { parts = info_parts info known; alone = tt }
-
-  body_alone : HasCleanBody info [] (linked_root info items no_items)
-  body_alone = subst (λ d. HasCleanBody info [] (document_root d))
-      (no_nodes_change_nothing info items no_items) (clean_body info [] items no_head plain clean)
-
-  none_written : (root : ElementView) → HasCleanBody info [] root → root_faults frames options root ≡ []
-  unfolding styled_nodes nodes_faults
-  none_written root b = clean_body_written frames options info [] root no_head refl b
+pub no_head_is_clean : (frames : Frames) (options : HtmlOptions) → HeadIsClean frames options none
+unfolding styled_nodes nodes_faults
+no_head_is_clean frames options = record { alone = tt; written = refl }
 
 pub clean_documents_are_written : CleanDocumentsAreWritten
 clean_documents_are_written frames options info items plain clean known =
-    none_written frames options info items plain clean known (linked_root info items no_items)
-    (body_alone frames options info items plain clean known)
+    clean_heads_are_written frames options info [] items plain clean known
+    (no_head_is_clean frames options)
 
 pub clean_linked_documents_are_written : CleanLinkedDocumentsAreWritten
 clean_linked_documents_are_written frames options info items plain clean known is_place anchor =
-    let root : ElementView = linked_root info items no_items in
-    none_written frames options info items plain clean known
-    (root_with_links (anchor_hrefs is_place anchor) root)
-    (body_linked info [] root is_place anchor
-    (no_head frames options info items plain clean known)
-    (body_alone frames options info items plain clean known))
+    let made : ElementView = linked_root info items no_items in
+    let root = root_with_links (anchor_hrefs is_place anchor) made in
+    let c : CleanParts info [] = record { parts = info_parts info known; alone = tt } in
+    clean_body_written frames options info [] root c (no_head_is_clean frames options).written
+    (body_linked info [] made is_place anchor c (clean_body info [] items c plain clean))
 
 module _ (frames : Frames) (options : HtmlOptions) (limit : ℕ) (info : InfoView)
     (items notes : ItemsView) (are : ArePlainItems limit items notes)
     (clean : are_clean_items items ≡ true) (known : is_clean_info info ≡ true) where
-  pub clean_exports : root_faults frames options (linked_root info items notes) ≡ []
-  clean_exports = ap (λ n. root_faults frames options (linked_root info items n)) are.alone
-      ∙ clean_documents_are_written frames options info items are.plain clean known
-
   pub clean_exports_with_head : (head : List NodeView) →
       HeadIsClean frames options (nodes_of head) →
       root_faults frames options (linked_root_with_head info head items notes) ≡ []

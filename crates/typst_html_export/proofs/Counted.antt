@@ -5,7 +5,7 @@ use Rattle.html_dom_tree.specs.Tree.{is_tag}
 use Rattle.html_dom_tree.specs.Views.{node_view, nodes_view}
 use Rattle.html_dom_tree.specs.declared.node.HtmlNode.{HtmlNode}
 use Rattle.typst_html_export.specs.Assembled.{shown_count}
-use Rattle.html_names.proofs.Basics.{from_place}
+use Rattle.html_names_core.proofs.Basics.{from_place}
 
 module _ (nodes : List HtmlNode) (k : ℕ) (n : HtmlNode) (below : k < length nodes)
     (is : n ≡ get_or nodes k n) where

@@ -2,13 +2,13 @@
 -- anchors: if it has no fault, it can be read.
 use Rattle.std.proofs.Common.{◌≡◌, Bool, true, false, List, [], ◌∷◌, ◌++◌, None, codes, sym, subst, ◌∙◌, append-nil}
 use Rattle.std.proofs.lemmas.Bool.{both_ways}
-use Rattle.html_names.specs.Kinds.{is_raw}
+use Rattle.html_names_core.specs.Kinds.{is_raw}
 use Rattle.html_dom_tree.specs.FrameFree.{NodeIsFrameFree, NodesAreFrameFree, ElementIsFrameFree}
-use Rattle.html_dom_tree.specs.Tree.{Head, NodeView, element_node, NodesView, none, node, ElementView, new_element}
+use Rattle.html_dom_tree.specs.Tree.{NodeView, element_node, NodesView, none, node, ElementView, new_element}
 use Rattle.html_dom_tree.specs.Views.{nodes_of}
 use Rattle.html_dom_document.specs.Documents.{InfoView}
-use Rattle.html_dom_link.specs.Anchors.{element_with_anchors}
-use Rattle.html_dom_link.specs.Events.{Targets}
+use Rattle.html_anchors.specs.Anchors.{element_with_anchors}
+use Rattle.html_anchors.specs.Events.{Targets}
 use Rattle.html_flow_convert.specs.Items.{ItemsView, no_items}
 use Rattle.typst_html_encode.specs.ExportFaults as writing
 use Rattle.typst_html_encode.specs.ExportFaults.{node_faults}
@@ -26,8 +26,8 @@ use Rattle.typst_html_spaces.proofs.PlainNodes.{makes_plain_nodes, plain_readabl
 use Rattle.typst_html_spaces.proofs.ReadableNodes.{readable_can_be_read, frames_kept}
 use Rattle.typst_html_export.specs.Assembled.{document_nodes}
 use Rattle.typst_html_export.specs.DocumentHead.{charset_node, viewport_node, entry_nodes}
+use Rattle.typst_html_export.specs.Exported.{linked_root_with_head}
 use Rattle.typst_html_export.specs.HeadNodes.{HeadIsReadable}
-use Rattle.typst_html_export.specs.OwnHead.{linked_root_with_head}
 use Rattle.typst_html_export.proofs.AnchoredRoots.{root_anchored}
 use Rattle.typst_html_export.proofs.PlainRoots.{entries_with, entries_readable, inside_of, linked_root_is, made_not_raw, root_over, top_of}
 use Rattle.typst_html_export.proofs.RawEndings.{written_change, styled_anchored, ends_kept, in_any_mode}
@@ -52,12 +52,6 @@ made_entries_readable info = (
   (made_not_raw.3, tt),
   ((made_not_raw.3, tt), of_each _ false (entry_nodes info) (entries_readable info)),
 )
-
-abbrev plain_head : Head
-plain_head = record (new_element (codes "head")).0 { attrs = [] }
-
-abbrev plain_body : Head
-plain_body = record (new_element (codes "body")).0 { attrs = [] }
 
 module _ (info : InfoView) (head : List NodeView) (items : ItemsView)
     (plain : is_plain_flow items ≡ true) where
@@ -85,13 +79,14 @@ module _ (info : InfoView) (head : List NodeView) (items : ItemsView)
       let made = readable_can_be_read (nodes_of ns) (made_entries_readable info) in (
         (
           λ r. absurd (both_ways (is_raw (codes "head")) made_not_raw.1 r),
-          in_any_mode (is_pretty_inside plain_head kids) kids
+          in_any_mode (is_pretty_inside (new_element (codes "head")).0 kids) kids
               (end_well_append ns head (made.1 true) own),
         ),
         (
           (
             λ r. absurd (both_ways (is_raw (codes "body")) body_is_not_raw r),
-            items_can_be_read.1 (is_pretty_inside plain_body (document_nodes items)),
+            items_can_be_read.1
+                (is_pretty_inside (new_element (codes "body")).0 (document_nodes items)),
           ),
           tt,
         ),
@@ -125,6 +120,10 @@ module _ (info : InfoView) (head : List NodeView) (items : ItemsView)
           ),
           tt,
         )).0
+
+pub no_head_is_readable : (options : HtmlOptions) → HeadIsReadable options none
+unfolding NodeIsFrameFree NodeEndsWell
+no_head_is_readable options = record { frame_free = tt; ends_well = λ pretty. tt }
 
 abbrev CanBeReadIn : HtmlOptions → ElementView → Type 0
 CanBeReadIn options root =

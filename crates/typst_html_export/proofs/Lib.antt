@@ -14,7 +14,7 @@ pub mod LinkedRoots
 pub mod Nodes
 pub mod Notes
 pub mod Outlines
-pub mod OwnHead
+pub mod OwnRoots
 pub mod PlainRoots
 pub mod RawEndings
 pub mod ReadLinks

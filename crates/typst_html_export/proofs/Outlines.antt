@@ -10,7 +10,7 @@ use Rattle.html_dom_tree.specs.declared.node.HtmlNode.{HtmlNode}
 use Rattle.html_dom_document.specs.Documents.{is_element_at}
 use Rattle.html_dom_document.specs.Places.{is_named_html}
 use Rattle.typst_html_export.specs.Assembled.{Outline, own_html, own_body, own_among_others, own_head, is_own, own_after, first_own, shown_count, outline_by, document_outline}
-use Rattle.html_names.proofs.Basics.{from_place}
+use Rattle.html_names_core.proofs.Basics.{from_place}
 
 after_after : (k : ℕ) (found : Option (ℕ × Head))
     → option_map (own_after k) (option_map (own_after 1) found) ≡ option_map (own_after (k + 1)) found

@@ -1,18 +1,18 @@
 -- The root of a document that is made of items in plain flow, without footnotes.
 use Rattle.std.proofs.Common.{◌≡◌, true, false, List, [], ◌∷◌, ◌++◌, None, Some, codes, refl, ap, ◌∙◌, append-nil}
-use Rattle.html_names.specs.Kinds.{is_raw}
-use Rattle.html_names.specs.Names.{stands_in}
+use Rattle.html_names_core.specs.Kinds.{is_raw}
+use Rattle.html_names_core.specs.Names.{stands_in}
 use Rattle.html_dom_tree.specs.Styled.{head_with_style, styled_node, styled_nodes}
-use Rattle.html_dom_tree.specs.Tree.{Head, NodeView, element_node, NodesView, none, node, ElementView, new_element}
+use Rattle.html_dom_tree.specs.Tree.{Head, NodeView, element_node, NodesView, none, node, ElementView, plain_head}
 use Rattle.html_dom_tree.specs.Views.{nodes_of}
+use Rattle.html_dom_shown.specs.Bodies.{body_children}
 use Rattle.html_flow_convert.specs.Protected.{nodes_by_answers}
 use Rattle.html_flow_convert.specs.Runs.{blank_front, after_front}
-use Rattle.typst_html_encode.specs.IndentsCollapse.{body_children}
 use Rattle.typst_html_encode.proofs.IndentsCollapse.{body_is_not_raw}
 use Rattle.html_dom_document.specs.Documents.{InfoView, OutputView, DocumentView, node_of, root_of, given_root, with_root, document_root}
-use Rattle.html_dom_link.specs.Anchors.{element_with_anchors}
-use Rattle.html_dom_link.specs.Events.{Targets}
-use Rattle.html_dom_link.specs.LinkAnchors.{document_targets}
+use Rattle.html_anchors.specs.Anchors.{element_with_anchors}
+use Rattle.html_anchors.specs.Events.{Targets}
+use Rattle.html_anchors.specs.LinkAnchors.{document_targets}
 use Rattle.html_flow_convert.specs.Converted.{item_nodes}
 use Rattle.html_flow_convert.specs.Depth.{item_too_deep}
 use Rattle.html_flow_convert.specs.Items.{ItemsView, no_items}
@@ -24,9 +24,9 @@ use Rattle.typst_html_spaces.proofs.Each.{Each}
 use Rattle.typst_html_spaces.proofs.PlainNodes.{makes_plain_nodes, names_are_inside}
 use Rattle.typst_html_spaces.specs.ReadableNodes.{AreReadable}
 use Rattle.typst_html_spaces.proofs.ReadableNodes.{styled_readable}
-use Rattle.typst_html_export.specs.Assembled.{first_own, nothing_own, document_outline, outline_by, shown_count, both_nodes, body_node, document_nodes}
+use Rattle.typst_html_export.specs.Assembled.{first_own, nothing_own, document_outline, outline_by, shown_count, both_nodes, body_node, document_nodes, output_around, assembled_document_with_head}
 use Rattle.typst_html_export.specs.DocumentHead.{made_node, charset_node, viewport_node, entry_nodes, lang_text}
-use Rattle.typst_html_export.specs.OwnHead.{output_around_with_head, assembled_document_with_head, linked_root_with_head}
+use Rattle.typst_html_export.specs.Exported.{linked_root_with_head}
 use Rattle.typst_html_export.specs.SpacesInDocuments.{PlainDocumentsAreMade}
 use Rattle.typst_html_export.proofs.Entries.{of_entries}
 
@@ -70,8 +70,7 @@ abbrev pub head_of : (entries : List NodeView) → NodeView
 head_of entries = made_node (codes "head") [] (nodes_of (charset_node ∷ viewport_node ∷ entries))
 
 abbrev pub top_of : InfoView → Head
-top_of info =
-    record (new_element (codes "html")).0 { attrs = (codes "lang", lang_text info.locale) ∷ [] }
+top_of info = plain_head (codes "html") ((codes "lang", lang_text info.locale) ∷ []) 0
 
 abbrev pub inside_of : (entries : List NodeView) → NodesView → NodesView
 inside_of entries ns = node (head_of entries) (node (body_node ns) none)
@@ -85,7 +84,7 @@ entries_with info head = entry_nodes info ++ head
 
 output_is : (info : InfoView) (head : List NodeView) (items : ItemsView) →
     is_plain_flow items ≡ true →
-    output_around_with_head info head (document_nodes items) no_items
+    output_around info head (document_nodes items) no_items
     ≡ record {
       nodes = node (node_of (root_over info (entries_with info head) (document_nodes items))) none;
       root = 0;
@@ -137,7 +136,7 @@ module _ (info : InfoView) (head : List NodeView) (items : ItemsView)
       let d : DocumentView = assembled_document_with_head info head items no_items in
       let x : Targets = document_targets d.introspector.is_link_target d in (
         x,
-        with_new_root (output_around_with_head info head (document_nodes items) no_items)
+        with_new_root (output_around info head (document_nodes items) no_items)
             (root_over info (entries_with info head) (document_nodes items))
             (output_is info head items e) (λ root. element_with_anchors x root),
       )

@@ -3,9 +3,9 @@
 use Rattle.std.proofs.Common.{◌≡◌, ℕ, Bool, true, false, ◌&&◌, List, [], ◌∷◌, ◌++◌, Option, None, Some, inl, inr, refl, ap, sym, ◌∙◌, codes, bytes_eq}
 use Rattle.std.proofs.lemmas.Bool.{both_ways, cases_Bool, false≢true}
 use Rattle.std.proofs.lemmas.Slice.Eq.{bytes_eq-Decides}
-use Rattle.html_names.specs.Displays.{default_display}
-use Rattle.html_names.specs.Kinds.{is_escapable_raw, is_mathml, is_metadata_content, is_raw, is_token}
-use Rattle.html_names.specs.Names.{stands_in}
+use Rattle.html_names_core.specs.Displays.{default_display}
+use Rattle.html_names_core.specs.Kinds.{is_escapable_raw, is_mathml, is_metadata_content, is_raw, is_token}
+use Rattle.html_names_core.specs.Names.{stands_in}
 use Rattle.html_values_css.specs.Properties.{inline_text}
 use Rattle.html_dom_tree.specs.Attributes.{first, or_else, with_value}
 use Rattle.html_dom_tree.specs.Styled.{attrs_with_style, head_with_style, styled_attrs, styled_node, styled_nodes}

@@ -5,11 +5,11 @@ use Rattle.html_dom_tree.specs.PlainTree.{Plain, nodes_normal, element_normal}
 use Rattle.html_dom_tree.specs.Tree.{tag_node, text_node, element_node, frame_node, NodesView, none, node, ElementView}
 use Rattle.html_dom_tree.specs.Views.{text_view}
 use Rattle.html_dom_document.specs.Documents.{DocumentView, document_root}
-use Rattle.html_dom_link.specs.Answered.{first_ids, shown_names}
-use Rattle.html_dom_link.specs.GivenLinks.{GivenLinksLead, LeadsAmong, document_given_links}
-use Rattle.html_dom_link.specs.Indicated.{element_places, nodes_places, place_names}
-use Rattle.html_dom_link.specs.Links.{document_with_links}
-use Rattle.html_dom_link.proofs.Consequences.{shown_first}
+use Rattle.html_links.specs.TreeNames.{first_ids, shown_names, gathered_names}
+use Rattle.html_anchors.specs.GivenLinks.{GivenLinksLead, LeadsAmong, document_given_links}
+use Rattle.html_links.specs.Indicated.{element_places, nodes_places, place_names}
+use Rattle.html_anchors.specs.Links.{document_with_links}
+use Rattle.html_anchors.proofs.Consequences.{shown_first}
 use Rattle.typst_html_encode.specs.Endings.{Gives}
 use Rattle.typst_html_encode.specs.ExportFaults as writing
 use Rattle.typst_html_encode.specs.FrameWriters.{Frames}
@@ -21,7 +21,6 @@ use Rattle.typst_html_encode.specs.declared.fault.ExportFault.{ExportFault}
 use Rattle.typst_html_encode.specs.declared.options.HtmlOptions.{HtmlOptions}
 use Rattle.typst_html_encode.proofs.ReadIds.{layout_keeps_texts, past_words}
 use Rattle.typst_html_export.specs.ReadLinks.{GivenLinksLeadWhenRead, DocumentIsReadable, read_places}
-use Rattle.html_dom_link.specs.NewNames.{gathered_names}
 
 normal_ids : (ns : NodesView) → plains_texts ids_of (nodes_normal ns) ≡ first_ids ns
 unfolding plains_texts nodes_normal gathered_names

@@ -1,27 +1,29 @@
 -- Documents of items in plain flow: what is seen of their text is exactly the items' text.
 use Rattle.std.proofs.Common.{◌≡◌, Bool, true, false, List, [], None, Some, ap, sym, subst, ◌∙◌}
 use Rattle.std.proofs.lemmas.Bool.{both_ways}
-use Rattle.html_names.specs.Kinds.{is_raw}
+use Rattle.html_names_core.specs.Kinds.{is_raw}
 use Rattle.html_dom_tree.specs.Styled.{styled_nodes}
 use Rattle.html_dom_tree.specs.PlainTree.{nodes_normal}
 use Rattle.html_dom_tree.specs.Tree.{Head, NodeView, NodesView, ElementView}
 use Rattle.html_dom_tree.specs.Views.{nodes_of}
-use Rattle.typst_html_encode.specs.Collapsing.{collapsed_pieces}
+use Rattle.html_dom_shown.specs.Bodies.{body_children}
+use Rattle.html_dom_shown.specs.Collapsing.{collapsed_pieces}
+use Rattle.html_dom_shown.specs.SeenBodies.{seen_plains, seen_tree}
 use Rattle.typst_html_encode.specs.ExportFaults as writing
 use Rattle.typst_html_encode.specs.FrameWriters.{Frames}
 use Rattle.typst_html_encode.specs.Indented.{NodeEndsWell}
-use Rattle.typst_html_encode.specs.IndentsCollapse.{NodesAreEdged, body_children}
+use Rattle.typst_html_encode.specs.IndentsCollapse.{NodesAreEdged}
 use Rattle.typst_html_encode.specs.ReadingBack.{ElementIsNamed}
 use Rattle.typst_html_encode.specs.Text.{document_text}
 use Rattle.html_dom_document.specs.Documents.{InfoView, DocumentView, document_root}
-use Rattle.html_dom_link.specs.Anchors.{element_with_anchors}
-use Rattle.html_dom_link.specs.Links.{Hrefs, nodes_with_links, root_with_links}
+use Rattle.html_anchors.specs.Anchors.{element_with_anchors}
+use Rattle.html_anchors.specs.Links.{Hrefs, nodes_with_links, root_with_links}
 use Rattle.html_flow_convert.specs.Items.{ItemsView, no_items}
 use Rattle.typst_html_encode.proofs.ReadingBack.{reads_back}
 use Rattle.typst_html_spaces.specs.Anchored.{Anchored, IsAny}
 use Rattle.typst_html_spaces.specs.ItemText.{items_text}
 use Rattle.typst_html_spaces.specs.PlainFlow.{is_plain_flow}
-use Rattle.typst_html_spaces.specs.SeenBody.{seen_plains, seen_tree, seen_text}
+use Rattle.typst_html_spaces.specs.SeenBody.{seen_text}
 use Rattle.typst_html_spaces.proofs.Anchored.{anchors_are_unseen, anchors_keep_edges}
 use Rattle.typst_html_spaces.proofs.DeepNodes.{of_both}
 use Rattle.typst_html_spaces.proofs.PlainNodes.{makes_plain_nodes, plain_readable}
@@ -31,13 +33,11 @@ use Rattle.typst_html_spaces.proofs.SeenBody.{plain_tree_seen, pretty_tree_seen}
 use Rattle.typst_html_spaces.proofs.SpacesStay.{spaces_stay}
 use Rattle.typst_html_export.specs.Assembled.{assembled_document, document_nodes}
 use Rattle.typst_html_export.specs.DocumentHead.{entry_nodes}
-use Rattle.typst_html_export.specs.Exported.{linked_root}
-use Rattle.typst_html_export.specs.Linked.{linked_document}
-use Rattle.typst_html_export.specs.OwnHead.{linked_document_with_head, linked_root_with_head}
+use Rattle.typst_html_export.specs.Exported.{linked_root, linked_root_with_head}
+use Rattle.typst_html_export.specs.Linked.{linked_document_with_head}
 use Rattle.typst_html_export.specs.SpacesInDocuments.{PlainDocumentsAreSeen, PlainLinkedDocumentsAreSeen, IsShownAs, IsReadAs, PlainDocumentsAreRead, PlainLinkedDocumentsAreRead, SpacesAreLeft, SpacesAreShown}
 use Rattle.typst_html_export.proofs.AnchoredRoots.{root_anchored}
 use Rattle.typst_html_export.proofs.LinkedRoots.{nodes_linked}
-use Rattle.typst_html_export.proofs.OwnHead.{no_nodes_around, no_nodes_change_nothing}
 use Rattle.typst_html_export.proofs.PlainRoots.{assembled_root_is, entries_with, root_over, body_is, made_not_raw, entries_readable, root_readable, linked_root_is}
 
 -- a root that is not raw, in whose body exactly that text of items is seen, and what has indents is
@@ -141,22 +141,16 @@ linked_read info head items own e =
 
 -- without such nodes
 
-alone_read : (info : InfoView) (items : ItemsView) → is_plain_flow items ≡ true →
-    ReadsAsItems (linked_root info items no_items) items
-alone_read info items e =
-    subst (λ d. ReadsAsItems (document_root d) items) (no_nodes_change_nothing info items no_items)
-    (linked_read info [] items tt e)
-
 pub plain_documents_are_read : PlainDocumentsAreRead
 plain_documents_are_read info items e =
-    read_as (linked_root info items no_items) items (alone_read info items e)
+    read_as (linked_root info items no_items) items (linked_read info [] items tt e)
 
 pub plain_linked_documents_are_read : PlainLinkedDocumentsAreRead
 plain_linked_documents_are_read info items e hrefs =
     let old : ElementView = linked_root info items no_items in
     read_as (root_with_links hrefs old) items
     (still_read old.0 old.1 (nodes_with_links hrefs [] old.1) items (nodes_linked hrefs old.1)
-    (alone_read info items e))
+    (linked_read info [] items tt e))
 
 -- so in the text of such a root exactly the items' text is seen
 
@@ -184,8 +178,7 @@ pub spaces_are_left_without_anchors : (info : InfoView) (items notes : ItemsView
 spaces_are_left_without_anchors info items notes d is e alone =
     let root = root_over info (entries_with info []) (document_nodes items) in
     let top : document_root d ≡ root =
-    ap document_root (is ∙ (ap (assembled_document info items) alone
-    ∙ sym (no_nodes_around info (document_nodes items) no_items)))
+    ap document_root (is ∙ ap (assembled_document info items) alone)
     ∙ assembled_root_is info [] items e in
     subst (λ r. IsReadAs r items) (sym top) (read_as root items (made_read info [] items tt e))
 
@@ -205,12 +198,6 @@ module _ (info : InfoView) (head : List NodeView) (items notes : ItemsView) (d :
   spaces_are_shown e alone = subst (λ r. IsShownAs r items) (root_is alone)
       (shown (linked_root_with_head info head items no_items) items
       (linked_shown info head items e))
-
-pub spaces_are_left : (info : InfoView) (items notes : ItemsView) (d : DocumentView) →
-    d ≡ linked_document info items notes → SpacesAreLeft d items notes
-spaces_are_left info items notes d is e alone =
-    subst (λ r. IsReadAs (document_root r) items)
-    (sym (is ∙ ap (linked_document info items) alone)) (plain_documents_are_read info items e)
 
 pub spaces_are_left_with_links : (info : InfoView) (items notes : ItemsView) (hrefs : Hrefs)
     (d : DocumentView) → document_root d ≡ root_with_links hrefs (linked_root info items notes) →

@@ -3,6 +3,7 @@ use Rattle.std.proofs.Common.{◌≡◌, ℕ, Bool, true, false, List, Some, ref
 use Rattle.html_dom_tree.specs.PlainTree.{element_normal}
 use Rattle.html_dom_tree.specs.Tree.{ElementView}
 use Rattle.html_dom_tree.specs.Views.{text_view}
+use Rattle.html_dom_shown.specs.SeenBodies.{seen_tree}
 use Rattle.typst_html_encode.specs.Indented.{element_layout, ElementEndsWell}
 use Rattle.typst_html_encode.specs.Reader.{read}
 use Rattle.html_dom_tree.specs.FrameFree.{ElementIsFrameFree}
@@ -10,7 +11,7 @@ use Rattle.typst_html_encode.specs.declared.fault.ExportFault.{ExportFault}
 use Rattle.html_flow_convert.specs.Items.{ItemsView, no_items}
 use Rattle.typst_html_spaces.specs.ItemText.{items_text}
 use Rattle.typst_html_spaces.specs.PlainFlow.{is_plain_flow}
-use Rattle.typst_html_spaces.specs.SeenBody.{seen_tree, seen_text}
+use Rattle.typst_html_spaces.specs.SeenBody.{seen_text}
 use Rattle.typst_html_export.specs.SpacesInDocuments.{IsReadAs, IsShownAs, SpacesAreSeen}
 
 module _ (root : ElementView) (items : ItemsView) where

@@ -10,8 +10,8 @@ use Rattle.html_dom_tree.specs.Tree.{element_node, NodesView, none, node}
 use Rattle.html_dom_tree.specs.declared.introspection.Location.{Location}
 use Rattle.html_dom_document.specs.Introspectors.{has_location, location_text}
 use Rattle.html_dom_document.specs.Documents.{DocumentView, document_root, element_at_index, given_root, is_element_at, with_element}
-use Rattle.html_dom_link.specs.LinkAnchors.{document_anchor, document_targets}
-use Rattle.html_dom_link.proofs.Consequences.{no_target_no_change}
+use Rattle.html_anchors.specs.LinkAnchors.{document_anchor, document_targets}
+use Rattle.html_anchors.proofs.Consequences.{no_target_no_change}
 use Rattle.typst_html_export.specs.Linked.{document_with_anchors}
 
 put_again : (ns : NodesView) (i : ℕ) → is_element_at ns i ≡ true →

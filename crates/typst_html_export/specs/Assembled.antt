@@ -66,23 +66,27 @@ abbrev pub body_node : NodesView → NodeView
 body_node ns = made_node (codes "body") [] ns
 
 -- the new root, with these nodes after its head
-abbrev pub html_node : InfoView → NodesView → NodeView
-html_node info ns =
-    made_node (codes "html") ((codes "lang", lang_text info.locale) ∷ []) (node (head_node info) ns)
+abbrev pub html_node : InfoView → (head : List NodeView) → NodesView → NodeView
+html_node info head ns = made_node (codes "html") ((codes "lang", lang_text info.locale) ∷ [])
+    (node (head_node info head) ns)
 
-abbrev pub html_output : InfoView → NodesView → OutputView
-html_output info ns = record { nodes = node (html_node info ns) none; root = 0 }
+abbrev pub html_output : InfoView → (head : List NodeView) → NodesView → OutputView
+html_output info head ns = record { nodes = node (html_node info head ns) none; root = 0 }
 
--- the output with what surrounds the nodes of a document and of its footnotes
-abbrev pub output_by : Outline → InfoView → (content notes : NodesView) → OutputView
-output_by (own_html place) info content notes = record { nodes = content; root = place }
-output_by own_body info content notes = html_output info content
-output_by nothing_own info content notes =
-    html_output info (node (body_node (both_nodes content notes)) none)
-output_by (own_among_others name span) info content notes = html_output info content
+-- the output with what surrounds the nodes of a document and of its footnotes; a root that the
+-- items bring has its own head, so it stays as it is
+abbrev pub output_by : Outline → InfoView → (head : List NodeView) → (content notes : NodesView)
+    → OutputView
+output_by (own_html place) info head content notes = record { nodes = content; root = place }
+output_by own_body info head content notes = html_output info head content
+output_by nothing_own info head content notes =
+    html_output info head (node (body_node (both_nodes content notes)) none)
+output_by (own_among_others name span) info head content notes = html_output info head content
 
-abbrev pub assembled_output : InfoView → (content notes : NodesView) → OutputView
-assembled_output info content notes = output_by (document_outline content) info content notes
+abbrev pub assembled_output : InfoView → (head : List NodeView) → (content notes : NodesView)
+    → OutputView
+assembled_output info head content notes =
+    output_by (document_outline content) info head content notes
 
 abbrev pub styled_output : OutputView → OutputView
 styled_output o = record o { nodes = styled_nodes o.nodes }
@@ -91,20 +95,24 @@ styled_output o = record o { nodes = styled_nodes o.nodes }
 abbrev pub document_nodes : ItemsView → NodesView
 document_nodes items = converted_nodes Block Normal None items
 
--- the document around nodes, from its information and footnotes
-abbrev pub output_around : InfoView → (content : NodesView) (notes : ItemsView) → OutputView
-output_around info content notes =
-    styled_output (assembled_output info content (document_nodes notes))
+-- the document around nodes, from its information, the caller's nodes for its head, and footnotes
+abbrev pub output_around : InfoView → (head : List NodeView) → (content : NodesView)
+    → (notes : ItemsView) → OutputView
+output_around info head content notes =
+    styled_output (assembled_output info head content (document_nodes notes))
 
-abbrev pub document_around : InfoView → (content : NodesView) (notes : ItemsView) → DocumentView
-document_around info content notes = new_document (output_around info content notes) info
+abbrev pub document_around : InfoView → (head : List NodeView) → (content : NodesView)
+    → (notes : ItemsView) → DocumentView
+document_around info head content notes = new_document (output_around info head content notes) info
 
 -- the same around the nodes of items
-abbrev pub document_output : InfoView → (items notes : ItemsView) → OutputView
-document_output info items notes = output_around info (document_nodes items) notes
+abbrev pub assembled_document_with_head : InfoView → (head : List NodeView)
+    → (items notes : ItemsView) → DocumentView
+assembled_document_with_head info head items notes =
+    document_around info head (document_nodes items) notes
 
 abbrev pub assembled_document : InfoView → (items notes : ItemsView) → DocumentView
-assembled_document info items notes = document_around info (document_nodes items) notes
+assembled_document info = assembled_document_with_head info []
 
 abbrev pub item_spans : ItemsView → List ℕ
 item_spans no_items = []

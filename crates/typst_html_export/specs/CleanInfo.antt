@@ -2,9 +2,9 @@
 -- from clean items in plain flow, can be written.
 use Rattle.std.specs.Prelude.{◌≡◌, ℕ, Bool, true, ◌&&◌, List, [], Option, Some, None}
 use Rattle.std.specs.List.{list_all}
-use Rattle.html_names.specs.Characters.{all, is_text_char}
+use Rattle.html_names_core.specs.Characters.{all, is_text_char}
 use Rattle.html_dom_document.specs.Documents.{LocaleView, InfoView}
-use Rattle.html_dom_link.specs.Links.{Anchors, anchor_hrefs, root_with_links}
+use Rattle.html_anchors.specs.Links.{Anchors, anchor_hrefs, root_with_links}
 use Rattle.typst_html_encode.specs.FrameWriters.{Frames}
 use Rattle.typst_html_encode.specs.declared.options.HtmlOptions.{HtmlOptions}
 use Rattle.html_flow_convert.specs.Items.{ItemsView, no_items}

@@ -1,14 +1,14 @@
 -- The head of a document, and its language (HTML Standard 4.2; this project decides which entries
--- there are). All generated nodes have the span 0.
+-- there are). All generated nodes have the span 0. Nodes of the caller's stand at the head's end.
 use Rattle.std.specs.Prelude.{ℕ, List, [], ◌∷◌, ◌++◌, codes, Option, Some, None}
 use Rattle.std.specs.List.{join_by}
-use Rattle.html_dom_tree.specs.Tree.{TextPair, NodeView, text_node, element_node, NodesView, none, node, new_element}
+use Rattle.html_dom_tree.specs.Tree.{TextPair, NodeView, text_node, element_node, NodesView, none, node, plain_head}
 use Rattle.html_dom_tree.specs.Views.{nodes_of}
 use Rattle.html_dom_document.specs.Documents.{LocaleView, InfoView}
 
 -- an element with these attributes and children, and nothing else
 abbrev pub made_node : (name : List ℕ) → List TextPair → NodesView → NodeView
-made_node name attrs ns = element_node (record (new_element name).0 { attrs = attrs }) ns
+made_node name attrs ns = element_node (plain_head name attrs 0) ns
 
 abbrev pub charset_node : NodeView
 charset_node = made_node (codes "meta") ((codes "charset", codes "utf-8") ∷ []) none
@@ -46,9 +46,10 @@ abbrev pub entry_nodes : InfoView → List NodeView
 entry_nodes info = title_nodes info.title ++ (description_nodes info.description
     ++ (list_meta_nodes (codes "authors") info.author ++ list_meta_nodes (codes "keywords") info.keywords))
 
-abbrev pub head_node : InfoView → NodeView
-head_node info =
-    made_node (codes "head") [] (nodes_of (charset_node ∷ viewport_node ∷ entry_nodes info))
+-- the head: the information, then these nodes
+abbrev pub head_node : InfoView → (head : List NodeView) → NodeView
+head_node info head = made_node (codes "head") []
+    (nodes_of (charset_node ∷ viewport_node ∷ (entry_nodes info ++ head)))
 
 -- a region as it stands after its language
 abbrev pub region_text : Option (List ℕ) → List ℕ

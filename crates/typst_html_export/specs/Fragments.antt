@@ -4,7 +4,8 @@ use Rattle.std.specs.Prelude.{◌≡◌, ℕ, true, List, ◌++◌, map, Option,
 use Rattle.html_dom_tree.specs.PlainTree.{Plain, words, branch}
 use Rattle.html_dom_tree.specs.Styled.{styled_nodes}
 use Rattle.html_dom_tree.specs.Tree.{NodesView}
-use Rattle.typst_html_encode.specs.Collapsing.{Piece}
+use Rattle.html_dom_shown.specs.Collapsing.{Piece}
+use Rattle.html_dom_shown.specs.SeenBodies.{seen_plains}
 use Rattle.typst_html_encode.specs.FaultViews.{ExportFaultView, export_fault_view}
 use Rattle.typst_html_encode.specs.Fragments as writing
 use Rattle.typst_html_encode.specs.Fragments.{text_in_div}
@@ -17,7 +18,6 @@ use Rattle.html_flow_convert.specs.declared.convert.ConversionLevel.{ConversionL
 use Rattle.html_flow_convert.specs.declared.convert.Whitespace.TheVariants.{Normal}
 use Rattle.typst_html_spaces.specs.ItemText.{items_text}
 use Rattle.typst_html_spaces.specs.PlainFlow.{is_plain_flow}
-use Rattle.typst_html_spaces.specs.SeenBody.{seen_plains}
 use Rattle.typst_html_export.specs.Assembled.{depth_faults}
 
 abbrev pub fragment_nodes : ConversionLevel → ItemsView → NodesView

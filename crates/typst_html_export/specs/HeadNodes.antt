@@ -15,8 +15,7 @@ use Rattle.typst_html_spaces.specs.CleanItems.{are_clean_items}
 use Rattle.typst_html_spaces.specs.DeepNodes.{Wanted, HoldsOfAll}
 use Rattle.typst_html_spaces.specs.PlainFlow.{is_plain_flow}
 use Rattle.typst_html_export.specs.CleanInfo.{is_clean_info}
-use Rattle.typst_html_export.specs.Exported.{root_faults}
-use Rattle.typst_html_export.specs.OwnHead.{linked_root_with_head}
+use Rattle.typst_html_export.specs.Exported.{linked_root_with_head, root_faults}
 
 abbrev pub elements_and_texts : Wanted
 elements_and_texts = record {

@@ -8,7 +8,7 @@ pub mod HeadNodes
 pub mod Linked
 pub mod LinkedRoots
 pub mod Outlines
-pub mod OwnHead
+pub mod OwnRoots
 pub mod ReadLinks
 pub mod Roots
 pub mod SpacesInDocuments

@@ -3,8 +3,8 @@ use Rattle.std.specs.Prelude.{◌≡◌, ℕ, true, List, [], ◌++◌, All, Opt
 use Rattle.html_dom_tree.specs.FrameFree.{ElementIsFrameFree}
 use Rattle.html_dom_tree.specs.PlainTree.{Plain, words, branch}
 use Rattle.html_dom_document.specs.Documents.{DocumentView, document_root}
-use Rattle.html_dom_link.specs.GivenLinks.{LeadsAmong, document_given_links}
-use Rattle.html_dom_link.specs.Indicated.{place_names}
+use Rattle.html_anchors.specs.GivenLinks.{LeadsAmong, document_given_links}
+use Rattle.html_links.specs.Indicated.{place_names}
 use Rattle.typst_html_encode.specs.Indented.{ElementEndsWell}
 use Rattle.typst_html_encode.specs.ReadIds.{plains_texts, read_ids}
 use Rattle.typst_html_encode.specs.Reader.{read}

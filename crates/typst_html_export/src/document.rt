@@ -1,9 +1,9 @@
 //! Documents made from items.
 
 ghost use Rattle.std.specs.Prelude.{◌≡◌, ◌≤◌, IfOk, map, option_map};
-ghost use Rattle.html_dom_link.specs.Distinct.{IdsAreDistinct};
-ghost use Rattle.html_dom_link.specs.GivenLinks.{KnownAnchorsAreShown};
-ghost use Rattle.html_dom_link.specs.Serving.{KnownAnchorsServe};
+ghost use Rattle.html_anchors.specs.DistinctIds.{IdsAreDistinct};
+ghost use Rattle.html_anchors.specs.GivenLinks.{KnownAnchorsAreShown};
+ghost use Rattle.html_anchors.specs.Serving.{KnownAnchorsServe};
 ghost use Rattle.html_dom_tree.specs.Tree.{none, node};
 ghost use Rattle.html_dom_tree.specs.Views.{element_view, node_view, nodes_view};
 ghost use Rattle.html_dom_document.specs.Documents.{document_root};
@@ -14,25 +14,25 @@ ghost use Rattle.html_flow_convert.specs.Depth.{items_too_deep};
 ghost use Rattle.html_flow_convert.specs.Items.{no_items};
 ghost use Rattle.html_flow_convert.specs.Views.{items_view};
 ghost use Rattle.typst_html_spaces.specs.ReadableNodes.{AreReadable};
-ghost use Rattle.typst_html_export.specs.Assembled.{assembled_document, document_nodes};
+ghost use Rattle.typst_html_export.specs.Assembled.{assembled_document, assembled_document_with_head, assembled_output};
+ghost use Rattle.typst_html_export.specs.Assembled.{document_around, document_nodes, html_output};
 ghost use Rattle.typst_html_export.specs.Assembled.{first_own, is_own, own_head, document_outline, shown_count};
 ghost use Rattle.typst_html_export.specs.Assembled.{body_node, both_nodes};
 ghost use Rattle.typst_html_export.specs.Assembled.{assembly_faults, depth_faults, items_document_faults, item_spans, note_faults, outline_faults};
 ghost use Rattle.typst_html_export.specs.Assembles.{GivesDocument, FailsByMemoryAlone, Passes};
-ghost use Rattle.typst_html_export.specs.Linked.{document_with_anchors, linked_document, AnchorsAreFirstIds};
+ghost use Rattle.typst_html_export.specs.Linked.{document_with_anchors, linked_document, linked_document_with_head, AnchorsAreFirstIds};
 ghost use Rattle.typst_html_export.specs.LinkedRoots.{HaveSameAtoms};
 ghost use Rattle.typst_html_export.specs.Outlines.{outline_view, own_view};
-ghost use Rattle.typst_html_export.specs.OwnHead.{assembled_document_with_head, assembled_output_with_head, document_around_with_head};
-ghost use Rattle.typst_html_export.specs.OwnHead.{have_own_root, html_output_with_head, is_root, linked_document_with_head};
+ghost use Rattle.typst_html_export.specs.OwnRoots.{have_own_root, is_root};
 ghost use Rattle.typst_html_export.specs.Roots.{styled_root};
 ghost use Rattle.typst_html_export.specs.SpacesInDocuments.{ArePlainItems, SpacesAreLeft, SpacesAreShown};
 
 use crate::head::{head_node, lang_text};
+use html_anchors::with_link_anchors;
 use html_dom_document::{DocumentInfo, HtmlDocument, HtmlOutput, is_named_html};
-use html_dom_link::with_link_anchors;
 use html_dom_tree::{HtmlElement, HtmlNode, Span, with_inline_styles};
 use html_flow_convert::{ConversionLevel, Pair, Whitespace, convert_items, convert_to_nodes};
-use html_names::{attr, tag};
+use html_names_core::{attr, tag};
 use std::alloc::{AllocError, Global};
 use std::collections::BTreeMap;
 use std::mem;
@@ -315,7 +315,7 @@ fn document_around(
     requires some_limit { 1 ≤ limit }
     requires low_limit { limit ≤ 10000 }
     ensures made { GivesDocument document_view result
-        (document_around_with_head (info_view info.now) (map node_view head.now)
+        (document_around (info_view info.now) (map node_view head.now)
         (nodes_view content.items) (items_view footnotes.now))
         (assembly_faults limit (nodes_view content.items) (items_view footnotes.now)) }
     ensures leads { IfOk result (λ document. PositionsLead (document_view document)) }
@@ -367,7 +367,7 @@ fn assembled(
     requires some_limit { 1 ≤ limit }
     requires low_limit { limit ≤ 10000 }
     ensures { GivesDocument output_view result
-        (assembled_output_with_head (info_view info.now) (map node_view head.now)
+        (assembled_output (info_view info.now) (map node_view head.now)
         (nodes_view content.items) (document_nodes (items_view footnotes.now)))
         (assembly_faults limit (nodes_view content.items) (items_view footnotes.now)) }
 {
@@ -440,7 +440,7 @@ fn own_element(node: &HtmlNode) -> Option<&HtmlElement>
     }
 }
 
-#[tactic(auto, unfolding(html_names::specs::Tables::known_tags))]
+#[tactic(auto, unfolding(html_names_core::specs::Tables::known_tags))]
 fn is_own(element: &HtmlElement) -> bool
     ensures { result ≡ is_own (element_view element.now).0 }
 {
@@ -492,7 +492,7 @@ fn both_nodes(
     Ok(content)
 }
 
-#[tactic(auto, unfolding(html_names::specs::Tables::known_tags))]
+#[tactic(auto, unfolding(html_names_core::specs::Tables::known_tags))]
 fn body_nodes(alloc: Global, content: Vec<HtmlNode>) -> Result<Vec<HtmlNode>, AllocError>
     ensures { IfOk result (λ made.
         nodes_view made.items ≡ node (body_node (nodes_view content.items)) none) }
@@ -503,14 +503,14 @@ fn body_nodes(alloc: Global, content: Vec<HtmlNode>) -> Result<Vec<HtmlNode>, Al
     Ok(made)
 }
 
-#[tactic(auto, unfolding(html_names::specs::Tables::known_tags, html_names::specs::Tables::known_attrs))]
+#[tactic(auto, unfolding(html_names_core::specs::Tables::known_tags, html_names_core::specs::Tables::known_attrs))]
 fn html_output(
     alloc: Global,
     info: &DocumentInfo,
     head: &[HtmlNode],
     mut content: Vec<HtmlNode>,
 ) -> Result<HtmlOutput, AllocError>
-    ensures { IfOk result (λ output. output_view output ≡ html_output_with_head
+    ensures { IfOk result (λ output. output_view output ≡ html_output
         (info_view info.now) (map node_view head.now) (nodes_view content.items)) }
 {
     let mut children = vec![in alloc; head_node(alloc, info, head)?]?;

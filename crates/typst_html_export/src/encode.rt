@@ -13,29 +13,28 @@ ghost use Rattle.html_dom_tree.specs.FrameFree.{ElementIsFrameFree};
 ghost use Rattle.typst_html_encode.specs.Text.{document_text};
 ghost use Rattle.typst_html_encode.specs.Endings.{Gives};
 ghost use Rattle.html_dom_document.specs.Documents.{document_root};
-ghost use Rattle.html_dom_link.specs.Distinct.{GivenLinksLeadToOne, IdsAreDistinct};
-ghost use Rattle.html_dom_link.specs.FoundAnchors.{LiveLinksLead};
-ghost use Rattle.html_dom_link.specs.GivenLinks.{AnchorsAreTexts, GivenLinksLead, links_without};
-ghost use Rattle.html_dom_link.specs.Links.{document_links_left};
+ghost use Rattle.html_anchors.specs.DistinctIds.{GivenLinksLeadToOne, IdsAreDistinct};
+ghost use Rattle.html_anchors.specs.FoundAnchors.{LiveLinksLead};
+ghost use Rattle.html_anchors.specs.GivenLinks.{AnchorsAreTexts, GivenLinksLead, links_without};
+ghost use Rattle.html_anchors.specs.Links.{document_links_left};
 ghost use Rattle.html_flow_convert.specs.Views.{items_view};
 ghost use Rattle.typst_html_spaces.specs.CleanItems.{are_clean_items};
 ghost use Rattle.typst_html_export.specs.Assembled.{assembled_document};
 ghost use Rattle.typst_html_export.specs.Assembles.{GivesDocument, FailsByMemoryAlone};
 ghost use Rattle.typst_html_export.specs.CleanInfo.{is_clean_info};
-ghost use Rattle.typst_html_export.specs.Exported.{export_faults, export_linked_faults, export_linked_text, export_text};
-ghost use Rattle.typst_html_export.specs.Exported.{linked_root, resolved_document, resolved_root, root_faults};
+ghost use Rattle.typst_html_export.specs.Exported.{export_faults, export_faults_with_head, export_linked_faults, export_linked_text, export_text, export_text_with_head};
+ghost use Rattle.typst_html_export.specs.Exported.{linked_root, linked_root_with_head, resolved_document, resolved_root, root_faults};
 ghost use Rattle.typst_html_export.specs.HeadNodes.{HeadIsClean, HeadIsReadable};
 ghost use Rattle.typst_html_export.specs.Linked.{linked_document};
-ghost use Rattle.typst_html_export.specs.OwnHead.{export_faults_with_head, export_text_with_head, linked_root_with_head};
 ghost use Rattle.typst_html_export.specs.ReadLinks.{GivenLinksLeadWhenRead, DocumentIsReadable};
 ghost use Rattle.typst_html_export.specs.SpacesInDocuments.{ArePlainItems, SpacesAreSeen};
 
 use crate::document::{document_of_items, html_document, html_document_with_head};
+use html_anchors::document_with_links;
 use html_dom_document::{DocumentInfo, HtmlDocument};
-use html_dom_link::document_with_links;
 use html_dom_tree::{HtmlElement, HtmlNode};
 use html_flow_convert::Pair;
-use html_names::tag;
+use html_names_core::tag;
 use std::alloc::Global;
 use std::mem;
 use typst_html_encode::{ExportFault, FrameWriter, HtmlOptions, html_in_bundle, html_of};
@@ -133,8 +132,7 @@ pub fn export<F: FrameWriter>(
     ensures spaces { IfOk result (λ text. SpacesAreSeen (text_view text)
         (items_view items.now) (items_view footnotes.now)) }
 {
-    let document = html_document(alloc, items, info, footnotes, limit)?;
-    html_of_made(alloc, document, options, frames)
+    export_with_head(alloc, items, info, &[], footnotes, limit, options, frames)
 }
 
 /// Returns the HTML text of items like [`export`], with nodes of your own in its head: a
@@ -213,7 +211,7 @@ pub fn export_with_head<F: FrameWriter>(
 /// Returns the HTML text of items with links that lead: that of their document with anchors, once
 /// its links are resolved.
 ///
-/// [`html_document`] makes the document, [`resolve_links`](html_dom_link::resolve_links) sets the
+/// [`html_document`] makes the document, [`resolve_links`](html_anchors::resolve_links) sets the
 /// `href` of its links, and [`html`] writes it. A link is an `a` without an `href` that stands
 /// after a start tag with a destination; its `href` becomes that of the destination's anchor.
 /// Fails as [`export`] does.
@@ -221,7 +219,7 @@ pub fn export_with_head<F: FrameWriter>(
 /// Each link that got an `href` leads: the fragment that a browser takes from it indicates its
 /// destination's anchor, in the tree and, if the text reads back as [`html_in_bundle`] says, in the
 /// text as read; if the tree's own ids differ, exactly one of them is that name. A link to whose
-/// destination nothing leads gets none. [`dead_links`](html_dom_link::dead_links) reports it for
+/// destination nothing leads gets none. [`dead_links`](html_anchors::dead_links) reports it for
 /// the document, and with it each link whose `href` leads nowhere in a browser: all if a `base`
 /// leads them elsewhere, and those to anchors in a `template`. Spaces stay and clean items are
 /// written, as by `export`.

@@ -13,7 +13,7 @@ ghost use Rattle.typst_html_export.specs.Fragments.{export_fragment_faults, expo
 
 use html_dom_tree::{HtmlElement, HtmlNode, with_inline_styles};
 use html_flow_convert::{ConversionLevel, Pair, Whitespace, convert_to_nodes};
-use html_names::tag;
+use html_names_core::tag;
 use std::alloc::Global;
 use typst_html_encode::{ExportFault, FrameWriter, html_fragment};
 

@@ -1,20 +1,19 @@
 //! The head of a document, and its language.
-#![tactic(auto, unfolding(html_names::specs::Tables::known_tags, html_names::specs::Tables::known_attrs))]
+#![tactic(auto, unfolding(html_names_core::specs::Tables::known_tags, html_names_core::specs::Tables::known_attrs))]
 
 ghost use Rattle.std.specs.Prelude.{◌≡◌, ◌++◌, IfOk, IsTrue, OnOk, codes, map, option_map};
 ghost use Rattle.std.specs.List.{flat_map};
-ghost use Rattle.html_names.specs.Names.{is_ascii};
-ghost use Rattle.html_dom_tree.specs.Views.{element_view, node_view, optional_text_view, text_view};
-ghost use Rattle.html_names.specs.Texts.{texts_view};
+ghost use Rattle.html_names_core.specs.Names.{is_ascii};
+ghost use Rattle.html_dom_tree.specs.Views.{node_view, optional_text_view, text_view};
+ghost use Rattle.html_names_core.specs.Texts.{texts_view};
 ghost use Rattle.html_dom_document.specs.Views.{info_view, locale_view};
-ghost use Rattle.typst_html_export.specs.DocumentHead.{charset_node, description_nodes, entry_node, entry_nodes};
+ghost use Rattle.typst_html_export.specs.DocumentHead.{charset_node, description_nodes, entry_node, entry_nodes, head_node};
 ghost use Rattle.typst_html_export.specs.DocumentHead.{joined_text, lang_text, list_meta_nodes, region_text, title_node, title_nodes, viewport_node};
-ghost use Rattle.typst_html_export.specs.OwnHead.{head_node_with};
 
 use html_dom_document::{DocumentInfo, Locale};
 use html_dom_tree::{HtmlElement, HtmlNode, Span};
-use html_names::text_writer::TextWriter;
-use html_names::{attr, tag};
+use html_names_core::text_writer::TextWriter;
+use html_names_core::{attr, tag};
 use std::alloc::{AllocError, Global};
 
 /// Makes the head of a document: encoding, viewport, information, and then nodes of its own.
@@ -24,7 +23,7 @@ pub(crate) fn head_node(
     own: &[HtmlNode],
 ) -> Result<HtmlNode, AllocError>
     ensures { IfOk result (λ made.
-        node_view made ≡ head_node_with (info_view info.now) (map node_view own.now)) }
+        node_view made ≡ head_node (info_view info.now) (map node_view own.now)) }
 {
     let mut children = Vec::new(alloc);
     children.push(charset_node(alloc)?)?;

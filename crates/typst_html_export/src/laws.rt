@@ -4,7 +4,7 @@
 ghost use Rattle.typst_html_export.specs.CleanInfo.{CleanDocumentsAreWritten, CleanLinkedDocumentsAreWritten};
 ghost use Rattle.typst_html_export.specs.HeadNodes.{CleanHeadsAreWritten};
 ghost use Rattle.typst_html_export.specs.LinkedRoots.{AnchorsKeepAtoms, LinksKeepAtoms, LinksKeepFrames, LinksKeepNames};
-ghost use Rattle.typst_html_export.specs.OwnHead.{NoNodesChangeNothing, OwnRootsHaveNoInfo, OwnRootsHaveNoNodes};
+ghost use Rattle.typst_html_export.specs.OwnRoots.{InformationStandsAlone, NoNodesChangeNothing, OwnRootsHaveNoInfo, OwnRootsHaveNoNodes};
 ghost use Rattle.typst_html_export.specs.SpacesInDocuments.{PlainDocumentsAreMade, PlainDocumentsAreSeen, PlainLinkedDocumentsAreRead, PlainLinkedDocumentsAreSeen};
 
 /// Items in plain flow, without footnotes and none too deep, become a document, and exactly the
@@ -35,11 +35,13 @@ pub fn links_are_unseen()
     ensures named { LinksKeepNames }
 {}
 
-/// Nodes of your own in the head change nothing of a document if there are none, or if its items
-/// have a root of their own. In the latter case the information is not in its tree either. If these
-/// nodes, and items in plain flow and the information are clean, the document has no fault.
+/// Nodes of your own in the head change nothing of a document if there are none, so that a head that
+/// is made has the information alone, or if its items have a root of their own. In the latter case
+/// the information is not in its tree either. If these nodes, and items in plain flow and the
+/// information are clean, the document has no fault.
 pub fn own_heads()
     ensures none { NoNodesChangeNothing }
+    ensures alone { InformationStandsAlone }
     ensures own { OwnRootsHaveNoNodes }
     ensures unknown { OwnRootsHaveNoInfo }
     ensures clean { CleanHeadsAreWritten }

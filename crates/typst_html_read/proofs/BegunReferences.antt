@@ -3,22 +3,21 @@ use Rattle.std.proofs.Common.{◌≡◌, ℕ, zero, suc, ◌+◌, ◌*◌, ◌/�
 use Rattle.std.specs.Char.{digit_value}
 use Rattle.std.specs.Fmt.{digit_glyph, digits_onto, digits}
 use Rattle.std.specs.List.{list_all}
-use Rattle.std.specs.Str.{IsUtf8, IsAscii}
+use Rattle.std.specs.Str.{IsUtf8}
 use Rattle.std.specs.Str.Parse.{AllDigits, IsNumeral, digits_value, digits_value_after, without_leading_plus}
 use Rattle.std.proofs.lemmas.Bool.{and_from, and_parts, agree_below_at, false≢true, false_from_ne_true, lt-ltb, or_parts}
 use Rattle.std.proofs.lemmas.Bool.Decides.{Decides-eqb, nat_tests}
 use Rattle.std.proofs.lemmas.Fmt.{digits_is_IsNumeral}
-use Rattle.std.proofs.lemmas.List.{take_at}
 use Rattle.std.proofs.lemmas.List.Folds.{list_all-append}
 use Rattle.std.proofs.lemmas.Slice.Eq.{bytes_eq-Decides, starts_is}
-use Rattle.std.proofs.lemmas.Str.{IsAscii-take, chars-IsAscii, encodes-chars, encodes-IsAscii}
 use Rattle.std.proofs.Math.Nat.{div-lt_iff_lt-mul, pow-suc, pow-zero}
 use lib.Utf8.{encodes, scalar, scalar_cases}
-use Rattle.html_names.proofs.Digits.{digits_ascii}
+use Rattle.html_names_core.proofs.Digits.{digits_ascii}
 use Rattle.typst_html_encode.specs.References.{numbered_char, reference_by_number, reference}
-use Rattle.typst_html_read.specs.BegunReferences.{is_small_digit, begins_digits, begins_number, begins, begins_reference}
+use Rattle.typst_html_read.specs.BegunReferences.{is_small_digit, begins_digits, begins_number, begins_reference}
+use Rattle.html_text.specs.Words.{begins}
 use Rattle.typst_html_read.proofs.Numbers.{no_plus}
-use Rattle.typst_html_read.proofs.Words.{chars_after_word, word_before}
+use Rattle.html_text.proofs.Words.{chars_after_word, own_bytes, word_before}
 
 -- the digits that are written of a number are small ones, and a zero is not the first, but of 0
 
@@ -154,10 +153,6 @@ all_digits : (cs : List ℕ) → list_all is_small_digit cs ≡ true → AllDigi
 all_digits [] h = tt
 all_digits (c ∷ cs) h = grind (arith, nat_tests, all_digits cs)
 
--- ASCII is its own bytes
-own_bytes : (ds : List ℕ) → IsUtf8 ds → IsAscii (chars ds) → ds ≡ chars ds
-own_bytes ds u a = sym (encodes-chars ds u) ∙ encodes-IsAscii (chars ds) a
-
 module _ (ds : List ℕ) (u : IsUtf8 ds) (h : list_all is_small_digit (chars ds) ≡ true) where
   own : ds ≡ chars ds
   own = own_bytes ds u (digits_ascii (chars ds) (all_digits (chars ds) h))
@@ -175,26 +170,6 @@ module _ (ds : List ℕ) (u : IsUtf8 ds) (h : list_all is_small_digit (chars ds)
       let low = ltb-true (digits_value 16 (chars ds)) 0x11_0000 e in
       wrong (subst (λ l. IsNumeral 16 l × (digits_value 16 l < 2 ^ 32)) (sym digits_read)
       ((long, all_digits (chars ds) h), omega (arith, low))))
-
--- a word of ASCII begins with a text where it begins with its characters
-
-pub front_ascii : (front rest : List ℕ) → IsAscii (front ++ rest) → IsAscii front
-front_ascii front rest a = subst IsAscii (take_at front rest (length front) refl)
-    (IsAscii-take (front ++ rest) (length front) a)
-
-front_own : (word front : List ℕ) → IsAscii word → begins word front ≡ true → IsAscii front
-front_own word front a h = front_ascii front _
-    (subst IsAscii ((starts_is Decides-eqb word front (begins word front) refl).0 h) a)
-
-pub begins-chars : (word text : List ℕ) → IsAscii word → IsUtf8 text →
-    begins word text ≡ begins word (chars text)
-begins-chars word text a u = grind (
-  arith,
-  front_own word text a,
-  front_own word (chars text) a,
-  chars-IsAscii text,
-  own_bytes text u,
-)
 
 -- `#x` and digits
 

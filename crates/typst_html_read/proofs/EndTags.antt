@@ -8,7 +8,7 @@ use Rattle.std.proofs.lemmas.List.{length-append}
 use Rattle.std.proofs.lemmas.List.Folds.{list_all-append}
 use Rattle.std.proofs.lemmas.Slice.Eq.{bytes_eq-Decides}
 use lib.Utf8.{encodes}
-use Rattle.html_names.specs.Characters.{IsOf, all, is_tag_char}
+use Rattle.html_names_core.specs.Characters.{is_tag_char}
 use Rattle.html_dom_tree.specs.Tree.{TextPair}
 use Rattle.html_dom_tree.specs.PlainTree.{Plains}
 use Rattle.typst_html_encode.specs.Reader.{Open, ReaderState, Content, Less, EndName, add_text, with_text, complete}
@@ -130,16 +130,6 @@ left_none text (p ∷ ps) held new e k = absurd cc
 pub no_text : (stack : List Open) → stack ≡ add_text [] stack
 no_text [] = refl
 no_text (o ∷ os) = refl
-
--- names of elements are names of tags
-
-pub all_listed : (p : ℕ → Bool) (cs : List ℕ) → all p cs ≡ true → list_all p cs ≡ true
-all_listed p [] h = refl
-all_listed p (c ∷ cs) h = grind (arith, all_listed p cs)
-
-pub name_listed : (name : List ℕ) → IsOf is_tag_char name → list_all is_tag_char name ≡ true
-name_listed [] h = elim h [ ]
-name_listed (c ∷ cs) h = and_from _ _ h.0 (all_listed is_tag_char cs h.1)
 
 pub some_weaker : {A : Type 0} (No : Type 0) (P Q : A → Type 0) (r : Option A) →
     MatchOption r No P → ((x : A) → P x → Q x) → IfSome r Q

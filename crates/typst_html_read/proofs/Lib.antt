@@ -1,11 +1,9 @@
 pub mod BegunReferences
-pub mod Closings
 pub mod EndTags
 pub mod Loops
 pub mod Names
 pub mod Normal
 pub mod Numbers
-pub mod Places
 pub mod Plain
 pub mod ReadLaws
 pub mod References
@@ -13,4 +11,3 @@ pub mod Refusals
 pub mod Stacks
 pub mod Steps
 pub mod Stretches
-pub mod Words

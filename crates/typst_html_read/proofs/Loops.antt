@@ -6,10 +6,10 @@ use Rattle.std.proofs.lemmas.Bool.{cases_Bool}
 use Rattle.std.proofs.lemmas.List.{take-append-drop}
 use Rattle.std.proofs.lemmas.Slice.Eq.{bytes_eq-Decides}
 use lib.Utf8.{encodes}
-use Rattle.html_names.specs.Names.{is_ascii}
+use Rattle.html_names_core.specs.Names.{is_ascii}
 use Rattle.typst_html_encode.specs.Reader.{ReaderState, Stop}
 use Rattle.typst_html_read.specs.LimitedReading.{next_state, begins_deep, deep_places, is_stop, stop_place}
-use Rattle.typst_html_read.proofs.Words.{word_before}
+use Rattle.html_text.proofs.Words.{word_before}
 
 pub deep_later : (limit before : ℕ) (s : ReaderState) (c : ℕ) (cs : List ℕ) →
     begins_deep limit s c ≡ false →

@@ -10,7 +10,7 @@ use Rattle.std.proofs.lemmas.Slice.Eq.{bytes_eq-Decides}
 use Rattle.std.proofs.lemmas.Str.{encodes-chars, encodes-IsAscii}
 use lib.Utf8.{scalar, scalar_fits, encodes}
 use Rattle.typst_html_encode.specs.References.{numbered_char}
-use Rattle.html_names.proofs.Digits.{chars-digits, digits_ascii}
+use Rattle.html_names_core.proofs.Digits.{chars-digits, digits_ascii}
 
 pub no_plus : (ds : List ℕ) → AllDigits 16 ds → without_leading_plus ds ≡ ds
 no_plus [] h = refl

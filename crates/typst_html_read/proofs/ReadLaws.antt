@@ -3,9 +3,9 @@ use Rattle.std.proofs.Common.{◌≡◌, arith, ℕ, Bool, true, false, ◌&&◌
 use Rattle.std.specs.Prelude.{if◌then◌else◌, is_none}
 use Rattle.std.specs.List.{list_all}
 use Rattle.std.proofs.lemmas.Bool.{cases_Bool}
-use Rattle.html_names.specs.Names.{tag_fault, attr_fault}
-use Rattle.html_names.proofs.Faults.{valid_attr, valid_tag}
-use Rattle.html_names.proofs.Basics.{none_from_is_none}
+use Rattle.html_names_core.specs.Names.{tag_fault, attr_fault}
+use Rattle.html_names_core.proofs.Faults.{valid_attr, valid_tag}
+use Rattle.html_names_core.proofs.Basics.{none_from_is_none}
 use Rattle.html_dom_tree.specs.FrameFree.{NodeIsFrameFree, NodesAreFrameFree, ElementIsFrameFree}
 use Rattle.html_dom_tree.specs.PlainTree.{Plain, words, branch, Plains, no_plains, plain, element_normal}
 use Rattle.html_dom_tree.specs.Tree.{TextPair, ElementView}

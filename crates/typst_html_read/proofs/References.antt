@@ -4,7 +4,7 @@ use Rattle.std.specs.Str.{IsUtf8}
 use Rattle.std.proofs.lemmas.Bool.Decides.{nat_tests}
 use lib.Utf8.{encodes}
 use Rattle.typst_html_encode.specs.References.{numbered_char, reference_by_number, reference}
-use Rattle.typst_html_read.proofs.Words.{chars_after_word, word_before, word_is_not}
+use Rattle.html_text.proofs.Words.{chars_after_word, word_before, word_is_not}
 
 pub by_number : (w ds : List ℕ) → w ≡ 35 ∷ 120 ∷ ds → reference (chars w) ≡ numbered_char (chars ds)
 by_number w ds e = ap reference (chars_after_word (35 ∷ 120 ∷ []) w ds refl e)

@@ -9,10 +9,10 @@ use Rattle.std.proofs.lemmas.Bool.{and_parts, false≢true, not-true}
 use Rattle.std.proofs.lemmas.Bool.Decides.{nat_tests}
 use Rattle.std.proofs.lemmas.List.{take-append-drop}
 use Rattle.std.proofs.lemmas.List.Folds.{list_all-append}
-use Rattle.std.proofs.lemmas.Str.{chars-append, chars-IsAscii, encode_ascii, encodes-chars, IsCharBoundary-from_take, IsUtf8-from_ascii, IsUtf8-take}
+use Rattle.std.proofs.lemmas.Str.{chars-append, encode_ascii, encodes-chars, IsUtf8-take}
 use Rattle.std.proofs.lemmas.Str.Ascii.{IsAscii-nil, IsAscii-cons}
 use lib.Utf8.{encode, encodes}
-use Rattle.html_names.specs.Characters.{is_tag_char, is_attr_char}
+use Rattle.html_names_core.specs.Characters.{is_tag_char, is_attr_char}
 use Rattle.html_dom_tree.specs.Tree.{TextPair, ElementView}
 use Rattle.html_dom_tree.specs.declared.node.HtmlElement.{HtmlElement}
 use Rattle.typst_html_encode.specs.Reader.{Open, ReaderState, Content, Reference, Value, ValueReference, StartName, AttrName, Less, Stop, final_root}
@@ -74,16 +74,6 @@ pub names_ascii : (bs : List ℕ) → list_all is_tag_char bs ≡ true → IsAsc
 names_ascii [] h = IsAscii-nil
 names_ascii (b ∷ bs) h =
     IsAscii-cons b bs (tag_small b (grind arith)) (names_ascii bs (grind arith))
-
-pub name_bytes : IsByBytes is_tag_char
-name_bytes = record {
-  all = λ bs u h. ap (list_all is_tag_char) (chars-IsAscii bs (names_ascii bs h)) ∙ h;
-}
-
-pub name_cut : (text : List ℕ) (at : ℕ) → IsUtf8 text → at ≤ length text →
-    list_all is_tag_char (take at text) ≡ true → IsCharBoundary text at
-name_cut text at u within h = IsCharBoundary-from_take text at u within
-    (IsUtf8-from_ascii (take at text) (names_ascii (take at text) h))
 
 -- what is read of a stretch
 

@@ -1,8 +1,9 @@
 -- Beginnings of the references that are read: what may stand between `&` and `;`.
 use Rattle.std.specs.Prelude.{ℕ, Bool, false, not, ◌&&◌, ◌||◌, ◌==◌, nat_lt, nat_le, List, [], ◌∷◌, ◌++◌, codes, slice_index}
-use Rattle.std.specs.List.{list_all, starts_with}
+use Rattle.std.specs.List.{list_all}
 use Rattle.std.specs.Str.Parse.{digits_value}
-use Rattle.html_names.specs.Characters.{is_digit}
+use Rattle.html_names_core.specs.Characters.{is_digit}
+pub use Rattle.html_text.specs.Words.{begins}
 
 -- a small hexadecimal digit
 abbrev pub is_small_digit : ℕ → Bool
@@ -19,10 +20,6 @@ abbrev pub begins_number : List ℕ → Bool
 begins_number [] = false
 begins_number (x ∷ []) = false
 begins_number (x ∷ y ∷ ds) = x == 35 && (y == 120 && begins_digits ds)
-
--- the word begins with these characters
-abbrev pub begins : (word : List ℕ) → List ℕ → Bool
-begins word cs = starts_with ◌==◌ word cs
 
 -- a reference that `reference` reads begins with these characters
 unfoldable pub begins_reference : List ℕ → Bool

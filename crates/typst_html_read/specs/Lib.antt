@@ -3,10 +3,8 @@ pub mod EndTags
 pub mod Endings
 pub mod LimitedReading
 pub mod OpenViews
-pub mod Places
 pub mod PlainElements
 pub mod PlainViews
-pub mod RawEnds
 pub mod ReadFaults
 pub mod ReadLaws
 pub mod ReaderViews

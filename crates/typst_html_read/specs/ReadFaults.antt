@@ -1,7 +1,7 @@
 -- The meaning of a fault of reading, and its number.
 use Rattle.std.specs.Prelude.{◌≡◌, ℕ, List, [], ◌∷◌, Option, None}
 use Rattle.html_dom_tree.specs.Tree.{ElementView}
-use Rattle.typst_html_read.specs.Places.{place_at}
+use Rattle.html_text.specs.Places.{place_at}
 use Rattle.typst_html_read.specs.declared.fault.ReadFault.{ReadFault}
 use Rattle.typst_html_read.specs.declared.fault.ReadFault.TheVariants.{OutOfMemory, TooDeep, Syntax}
 

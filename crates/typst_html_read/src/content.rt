@@ -12,7 +12,7 @@ use crate::open::OpenElement;
 use crate::reader::{Mode, Reader};
 use crate::reference::{extend, reference};
 use html_dom_tree::text::{add, empty, take};
-use html_names::charsets::is_valid_in_tag_name;
+use html_names_core::charsets::is_valid_in_tag_name;
 use std::alloc::AllocError;
 
 impl Reader {

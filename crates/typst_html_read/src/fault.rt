@@ -3,8 +3,8 @@
 ghost use Rattle.std.specs.Prelude.{◌≡◌};
 ghost use Rattle.typst_html_read.specs.ReadFaults.{number_of};
 
-use crate::place::Place;
-use html_names::Refused;
+use html_names_core::Refused;
+use html_text::Place;
 use std::alloc::{AllocError, AllocFailed};
 use thiserror::Error;
 

@@ -7,7 +7,7 @@ ghost use Rattle.html_dom_tree.specs.Views.{element_view, node_view};
 ghost use Rattle.typst_html_read.specs.PlainViews.{IsPlain, element_is_set};
 
 use html_dom_tree::{HtmlAttrs, HtmlElement, HtmlNode, Span};
-use html_names::{HtmlTag, tag};
+use html_names_core::{HtmlTag, tag};
 use std::alloc::{AllocError, Global};
 
 /// An open element, with its children so far. All that a text does not spell is as in a new
@@ -32,7 +32,7 @@ impl OpenElement {
     ghost use Rattle.std.specs.Prelude.{◌==◌, bytes_eq, chars, get_or, []};
     ghost use Rattle.html_dom_tree.specs.PlainTree.{no_plains};
     ghost use Rattle.html_dom_tree.specs.Views.{attrs_view, text_view};
-    ghost use Rattle.html_names.specs.Kinds as kinds;
+    ghost use Rattle.html_names_core.specs.Kinds as kinds;
     ghost use Rattle.typst_html_encode.specs.Reader.{with_text};
     ghost use Rattle.typst_html_read.specs.OpenViews.{open_of, with_child};
     ghost use Rattle.typst_html_read.specs.PlainElements.{plain_element};
@@ -66,7 +66,7 @@ impl OpenElement {
         add_node(&mut self.element, HtmlNode::from(child.element))
     }
 
-    #[tactic(auto, using(html_names::proofs::Lists::in_characters))]
+    #[tactic(auto, using(html_names_core::proofs::Lists::in_characters))]
     pub(crate) fn is_named(&self, name: &str) -> bool
         ensures { result ≡ bytes_eq (chars name.now) (open_of self.now).name }
     {

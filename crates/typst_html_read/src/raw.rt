@@ -5,9 +5,9 @@ ghost use Rattle.typst_html_read.specs.LimitedReading.{next_state};
 ghost use Rattle.typst_html_read.specs.ReaderViews.{reader_state};
 ghost use Rattle.typst_html_read.specs.declared.reader.Mode.TheVariants as mode;
 
-use crate::closing::end_of;
 use crate::reader::{Mode, Reader};
 use html_dom_tree::text::{add, take};
+use html_text::end_of;
 use std::alloc::AllocError;
 
 impl Reader {

@@ -5,13 +5,13 @@ ghost use Rattle.typst_html_encode.specs.Reader.{Outside, final_root, read, run}
 ghost use Rattle.typst_html_read.specs.Endings.{Gives};
 ghost use Rattle.typst_html_read.specs.LimitedReading.{deep_places, stop_place, too_deep, unread};
 ghost use Rattle.typst_html_read.specs.PlainElements.{accepted};
-ghost use Rattle.typst_html_read.specs.Places.{place_at};
+ghost use Rattle.html_text.specs.Places.{place_at};
 
 use crate::fault::ReadFault;
-use crate::place::{common_length, place_at};
 use crate::reader::Reader;
 use html_dom_tree::HtmlElement;
 use html_dom_tree::text::split_first;
+use html_text::{common_length, place_at};
 use std::alloc::Global;
 
 const DOCUMENT_TYPE: &str = "<!DOCTYPE html>";

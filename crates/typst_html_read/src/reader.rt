@@ -10,8 +10,8 @@ ghost use Rattle.typst_html_read.specs.ReaderViews.{reader_state};
 use crate::open::OpenElement;
 use crate::stack::Stack;
 use html_dom_tree::HtmlAttrs;
-use html_names::charsets::is_valid_in_tag_name;
-use html_names::{HtmlAttr, HtmlTag, attr, tag};
+use html_names_core::charsets::is_valid_in_tag_name;
+use html_names_core::{HtmlAttr, HtmlTag, attr, tag};
 use std::alloc::{AllocError, Global};
 
 /// The position of a reader in the syntax.

@@ -1,14 +1,14 @@
 //! Character references.
 
-ghost use Rattle.std.specs.Prelude.{◌≡◌, ◌==◌, ◌∷◌, ◌++◌, [], chars, slice_index, IfOk, OnOk, IsTrue, true, nat_lt};
+ghost use Rattle.std.specs.Prelude.{◌≡◌, ◌==◌, ◌∷◌, ◌++◌, [], chars, slice_index, IfOk, OnOk, true, nat_lt};
 ghost use Rattle.std.specs.List.{list_all};
 ghost use Rattle.std.specs.Str.Parse.{digits_value};
 ghost use Rattle.html_dom_tree.specs.Views.{text_view};
-ghost use Rattle.html_names.specs.Names.{is_ascii};
 ghost use Rattle.typst_html_encode.specs.References as definition;
 ghost use Rattle.typst_html_read.specs.BegunReferences as begun;
 
 use html_dom_tree::text::add;
+use html_text::begins;
 use std::alloc::{AllocError, Global};
 
 /// Returns the character whose number has exactly this spelling in small hexadecimal digits, unless
@@ -98,14 +98,6 @@ fn begins_digits(digits: &str) -> bool
         return false;
     }
     is_number_of_char(digits)
-}
-
-/// Returns whether an ASCII word begins with the text.
-pub fn begins(word: &str, text: &str) -> bool
-    requires { IsTrue (is_ascii word.now) }
-    ensures { result ≡ begun.begins word.now (chars text.now) }
-{
-    word.starts_with(text)
 }
 
 /// Returns whether a text is `#x` followed by digits that the number of a character begins with.

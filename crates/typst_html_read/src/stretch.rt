@@ -3,13 +3,13 @@
 
 ghost use Rattle.std.specs.Prelude.{◌≡◌, ◌<◌, ◌++◌, [], chars, IfOk, true};
 ghost use Rattle.html_dom_tree.specs.Views.{text_view};
-ghost use Rattle.html_names.specs.Characters.{is_tag_char};
+ghost use Rattle.html_names_core.specs.Characters.{is_tag_char};
 ghost use Rattle.typst_html_read.specs.ReaderViews.{reader_state};
 ghost use Rattle.typst_html_read.specs.Stretches.{Adds, all_grow, continues, is_plain, ReadsOn, Splits};
 
 use crate::reader::{Mode, Reader};
 use html_dom_tree::text::add_text;
-use html_names::charsets::is_valid_in_tag_name;
+use html_text::cut_tag_name;
 use std::alloc::AllocError;
 
 fn is_plain(end: u8, byte: u8) -> bool
@@ -35,12 +35,7 @@ fn split_plain(end: u8, text: &str) -> (&str, &str)
 fn split_name(text: &str) -> (&str, &str)
     ensures { Splits is_tag_char (chars text.now) (chars result.0.now) (chars result.1.now) }
 {
-    let bytes = text.as_bytes();
-    let mut at = 0;
-    while at < bytes.len() && is_valid_in_tag_name(char::from(bytes[at])) {
-        at += 1;
-    }
-    text.split_at(at)
+    cut_tag_name(text)
 }
 
 /// Splits a text after the name or number of one of the most frequent references, if it begins

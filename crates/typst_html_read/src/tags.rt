@@ -1,7 +1,7 @@
 //! Reading start tags.
 
 ghost use Rattle.std.specs.Prelude.{◌≡◌, OnOk, IfOk, MatchOption, chars, true, is_some, None};
-ghost use Rattle.html_names.specs.Names.{tag_fault, attr_fault};
+ghost use Rattle.html_names_core.specs.Names.{tag_fault, attr_fault};
 ghost use Rattle.html_dom_tree.specs.PlainTree.{no_plains};
 ghost use Rattle.html_dom_tree.specs.Views.{attrs_view, text_view};
 ghost use Rattle.typst_html_encode.specs.Reader as reader;
@@ -15,8 +15,8 @@ use crate::reader::{Mode, Reader};
 use crate::reference::{extend, reference};
 use html_dom_tree::HtmlAttrs;
 use html_dom_tree::text::{add, begin, empty, take};
-use html_names::charsets::{is_valid_in_attribute_name, is_valid_in_tag_name};
-use html_names::{HtmlAttr, HtmlTag, NameFault, attr, tag};
+use html_names_core::charsets::{is_valid_in_attribute_name, is_valid_in_tag_name};
+use html_names_core::{HtmlAttr, HtmlTag, NameFault, attr, tag};
 use std::alloc::{AllocError, Global};
 use std::mem;
 
@@ -43,7 +43,7 @@ fn attr_named(alloc: Global, text: &str) -> Result<Option<HtmlAttr>, AllocError>
 }
 
 /// Returns whether a line feed is dropped after the start tag.
-#[tactic(auto, unfolding(html_names::specs::Tables::known_tags, typst_html_encode::specs::Reader::drops_feed))]
+#[tactic(auto, unfolding(html_names_core::specs::Tables::known_tags, typst_html_encode::specs::Reader::drops_feed))]
 fn drops_feed(tag: &HtmlTag) -> bool
     ensures { result ≡ reader.drops_feed tag.now }
 {

@@ -1,6 +1,6 @@
 -- Atoms between others: lists one after the other, and collapsing by context.
 use Rattle.std.proofs.Common.{◌≡◌, Bool, false, List, [], ◌∷◌, ◌++◌, refl, ap, ◌∙◌, append_assoc}
-use Rattle.typst_html_encode.specs.Collapsing.{Atom, ignorable, collapsible, border, is_supported_by, then_supports, atom_pieces, atoms_pieces, merged_edges, collapsed_pieces}
+use Rattle.html_dom_shown.specs.Collapsing.{Atom, ignorable, collapsible, border, is_supported_by, then_supports, atom_pieces, atoms_pieces, merged_edges, collapsed_pieces}
 use Rattle.typst_html_spaces.specs.AtomContexts.{supports_or, support_at, support_past, pieces_between, AtomStays, AtomsStay, own_piece, own_pieces, CollapsesByContext, PiecesOfBoth}
 
 pub support_at-append : (xs ys : List Atom) (after : Bool) →

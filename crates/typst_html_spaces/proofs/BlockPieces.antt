@@ -1,12 +1,12 @@
 -- A block: a lone element stands for it with a border of its own, and other nodes get a `div`.
 use Rattle.std.proofs.Common.{◌≡◌, ℕ, Bool, false, cond, List, [], ◌∷◌, ◌++◌, map, Some, inl, inr, refl, ap, ◌∙◌, append-nil}
 use Rattle.std.proofs.lemmas.Bool.{cases_Bool, true≢false}
-use Rattle.html_names.specs.Displays.{default_display}
-use Rattle.html_names.specs.Kinds.{is_replaced, is_line_break}
-use Rattle.html_names.specs.Names.{stands_in}
+use Rattle.html_names_core.specs.Displays.{default_display}
+use Rattle.html_names_core.specs.Kinds.{is_replaced, is_line_break}
+use Rattle.html_names_core.specs.Names.{stands_in}
 use Rattle.html_dom_tree.specs.Styled.{styled_attrs}
 use Rattle.html_dom_tree.specs.Tree.{Head, NodeView, tag_node, text_node, element_node, frame_node, NodesView}
-use Rattle.typst_html_encode.specs.Collapsing.{Piece, has_border}
+use Rattle.html_dom_shown.specs.Collapsing.{Piece, has_border}
 use Rattle.html_flow_convert.specs.LoneNode.{DisplayChangeView, node_with_display, css_with_display, node_list, lone_node, block_change, block_head, block_nodes}
 use Rattle.typst_html_spaces.specs.AtomContexts.{SameButEdges}
 use Rattle.typst_html_spaces.specs.DeepNodes.{HoldsOf}

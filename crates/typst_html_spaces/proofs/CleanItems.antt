@@ -1,9 +1,9 @@
 -- Clean items of plain flow become nodes without a fault.
 use Rattle.std.proofs.Common.{◌≡◌, ℕ, true, false, not, ◌&&◌, ◌||◌, ◌==◌, List, [], ◌∷◌, Option, None, Some, inl, inr, refl, ◌∙◌, sym, codes}
 use Rattle.std.proofs.lemmas.Bool.{cases_Bool, false≢true, and_parts, or_cases}
-use Rattle.html_names.specs.Characters.{all, is_text_char}
-use Rattle.html_names.specs.Kinds.{is_void}
-use Rattle.html_names.specs.Names.{stands_in}
+use Rattle.html_names_core.specs.Characters.{all, is_text_char}
+use Rattle.html_names_core.specs.Kinds.{is_void}
+use Rattle.html_names_core.specs.Names.{stands_in}
 use Rattle.html_flow_convert.specs.Nodes.{is_one}
 use Rattle.html_flow_convert.specs.Pieces.{PieceView, stretch, alone, line_break, is_in_stretch, in_stretch, pieces_after, piece_node}
 use Rattle.html_flow_convert.specs.Converted.{RoleText, item_role, passes_role, role_pairs, element_head, body_level, body_whitespace, body_role, text_item_nodes, body_nodes, converted_nodes}

@@ -1,9 +1,9 @@
 -- Nodes that have no fault at any depth.
 use Rattle.std.proofs.Common.{◌≡◌, ℕ, Bool, true, false, not, ◌&&◌, ◌||◌, ◌==◌, List, [], ◌∷◌, ◌++◌, None, inl, inr, refl, ap, ◌∙◌, codes}
 use Rattle.std.proofs.lemmas.Bool.{cases_Bool, false≢true, and_parts}
-use Rattle.html_names.specs.Characters.{all, is_text_char}
-use Rattle.html_names.specs.Kinds.{is_void}
-use Rattle.html_names.specs.Texts.{TextPair}
+use Rattle.html_names_core.specs.Characters.{all, is_text_char}
+use Rattle.html_names_core.specs.Kinds.{is_void}
+use Rattle.html_names_core.specs.Texts.{TextPair}
 use Rattle.html_dom_tree.specs.Attributes.{first}
 use Rattle.html_dom_tree.specs.Styled.{styled_attrs, head_with_style, styled_nodes}
 use Rattle.html_dom_tree.specs.Tree.{Head, tag_node, text_node, element_node, frame_node, NodesView, none, node}

@@ -2,15 +2,15 @@
 use Rattle.std.proofs.Common.{◌≡◌, ◌⊎◌, ℕ, Bool, true, false, not, ◌&&◌, ◌||◌, List, Option, Some, inl, inr, refl, ap, ◌∙◌, sym, codes, bytes_eq}
 use Rattle.std.proofs.lemmas.Bool.{cases_Bool, false≢true, and_parts, or_cases, not-true, false_from_ne_true}
 use Rattle.std.proofs.lemmas.Slice.Eq.{bytes_eq-Decides}
-use Rattle.html_names.specs.Displays.{default_display}
-use Rattle.html_names.specs.Kinds.{is_replaced, is_mathml, mathml_names, is_token, is_metadata_content, metadata_content_names, shows_border}
-use Rattle.html_names.specs.Names.{stands_in}
-use Rattle.html_names.specs.declared.property.Display.{Display}
-use Rattle.html_names.specs.declared.property.Display.TheVariants as display
-use Rattle.html_names.proofs.Basics.{implied}
+use Rattle.html_names_core.specs.Displays.{default_display}
+use Rattle.html_names_core.specs.Kinds.{is_replaced, is_mathml, mathml_names, is_token, is_metadata_content, metadata_content_names, shows_border}
+use Rattle.html_names_core.specs.Names.{stands_in}
+use Rattle.html_names_core.specs.declared.property.Display.{Display}
+use Rattle.html_names_core.specs.declared.property.Display.TheVariants as display
+use Rattle.html_names_core.proofs.Basics.{implied}
 use Rattle.html_dom_tree.specs.Styled.{styled_attrs, head_with_style, styled_node, styled_nodes}
 use Rattle.html_dom_tree.specs.Tree.{Head, tag_node, text_node, element_node, frame_node, NodesView, none, node}
-use Rattle.typst_html_encode.specs.Collapsing.{has_border_display}
+use Rattle.html_dom_shown.specs.Collapsing.{has_border_display}
 use Rattle.typst_html_encode.specs.IndentsCollapse.{HeadIsEdged, NodesAreEdged}
 use Rattle.typst_html_encode.specs.Layout.{is_of_lines, allows_pretty_inside, wants_pretty_around}
 use Rattle.html_flow_convert.specs.Converted.{RoleText, converted_nodes}

@@ -1,6 +1,6 @@
 -- Pieces that are the same but for neighbouring edges.
 use Rattle.std.proofs.Common.{◌≡◌, Bool, true, false, List, [], ◌∷◌, ◌++◌, refl, ap, ◌∙◌, sym, append_assoc}
-use Rattle.typst_html_encode.specs.Collapsing.{Piece, edge, merged_edges}
+use Rattle.html_dom_shown.specs.Collapsing.{Piece, edge, merged_edges}
 use Rattle.typst_html_spaces.specs.AtomContexts.{ends_in_edge, SameButEdges}
 use Rattle.typst_html_spaces.specs.ItemText.{between_edges}
 use Rattle.typst_html_spaces.proofs.OwnPieces.{edged}

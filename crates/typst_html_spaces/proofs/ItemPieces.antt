@@ -1,14 +1,14 @@
 -- The nodes of items in plain flow, if their atoms stay, are seen as the items' text.
 use Rattle.std.proofs.Common.{◌≡◌, ℕ, true, false, not, List, [], ◌∷◌, ◌++◌, codes, None, inl, inr, refl, ◌∙◌, sym, append-nil}
 use Rattle.std.proofs.lemmas.Bool.{cases_Bool, and_parts, not-true, true≢false}
-use Rattle.html_names.specs.Displays.{default_display}
-use Rattle.html_names.specs.Kinds.{is_replaced, is_line_break, shows_border}
-use Rattle.html_names.specs.Names.{stands_in}
-use Rattle.html_names.specs.Texts.{TextPair}
+use Rattle.html_names_core.specs.Displays.{default_display}
+use Rattle.html_names_core.specs.Kinds.{is_replaced, is_line_break, shows_border}
+use Rattle.html_names_core.specs.Names.{stands_in}
+use Rattle.html_names_core.specs.Texts.{TextPair}
 use Rattle.html_dom_tree.specs.Attributes.{first}
 use Rattle.html_dom_tree.specs.Tree.{NodeView, element_node, NodesView, none}
 use Rattle.html_dom_tree.specs.Views.{nodes_of}
-use Rattle.typst_html_encode.specs.Collapsing.{Piece, char, thing, line, has_border}
+use Rattle.html_dom_shown.specs.Collapsing.{Piece, char, thing, line, has_border}
 use Rattle.html_flow_convert.specs.Converted.{RoleText, item_role, element_head, body_role, body_level, body_whitespace, item_nodes, items_nodes, body_nodes, converted_nodes}
 use Rattle.html_flow_convert.specs.Items.{ElemHead, ItemView, tag_item, element_item, space_item, text_item, hole_item, break_item, block_item, ItemsView, no_items, item, BodyView, absent, present}
 use Rattle.html_flow_convert.specs.declared.convert.ConversionLevel.{ConversionLevel}

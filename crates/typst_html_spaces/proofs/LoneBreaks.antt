@@ -2,11 +2,11 @@
 use Rattle.std.proofs.Common.{◌≡◌, ◌⊎◌, ℕ, Bool, true, false, ◌==◌, cond, List, [], ◌∷◌, ◌++◌, map, codes, Some, inl, inr, refl, ap, ◌∙◌, sym, eqb-true}
 use Rattle.std.specs.List.{filter}
 use Rattle.std.proofs.lemmas.Bool.{cases_Bool, false≢true}
-use Rattle.html_names.specs.Kinds.{is_line_break}
-use Rattle.html_names.specs.Names.{stands_in}
+use Rattle.html_names_core.specs.Kinds.{is_line_break}
+use Rattle.html_names_core.specs.Names.{stands_in}
 use Rattle.html_dom_tree.specs.Tree.{Head, NodeView, tag_node, text_node, element_node, frame_node, NodesView, none, node}
 use Rattle.html_dom_tree.specs.Views.{nodes_of}
-use Rattle.typst_html_encode.specs.Collapsing.{Piece, char, thing, line, edge}
+use Rattle.html_dom_shown.specs.Collapsing.{Piece, char, thing, line, edge}
 use Rattle.html_flow_convert.specs.BareSpaces.{bare_spaces}
 use Rattle.html_flow_convert.specs.Pieces.{PieceView, line_break, piece_node, pieces}
 use Rattle.html_flow_convert.specs.Runs.{is_blank_node, are_kept, run_nodes, nodes_with_runs}

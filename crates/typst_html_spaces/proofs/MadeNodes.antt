@@ -1,9 +1,9 @@
 -- Each element that items of plain flow become is made as conversion makes elements.
 use Rattle.std.proofs.Common.{◌≡◌, ℕ, true, false, not, [], refl, codes}
 use Rattle.std.proofs.lemmas.Bool.{false≢true, and_parts}
-use Rattle.html_names.specs.Displays.{default_display}
-use Rattle.html_names.specs.Kinds.{is_replaced, shows_border}
-use Rattle.html_names.specs.Names.{stands_in}
+use Rattle.html_names_core.specs.Displays.{default_display}
+use Rattle.html_names_core.specs.Kinds.{is_replaced, shows_border}
+use Rattle.html_names_core.specs.Names.{stands_in}
 use Rattle.html_dom_tree.specs.Tree.{NodesView}
 use Rattle.html_flow_convert.specs.Nodes.{made_head, pre_wrap_head}
 use Rattle.html_flow_convert.specs.Converted.{RoleText, body_whitespace, body_nodes, converted_nodes}

@@ -1,10 +1,10 @@
 -- Nodes of plain flow can be read back.
 use Rattle.std.proofs.Common.{◌≡◌, ℕ, true, false, List, codes, bytes_eq, refl, ap, ◌∙◌}
 use Rattle.std.proofs.lemmas.Bool.{both_ways, false_from_ne_true}
-use Rattle.html_names.specs.Displays.{default_display}
-use Rattle.html_names.specs.Kinds.{is_replaced, is_raw}
-use Rattle.html_names.specs.Names.{stands_in}
-use Rattle.html_names.proofs.Basics.{bytes_eq-same}
+use Rattle.html_names_core.specs.Displays.{default_display}
+use Rattle.html_names_core.specs.Kinds.{is_replaced, is_raw}
+use Rattle.html_names_core.specs.Names.{stands_in}
+use Rattle.html_names_core.proofs.Basics.{bytes_eq-same}
 use Rattle.html_dom_tree.specs.Styled.{styled_nodes}
 use Rattle.html_dom_tree.specs.Tree.{NodesView}
 use Rattle.html_flow_convert.specs.Converted.{converted_nodes}

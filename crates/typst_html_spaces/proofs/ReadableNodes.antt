@@ -2,12 +2,12 @@
 use Rattle.std.proofs.Common.{◌≡◌, ℕ, Bool, true, false, ◌&&◌, cond, List, Some, codes, bytes_eq, refl}
 use Rattle.std.proofs.lemmas.Bool.{both_ways}
 use Rattle.std.specs.Prelude.{◌↔◌}
-use Rattle.html_names.specs.Kinds.{is_raw}
-use Rattle.html_names.specs.Names.{stands_in}
+use Rattle.html_names_core.specs.Kinds.{is_raw}
+use Rattle.html_names_core.specs.Names.{stands_in}
 use Rattle.html_dom_tree.specs.Styled.{styled_nodes}
 use Rattle.html_dom_tree.specs.Tree.{Head, tag_node, text_node, element_node, frame_node, NodesView, none, node}
+use Rattle.html_dom_shown.specs.Bodies.{body_children}
 use Rattle.typst_html_encode.specs.Indented.{NodeEndsWell, NodesEndWell}
-use Rattle.typst_html_encode.specs.IndentsCollapse.{body_children}
 use Rattle.typst_html_encode.specs.Layout.{is_pretty_inside}
 use Rattle.html_dom_tree.specs.FrameFree.{NodeIsFrameFree, NodesAreFrameFree}
 use Rattle.typst_html_spaces.specs.DeepNodes.{Wanted, HoldsOfAll, of_heads}

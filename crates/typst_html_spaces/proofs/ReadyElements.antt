@@ -3,20 +3,20 @@ use Rattle.std.proofs.Common.{◌≡◌, ℕ, Bool, true, false, not, cond, List
 use Rattle.std.specs.List.{list_all}
 use Rattle.std.proofs.lemmas.Bool.{cases_Bool, false≢true, or_left, or_right, not-true, false_from_ne_true}
 use Rattle.std.proofs.Math.Bool.{or-false}
-use Rattle.html_names.specs.Characters.{is_blank, is_ignorable}
-use Rattle.html_names.specs.Displays.{default_display}
-use Rattle.html_names.specs.Kinds.{is_replaced, is_line_break, is_raw, raw_names, is_escapable_raw, escapable_raw_names, is_foreign_self_closing, foreign_self_closing_names, shows_border, is_whitespace_collapsing}
-use Rattle.html_names.specs.Names.{stands_in}
-use Rattle.html_names.specs.Texts.{TextPair}
-use Rattle.html_names.proofs.Basics.{bytes_eq-same}
+use Rattle.html_names_core.specs.Characters.{is_blank, is_ignorable}
+use Rattle.html_names_core.specs.Displays.{default_display}
+use Rattle.html_names_core.specs.Kinds.{is_replaced, is_line_break, is_raw, raw_names, is_escapable_raw, escapable_raw_names, is_foreign_self_closing, foreign_self_closing_names, shows_border, is_whitespace_collapsing}
+use Rattle.html_names_core.specs.Names.{stands_in}
+use Rattle.html_names_core.specs.Texts.{TextPair}
+use Rattle.html_names_core.proofs.Basics.{bytes_eq-same}
 use Rattle.html_dom_tree.specs.Attributes.{first}
 use Rattle.html_dom_tree.specs.Styled.{styled_attrs, styled_node, styled_nodes}
 use Rattle.html_dom_tree.specs.Tree.{Head, NodeView, text_node, element_node, NodesView, none, node}
 use Rattle.html_dom_tree.specs.Views.{nodes_of}
+use Rattle.html_dom_shown.specs.Collapsing.{Atom, object, char_atom, text_atoms, preserves, has_border, element_atoms}
+use Rattle.html_dom_shown.proofs.NodeAtoms.{node_atoms, nodes_atoms}
 use Rattle.html_flow_convert.specs.BareSpaces.{is_border_element, makes_block, is_entered}
 use Rattle.html_flow_convert.specs.Runs.{nodes_with_runs}
-use Rattle.typst_html_encode.specs.Collapsing.{Atom, object, char_atom, text_atoms, preserves, has_border, element_atoms}
-use Rattle.typst_html_encode.proofs.NodeAtoms.{node_atoms, nodes_atoms}
 use Rattle.html_flow_convert.specs.Converted.{RoleText, is_preformatted, body_level, body_whitespace, body_role, element_head, items_nodes, body_nodes}
 use Rattle.html_flow_convert.specs.Items.{ElemHead, BodyView, absent, present}
 use Rattle.html_flow_convert.specs.declared.convert.ConversionLevel.TheVariants.{Block, Inline}

@@ -6,10 +6,10 @@ use Rattle.std.proofs.Math.Bool.{or-false}
 use Rattle.html_dom_tree.specs.Styled.{styled_nodes}
 use Rattle.html_dom_tree.specs.Tree.{NodeView, tag_node, text_node, is_tag}
 use Rattle.html_dom_tree.specs.Views.{nodes_of}
+use Rattle.html_dom_shown.specs.Collapsing.{Atom, kept, text_atoms}
+use Rattle.html_dom_shown.proofs.NodeAtoms.{nodes_atoms}
 use Rattle.html_flow_convert.specs.Nodes.{is_one}
 use Rattle.html_flow_convert.specs.Runs.{is_space, is_tab, is_blank_node, first_node_span, are_kept, run_nodes, nodes_with_runs}
-use Rattle.typst_html_encode.specs.Collapsing.{Atom, kept, text_atoms}
-use Rattle.typst_html_encode.proofs.NodeAtoms.{nodes_atoms}
 use Rattle.typst_html_spaces.proofs.Each.{Each}
 use Rattle.typst_html_spaces.proofs.EachRun.{IsInRun, of_each_run}
 use Rattle.typst_html_spaces.proofs.Walks.{Unseen, Ready, nothing_unseen}

@@ -2,9 +2,9 @@
 use Rattle.std.proofs.Common.{◌≡◌, false, ap, ◌∙◌}
 use Rattle.html_dom_tree.specs.Styled.{styled_nodes}
 use Rattle.html_dom_tree.specs.Tree.{NodesView}
-use Rattle.typst_html_encode.specs.Collapsing.{merged_edges, collapsed_pieces}
+use Rattle.html_dom_shown.specs.Collapsing.{merged_edges, collapsed_pieces}
+use Rattle.html_dom_shown.proofs.NodeAtoms.{nodes_atoms, normal_atoms}
 use Rattle.typst_html_encode.proofs.IndentsCollapse.{content_collapses}
-use Rattle.typst_html_encode.proofs.NodeAtoms.{nodes_atoms, normal_atoms}
 use Rattle.html_flow_convert.specs.Converted.{converted_nodes}
 use Rattle.html_flow_convert.specs.declared.convert.ConversionLevel.TheVariants.{Block}
 use Rattle.html_flow_convert.specs.declared.convert.Whitespace.TheVariants.{Normal}

@@ -2,11 +2,11 @@
 use Rattle.std.proofs.Common.{◌≡◌, ℕ, true, false, not, ◌&&◌, ◌==◌, List, [], ◌∷◌, ◌++◌, map, Option, None, Some, inl, inr, refl, ap, ◌∙◌, arith, append-nil}
 use Rattle.std.proofs.lemmas.Bool.{cases_Bool, and_parts, or_cases, not-true}
 use Rattle.std.proofs.lemmas.Bool.Decides.{nat_tests}
-use Rattle.html_names.specs.Characters.{is_blank, is_ignorable}
-use Rattle.html_names.specs.Names.{stands_in}
+use Rattle.html_names_core.specs.Characters.{is_blank, is_ignorable}
+use Rattle.html_names_core.specs.Names.{stands_in}
 use Rattle.html_dom_tree.specs.Tree.{NodeView}
 use Rattle.html_dom_tree.specs.Views.{nodes_of}
-use Rattle.typst_html_encode.specs.Collapsing.{Piece, char, line}
+use Rattle.html_dom_shown.specs.Collapsing.{Piece, char, line}
 use Rattle.html_flow_convert.specs.BareSpaces.{bare_spaces}
 use Rattle.html_flow_convert.specs.Nodes.{break_node}
 use Rattle.html_flow_convert.specs.Pieces.{PieceView, stretch, alone, line_break, is_normal, is_normal_there, first_char, is_in_stretch, in_stretch, is_carriage_return, outside_stretch, pieces_after, piece_node}

@@ -5,10 +5,10 @@ use Rattle.std.proofs.lemmas.Bool.{cases_Bool, false≢true, and_parts, and_righ
 use Rattle.html_dom_tree.specs.Styled.{styled_node, styled_nodes}
 use Rattle.html_dom_tree.specs.Tree.{NodeView}
 use Rattle.html_dom_tree.specs.Views.{nodes_of}
+use Rattle.html_dom_shown.specs.Collapsing.{Atom, collapsible, kept}
+use Rattle.html_dom_shown.proofs.NodeAtoms.{node_atoms, nodes_atoms}
 use Rattle.html_flow_convert.specs.BareSpaces.{Thing, border, visible, space, node_things, nodes_things}
 use Rattle.html_flow_convert.specs.Protected.{protected_nodes}
-use Rattle.typst_html_encode.specs.Collapsing.{Atom, collapsible, kept}
-use Rattle.typst_html_encode.proofs.NodeAtoms.{node_atoms, nodes_atoms}
 use Rattle.typst_html_spaces.specs.AtomContexts.{support_at, support_past, AtomsStay}
 use Rattle.typst_html_spaces.specs.LineContexts.{visible_at, line_past, node_between, nodes_between}
 use Rattle.typst_html_spaces.proofs.Each.{Each}

@@ -3,7 +3,7 @@
 use Rattle.std.specs.Prelude.{◌≡◌, ℕ, Bool, false, List, [], ◌∷◌, codes, None}
 use Rattle.html_dom_tree.specs.PlainTree.{nodes_normal}
 use Rattle.html_dom_tree.specs.Tree.{Head, NodesView}
-use Rattle.typst_html_encode.specs.Collapsing.{plains_atoms}
+use Rattle.html_dom_shown.specs.Collapsing.{plains_atoms}
 use Rattle.typst_html_encode.specs.IndentsCollapse.{NodesAreEdged}
 use Rattle.typst_html_spaces.specs.Changed.{Change, Changed}
 use Rattle.typst_html_spaces.specs.PlainNodes.{ArePlainNodes}

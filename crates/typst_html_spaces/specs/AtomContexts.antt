@@ -1,7 +1,7 @@
 -- Atoms that stand between others: one Boolean is enough for what stands before, and one for what
 -- stands after.
 use Rattle.std.specs.Prelude.{◌≡◌, Bool, true, false, List, [], ◌∷◌, ◌++◌, map}
-use Rattle.typst_html_encode.specs.Collapsing.{Atom, visible, ignorable, collapsible, kept, object, break, border, Piece, char, thing, line, edge, then_supports, atom_pieces, merged_edges, collapsed_pieces}
+use Rattle.html_dom_shown.specs.Collapsing.{Atom, visible, ignorable, collapsible, kept, object, break, border, Piece, char, thing, line, edge, then_supports, atom_pieces, merged_edges, collapsed_pieces}
 
 -- whether what stands at an atom or after it supports the blanks before, given whether what follows
 -- the atom does

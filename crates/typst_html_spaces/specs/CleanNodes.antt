@@ -2,9 +2,9 @@
 -- no void element has a child. So they can be written, with anchors too.
 use Rattle.std.specs.Prelude.{◌≡◌, ℕ, Bool, true, not, ◌==◌, List, [], Option, None, Some}
 use Rattle.std.specs.List.{list_all}
-use Rattle.html_names.specs.Characters.{all, is_text_char}
-use Rattle.html_names.specs.Kinds.{is_void}
-use Rattle.html_names.specs.Texts.{TextPair}
+use Rattle.html_names_core.specs.Characters.{all, is_text_char}
+use Rattle.html_names_core.specs.Kinds.{is_void}
+use Rattle.html_names_core.specs.Texts.{TextPair}
 use Rattle.html_dom_tree.specs.Tags.{TagView, starts, ends}
 use Rattle.html_dom_tree.specs.Tree.{Head, NodesView}
 use Rattle.typst_html_encode.specs.ExportFaults.{nodes_faults}

@@ -1,6 +1,6 @@
 -- Nodes of plain flow: elements of plain names alone, and no frame.
 use Rattle.std.specs.Prelude.{◌≡◌, ℕ, Bool, true, false, List, codes, bytes_eq}
-use Rattle.html_names.specs.Kinds.{is_raw}
+use Rattle.html_names_core.specs.Kinds.{is_raw}
 use Rattle.html_dom_tree.specs.Styled.{styled_nodes}
 use Rattle.html_dom_tree.specs.Tree.{NodesView}
 use Rattle.typst_html_encode.specs.Indented.{NodesEndWell}

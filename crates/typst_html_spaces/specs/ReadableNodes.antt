@@ -1,10 +1,10 @@
 -- Readable nodes: nodes without a raw element and without a frame, at any depth. So they can be
 -- read back, and stay readable with anchors.
 use Rattle.std.specs.Prelude.{◌≡◌, ◌↔◌, Bool, false, Some}
-use Rattle.html_names.specs.Kinds.{is_raw}
+use Rattle.html_names_core.specs.Kinds.{is_raw}
 use Rattle.html_dom_tree.specs.Tree.{NodesView}
+use Rattle.html_dom_shown.specs.Bodies.{body_children}
 use Rattle.typst_html_encode.specs.Indented.{NodesEndWell}
-use Rattle.typst_html_encode.specs.IndentsCollapse.{body_children}
 use Rattle.html_dom_tree.specs.FrameFree.{NodesAreFrameFree}
 use Rattle.typst_html_spaces.specs.Anchored.{Anchored, IsAny}
 use Rattle.typst_html_spaces.specs.DeepNodes.{HeadsAlone}

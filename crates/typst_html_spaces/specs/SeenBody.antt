@@ -1,14 +1,17 @@
 -- What is visible of the body of a document that is written and read.
-use Rattle.std.specs.Prelude.{◌≡◌, ℕ, true, false, List, [], Option, Some, None}
-use Rattle.html_names.specs.Kinds.{is_raw}
-use Rattle.html_dom_tree.specs.PlainTree.{Plain, words, branch, Plains, nodes_normal}
+use Rattle.std.specs.Prelude.{◌≡◌, ℕ, true, false, List, [], Option, Some}
+use Rattle.html_names_core.specs.Kinds.{is_raw}
+use Rattle.html_dom_tree.specs.PlainTree.{nodes_normal}
 use Rattle.html_dom_tree.specs.Styled.{styled_nodes}
 use Rattle.html_dom_tree.specs.Tree.{NodesView, ElementView}
-use Rattle.typst_html_encode.specs.Collapsing.{Piece, plains_atoms, collapsed_pieces}
+use Rattle.html_dom_shown.specs.Bodies.{body_children}
+pub use Rattle.html_dom_shown.specs.Bodies.{tree_body}
+use Rattle.html_dom_shown.specs.Collapsing.{Piece}
+pub use Rattle.html_dom_shown.specs.SeenBodies.{seen_plains, seen_body, seen_tree}
 use Rattle.typst_html_encode.specs.ExportFaults.{document_faults}
 use Rattle.typst_html_encode.specs.FrameWriters.{Frames}
 use Rattle.typst_html_encode.specs.Indented.{ElementEndsWell}
-use Rattle.typst_html_encode.specs.IndentsCollapse.{NodesAreEdged, body_children, body_in}
+use Rattle.typst_html_encode.specs.IndentsCollapse.{NodesAreEdged}
 use Rattle.typst_html_encode.specs.Reader.{read}
 use Rattle.html_dom_tree.specs.FrameFree.{ElementIsFrameFree}
 use Rattle.typst_html_encode.specs.ReadingBack.{ElementIsNamed}
@@ -20,23 +23,6 @@ use Rattle.html_flow_convert.specs.declared.convert.ConversionLevel.TheVariants.
 use Rattle.html_flow_convert.specs.declared.convert.Whitespace.TheVariants.{Normal}
 use Rattle.typst_html_spaces.specs.ItemText.{items_text}
 use Rattle.typst_html_spaces.specs.PlainFlow.{is_plain_flow}
-
--- the children of a tree's first child named `body`
-abbrev pub tree_body : Plain → Option Plains
-tree_body (words t) = None
-tree_body (branch name attrs kids) = body_in kids
-
-abbrev pub seen_plains : Plains → List Piece
-seen_plains ps = collapsed_pieces (plains_atoms false ps)
-
-abbrev pub seen_body : Option Plains → Option (List Piece)
-seen_body None = None
-seen_body (Some body) = Some (seen_plains body)
-
--- what is visible of the body of the tree that a text reads as
-abbrev pub seen_tree : Option Plain → Option (List Piece)
-seen_tree None = None
-seen_tree (Some tree) = seen_body (tree_body tree)
 
 abbrev pub seen_text : (text : List ℕ) → Option (List Piece)
 seen_text text = seen_tree (read text)

@@ -1,7 +1,7 @@
 -- Examples of items with their text, and of items that are no plain flow.
 use Rattle.std.specs.Prelude.{◌≡◌, ℕ, Bool, true, false, List, [], ◌∷◌, ◌++◌, map, codes, None}
 use Rattle.html_dom_tree.specs.Tags.{starts, ends}
-use Rattle.typst_html_encode.specs.Collapsing.{Piece, char, thing, line, edge}
+use Rattle.html_dom_shown.specs.Collapsing.{Piece, char, thing, line, edge}
 use Rattle.html_flow_convert.specs.Converted.{converted_nodes}
 use Rattle.html_flow_convert.specs.Items.{inherits, ItemView, tag_item, element_item, text_item, space_item, hole_item, break_item, box_item, block_item, ItemsView, no_items, item, absent, present, new_head}
 use Rattle.html_flow_convert.specs.declared.convert.ConversionLevel.TheVariants.{Block}

@@ -3,9 +3,9 @@
 use Rattle.std.specs.Prelude.{◌≡◌, ℕ, true, false, List}
 use Rattle.html_dom_tree.specs.PlainTree.{nodes_normal}
 use Rattle.html_dom_tree.specs.Styled.{styled_nodes}
-use Rattle.html_names.specs.Kinds.{is_raw}
+use Rattle.html_names_core.specs.Kinds.{is_raw}
 use Rattle.html_dom_tree.specs.Tree.{Head, NodesView}
-use Rattle.typst_html_encode.specs.Collapsing.{Piece, plains_atoms, collapsed_pieces}
+use Rattle.html_dom_shown.specs.Collapsing.{Piece, plains_atoms, collapsed_pieces}
 use Rattle.typst_html_encode.specs.Indented.{content_layout}
 use Rattle.html_flow_convert.specs.Converted.{RoleText, converted_nodes}
 use Rattle.html_flow_convert.specs.Items.{ItemsView}

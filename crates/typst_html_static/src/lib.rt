@@ -1,28 +1,28 @@
-//! The static library for C, and for languages that call C. It exports each call of `typst_html_c`
+//! The static library for C, and for languages that call C. It exports each call of `typst_html_ffi`
 //! under its name.
 #![tactic(auto)]
 
 ghost use Rattle.std.specs.Prelude.{◌≡◌};
-ghost use Rattle.typst_html_c.specs.CallReplies.{Replies, RepliesWith, call_dead_links, document_call_answer, write_answer};
-ghost use Rattle.typst_html_c.specs.DeadLinks.{dead_links_answer};
-ghost use Rattle.typst_html_c.specs.Fragments.{fragment_call_answer};
-ghost use Rattle.typst_html_c.specs.PageFindings.{check_report};
-ghost use Rattle.typst_html_c.specs.PageLinks.{links_report};
-ghost use Rattle.typst_html_c.specs.PageReports.{Reports};
-ghost use Rattle.typst_html_c.specs.Unused.{unused_call_answer};
+ghost use Rattle.typst_html_ffi.specs.CallReplies.{Replies, RepliesWith, call_dead_links, document_call_answer, write_answer};
+ghost use Rattle.typst_html_ffi.specs.DeadLinks.{dead_links_answer};
+ghost use Rattle.typst_html_ffi.specs.Fragments.{fragment_call_answer};
+ghost use Rattle.typst_html_ffi.specs.PageFindings.{check_report};
+ghost use Rattle.typst_html_ffi.specs.PageLinks.{links_report};
+ghost use Rattle.typst_html_ffi.specs.PageReports.{Reports};
+ghost use Rattle.typst_html_ffi.specs.Unused.{unused_call_answer};
 
 use std::alloc::Global;
-use typst_html_c::Reply;
+use typst_html_ffi::Reply;
 
-/// Calls [`typst_html_c::typst_html_version`].
+/// Calls [`typst_html_ffi::typst_html_version`].
 #[unsafe(no_mangle)]
 pub extern "C" fn typst_html_version() -> u32
-    ensures { result ≡ 7 }
+    ensures { result ≡ 8 }
 {
-    typst_html_c::typst_html_version()
+    typst_html_ffi::typst_html_version()
 }
 
-/// Calls [`typst_html_c::typst_html_write`].
+/// Calls [`typst_html_ffi::typst_html_write`].
 #[unsafe(no_mangle)]
 pub extern "C" fn typst_html_write(
     alloc: Global,
@@ -34,10 +34,10 @@ pub extern "C" fn typst_html_write(
     ensures answered { Replies (write_answer kind layout input.now) output.old result output.new }
     ensures kept { ¬ (result.status ≡ 0) → output.new ≡ output.old }
 {
-    typst_html_c::typst_html_write(alloc, kind, layout, input, output)
+    typst_html_ffi::typst_html_write(alloc, kind, layout, input, output)
 }
 
-/// Calls [`typst_html_c::typst_html_document`].
+/// Calls [`typst_html_ffi::typst_html_document`].
 #[unsafe(no_mangle)]
 pub extern "C" fn typst_html_document(
     alloc: Global,
@@ -51,10 +51,10 @@ pub extern "C" fn typst_html_document(
         (document_call_answer layout links limit input.now) output.old result output.new }
     ensures kept { ¬ (result.status ≡ 0) → ¬ (result.status ≡ 5) → output.new ≡ output.old }
 {
-    typst_html_c::typst_html_document(alloc, layout, links, limit, input, output)
+    typst_html_ffi::typst_html_document(alloc, layout, links, limit, input, output)
 }
 
-/// Calls [`typst_html_c::typst_html_fragment`].
+/// Calls [`typst_html_ffi::typst_html_fragment`].
 #[unsafe(no_mangle)]
 pub extern "C" fn typst_html_fragment(
     alloc: Global,
@@ -67,10 +67,10 @@ pub extern "C" fn typst_html_fragment(
         output.old result output.new }
     ensures kept { ¬ (result.status ≡ 0) → output.new ≡ output.old }
 {
-    typst_html_c::typst_html_fragment(alloc, level, limit, input, output)
+    typst_html_ffi::typst_html_fragment(alloc, level, limit, input, output)
 }
 
-/// Calls [`typst_html_c::typst_html_dead_links`].
+/// Calls [`typst_html_ffi::typst_html_dead_links`].
 #[unsafe(no_mangle)]
 pub extern "C" fn typst_html_dead_links(
     alloc: Global,
@@ -81,10 +81,10 @@ pub extern "C" fn typst_html_dead_links(
     ensures answered { Replies (dead_links_answer limit input.now) output.old result output.new }
     ensures kept { ¬ (result.status ≡ 0) → output.new ≡ output.old }
 {
-    typst_html_c::typst_html_dead_links(alloc, limit, input, output)
+    typst_html_ffi::typst_html_dead_links(alloc, limit, input, output)
 }
 
-/// Calls [`typst_html_c::typst_html_unused`].
+/// Calls [`typst_html_ffi::typst_html_unused`].
 #[unsafe(no_mangle)]
 pub extern "C" fn typst_html_unused(
     alloc: Global,
@@ -95,10 +95,10 @@ pub extern "C" fn typst_html_unused(
     ensures answered { Replies (unused_call_answer limit input.now) output.old result output.new }
     ensures kept { ¬ (result.status ≡ 0) → output.new ≡ output.old }
 {
-    typst_html_c::typst_html_unused(alloc, limit, input, output)
+    typst_html_ffi::typst_html_unused(alloc, limit, input, output)
 }
 
-/// Calls [`typst_html_c::typst_html_check`].
+/// Calls [`typst_html_ffi::typst_html_check`].
 #[unsafe(no_mangle)]
 pub extern "C" fn typst_html_check(
     alloc: Global,
@@ -109,10 +109,10 @@ pub extern "C" fn typst_html_check(
     ensures answered { Reports (check_report limit page.now) output.old result output.new }
     ensures kept { ¬ (result.status ≡ 0) → output.new ≡ output.old }
 {
-    typst_html_c::typst_html_check(alloc, limit, page, output)
+    typst_html_ffi::typst_html_check(alloc, limit, page, output)
 }
 
-/// Calls [`typst_html_c::typst_html_links`].
+/// Calls [`typst_html_ffi::typst_html_links`].
 #[unsafe(no_mangle)]
 pub extern "C" fn typst_html_links(
     alloc: Global,
@@ -123,5 +123,5 @@ pub extern "C" fn typst_html_links(
     ensures answered { Reports (links_report limit page.now) output.old result output.new }
     ensures kept { ¬ (result.status ≡ 0) → output.new ≡ output.old }
 {
-    typst_html_c::typst_html_links(alloc, limit, page, output)
+    typst_html_ffi::typst_html_links(alloc, limit, page, output)
 }

@@ -3,11 +3,11 @@
 use html_dom_document::{DocumentInfo, HtmlDocument, HtmlOutput, Locale};
 use html_dom_tree::{Frame, FrameItem, HtmlAttrs, HtmlElement, HtmlFrame, HtmlNode, Tag};
 use tests_asserts::TestResult;
-use tests_given::{
+use tests_failing_alloc::refuses_copy;
+use tests_samples::{
     document_of, element_of, frame_of, group_of, html_frame_of, id_of, info_of, inner_of,
     locale_of, output_of, start_of,
 };
-use tests_growth::refuses_copy;
 
 #[test]
 fn copied_trees(rt: HostRuntime) -> TestResult {

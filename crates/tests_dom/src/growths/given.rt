@@ -1,14 +1,14 @@
 //! Calls that consume their arguments, and return them if they fail.
 
 use crate::growths::lent::is_known;
+use html_anchors::with_resolved_links;
 use html_dom_document::{DocumentInfo, HtmlDocument, HtmlOutput};
-use html_dom_link::with_resolved_links;
 use html_dom_tree::{HtmlAttrs, HtmlElement, HtmlNode};
-use html_names::{HtmlAttr, Refused, attr, tag};
+use html_names_core::{HtmlAttr, Refused, attr, tag};
 use std::alloc::Global;
 use tests_asserts::TestResult;
-use tests_given::{document_of, id_of, info_of, inner_of, output_of, text_of};
-use tests_growth::{is_shown, refuses_given, shown_of};
+use tests_failing_alloc::{is_shown, refuses_given, shown_of};
+use tests_samples::{document_of, id_of, info_of, inner_of, output_of, text_of};
 
 /// A call that adds a pair in place.
 #[derive(Clone, Copy, Debug)]

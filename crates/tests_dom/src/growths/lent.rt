@@ -1,16 +1,17 @@
 //! Calls that borrow their arguments, and leave them unchanged if they fail.
 
+use html_anchors::{create_link_anchors, dead_links, ids_are_distinct, resolve_links};
 use html_dom_document::{DocumentInfo, HtmlDocument, HtmlIntrospector, HtmlOutput};
-use html_dom_findings::{dead_fragments, repeated_ids};
 use html_dom_flat::FlatTree;
-use html_dom_link::{create_link_anchors, dead_links, href_to, ids_are_distinct, resolve_links};
 use html_dom_tree::{HtmlAttrs, HtmlElement, HtmlNode, Location, Span, resolve_inline_styles};
-use html_names::{attr, tag};
+use html_links::href_to;
+use html_names_core::{attr, tag};
+use html_page_findings::{dead_fragments, repeated_ids};
 use std::alloc::{AllocError, Global};
 use std::collections::{BTreeMap, BTreeSet};
 use tests_asserts::TestResult;
-use tests_given::{document_of, element_of, start};
-use tests_growth::{is_shown, refuses_lent, shown_of};
+use tests_failing_alloc::{is_shown, refuses_lent, shown_of};
+use tests_samples::{document_of, element_of, start};
 
 pub(crate) type Targets = BTreeSet<Location>;
 

@@ -1,13 +1,13 @@
 //! Calls that consume their arguments, and do not return them.
 
 use crate::growths::lent::{Targets, has_anchor, has_style, targets_of};
+use html_anchors::with_link_anchors;
 use html_dom_document::HtmlDocument;
-use html_dom_link::with_link_anchors;
 use html_dom_tree::{HtmlElement, with_inline_styles};
 use std::alloc::{AllocError, Global};
 use tests_asserts::TestResult;
-use tests_given::{document_of, element_of};
-use tests_growth::{SPARES, refuses_taken};
+use tests_failing_alloc::{SPARES, refuses_taken};
+use tests_samples::{document_of, element_of};
 
 #[derive(Drop)]
 enum Taken {

@@ -1,10 +1,10 @@
 //! Reading of texts, and the visible text of a page that was read.
 
 use html_dom_tree::HtmlElement;
+use html_page_text::page_text;
 use std::alloc::{AllocError, Global};
 use tests_asserts::TestResult;
-use tests_growth::{refuses, refuses_lent};
-use typst_html_page::page_text;
+use tests_failing_alloc::{refuses, refuses_lent};
 use typst_html_read::{ReadFault, read_html};
 
 /// A text with names of the author's own, attributes, references, raw texts, and nested elements.

@@ -6,10 +6,10 @@ use html_flow_convert::Pair;
 use std::alloc::{AllocError, Global};
 use std::fmt::Debug;
 use tests_asserts::TestResult;
+use tests_failing_alloc::refuses_lent;
 use tests_frames::OneText;
-use tests_given::{document_of, element_of, info_of};
-use tests_growth::refuses_lent;
 use tests_items::{content_of, line_of};
+use tests_samples::{document_of, element_of, info_of};
 use typst_html_encode::{ExportFault, HtmlOptions};
 use typst_html_export::{
     export, export_linked, export_with_head, has_own_root, html, html_document,

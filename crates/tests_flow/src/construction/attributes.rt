@@ -2,7 +2,7 @@
 
 use super::{Row, Sample, assert_made};
 use html_flow::ElementInfo;
-use html_names::{attr, tag};
+use html_names_core::{attr, tag};
 use html_values::{AttrType, NativeType};
 use std::alloc::{AllocError, Global};
 use tests_asserts::TestResult;

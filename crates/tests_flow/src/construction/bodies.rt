@@ -2,7 +2,7 @@
 
 use super::{Sample, assert_made};
 use html_flow::ElementInfo;
-use html_names::HtmlTag;
+use html_names_core::HtmlTag;
 use tests_asserts::TestResult;
 
 /// The name of an element without attributes, the span and the value of its only argument, and the

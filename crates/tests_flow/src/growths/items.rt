@@ -6,11 +6,11 @@ use html_flow::{
     HtmlElem, Item, Pair, Role, Whitespace, construct, convert_to_nodes, html_block_fragment,
     html_inline_fragment, html_math_fragment, push_located,
 };
-use html_names::{HtmlAttr, Refused, attr, tag};
+use html_names_core::{HtmlAttr, Refused, attr, tag};
 use html_values::{AttrType, ListType, NativeType, Value};
 use std::alloc::{AllocError, Global};
 use tests_asserts::TestResult;
-use tests_growth::{refuses_copy, refuses_given, refuses_lent};
+use tests_failing_alloc::{refuses_copy, refuses_given, refuses_lent};
 use tests_items::{
     block_of, blocks_of, elem_of, frame_elem_of, noted_frame_of, role_of, text_item_of,
 };

@@ -2,10 +2,10 @@
 
 use html_dom_tree::{Location, Span};
 use html_flow::{HtmlElem, ItemList, NamedPlaces, Notes, Pair};
-use html_names::{Refused, attr, tag};
+use html_names_core::{Refused, attr, tag};
 use std::alloc::AllocError;
 use tests_asserts::TestResult;
-use tests_growth::{refuses_given, refuses_lent};
+use tests_failing_alloc::{refuses_given, refuses_lent};
 use tests_items::text_item_of;
 
 /// A text that is too long for the room of another.

@@ -4,11 +4,11 @@
 use html_dom_flat::FlatTree;
 use html_dom_tree::{HtmlElement, HtmlNode, Span};
 use html_flow_convert::{bare_spaces, keep_runs, protect_spaces, push_text_nodes};
-use html_names::tag;
+use html_names_core::tag;
 use std::alloc::{AllocError, Global};
 use tests_asserts::TestResult;
-use tests_given::{start_of, text_of};
-use tests_growth::{SPARES, refuses, refuses_taken};
+use tests_failing_alloc::{SPARES, refuses, refuses_taken};
+use tests_samples::{start_of, text_of};
 
 /// The number of nodes that are made, and the indices of a lone space and a tab.
 const COUNT: usize = 5;

@@ -2,11 +2,11 @@
 
 use super::{CASES, Case, INPUT, OUTPUT};
 use crate::runs::{answer, assert_run};
-use html_tool_run::Status;
 use std::alloc::Global;
 use std::io;
 use std::io::{Error, ErrorKind, Read};
 use std::process::Abort;
+use typst_html_run::Status;
 
 /// A reader of one byte at a time. Only the read numbered `fails_at` fails.
 #[derive(Drop)]

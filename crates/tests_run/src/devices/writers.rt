@@ -2,11 +2,11 @@
 
 use super::{CASES, Case};
 use crate::runs::words;
-use html_tool_run::{Recorded, Status, run, run_recorded};
 use std::alloc::Global;
 use std::io;
 use std::io::{Error, ErrorKind, Write};
 use std::process::Abort;
+use typst_html_run::{Recorded, Status, run, run_recorded};
 
 /// A writer of at most `most` bytes at a time. Only the write numbered `fails_at` fails, and each
 /// flush if `flush_fails`.

@@ -1,5 +1,5 @@
 use Rattle.std.proofs.lemmas.Str.{IsUtf8-string_bytes}
-use Rattle.html_names.proofs.Texts.{chars_push}
+use Rattle.html_names_core.proofs.Texts.{chars_push}
 use Rattle.html_dom_tree.proofs.text.add.Goals as goal
 
 pub returns : goal.returns

@@ -1,6 +1,6 @@
 use Rattle.std.proofs.Common.{string_bytes}
 use Rattle.std.proofs.lemmas.Str.{IsUtf8-string_bytes}
-use Rattle.html_names.proofs.Texts.{chars_add}
+use Rattle.html_names_core.proofs.Texts.{chars_add}
 use Rattle.html_dom_tree.proofs.text.add_text.Goals as goal
 
 pub returns : goal.returns

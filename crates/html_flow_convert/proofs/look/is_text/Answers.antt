@@ -1,5 +1,5 @@
 use Rattle.std.proofs.Common.{ap, sym, ◌∙◌, bytes_eq, chars}
-use Rattle.html_names.proofs.Lists.{bytes_eq-chars, chars_ascii}
+use Rattle.html_names_core.proofs.Lists.{bytes_eq-chars, chars_ascii}
 use Rattle.html_flow_convert.proofs.look.is_text.Goals as goal
 
 pub returns : goal.returns

@@ -1,5 +1,5 @@
 use Rattle.std.proofs.Common.{codes, refl}
-use Rattle.html_names.proofs.Lists.{chars_ascii}
+use Rattle.html_names_core.proofs.Lists.{chars_ascii}
 use Rattle.html_flow_convert.proofs.OneProperty.{one_property}
 use Rattle.html_flow_convert.proofs.made.pre_wrap_css.Goals as goal
 

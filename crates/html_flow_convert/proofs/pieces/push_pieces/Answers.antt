@@ -3,8 +3,8 @@ use Rattle.std.specs.Prelude.{OnOk}
 use Rattle.std.specs.Str.{IsCharBoundary}
 use Rattle.std.proofs.lemmas.Result.{on_err_weaker}
 use Rattle.std.proofs.lemmas.Str.{IsCharBoundary-at_seam}
-use Rattle.html_names.proofs.Held.{on_err}
-use Rattle.html_names.proofs.Basics.{front_length}
+use Rattle.html_names_core.proofs.Held.{on_err}
+use Rattle.html_names_core.proofs.Basics.{front_length}
 use Rattle.html_flow_convert.specs.Beginnings.{AddsBeginning}
 use Rattle.html_dom_tree.specs.Views.{node_view}
 use Rattle.html_flow_convert.specs.Pieces.{outside_stretch, piece_node, text_nodes}

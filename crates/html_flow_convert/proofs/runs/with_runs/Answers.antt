@@ -1,6 +1,6 @@
 use Rattle.std.proofs.Common.{◌≡◌, ◌++◌, [], ◌∷◌, true, false, map, reverse, refl, sym, ap, ◌∙◌}
 use Rattle.std.proofs.lemmas.List.{map-append, nil_from_length, reverse-reverse}
-use Rattle.html_dom_flat.proofs.Reversed.{next_reversed}
+use Rattle.html_dom_tree.proofs.Reversed.{next_reversed}
 use Rattle.html_dom_tree.specs.Views.{node_view}
 use Rattle.html_flow_convert.specs.OpenRuns.{goes_on, has_kept_run}
 use Rattle.html_flow_convert.specs.Runs.{run_nodes}

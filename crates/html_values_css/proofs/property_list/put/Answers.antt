@@ -1,5 +1,5 @@
 use Rattle.std.proofs.Common.{◌≡◌, sym, ap, chars, get_or}
-use Rattle.html_names.specs.Texts.{text_view}
+use Rattle.html_names_core.specs.Texts.{text_view}
 use Rattle.html_values_css.specs.Properties.{property_name, property_view}
 use Rattle.html_values_css.specs.declared.property.Property.{Property}
 use Rattle.html_values_css.proofs.Listing.{put_found}

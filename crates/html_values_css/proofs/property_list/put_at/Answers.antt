@@ -1,5 +1,5 @@
 use Rattle.std.proofs.Common.{◌≡◌, ℕ, List, sym, ap, ◌∙◌, chars}
-use Rattle.html_names.specs.Texts.{text_view}
+use Rattle.html_names_core.specs.Texts.{text_view}
 use Rattle.html_values_css.specs.Properties.{list_view, property_view, property_name, with_property}
 use Rattle.html_values_css.specs.declared.property.Property.{Property}
 use Rattle.html_values_css.proofs.Listing.{put_gap}

@@ -6,7 +6,7 @@ use Rattle.typst_html_encode.specs.ExportFaults.{text_faults}
 use Rattle.typst_html_encode.proofs.Stretches.{escaped_plain, faults_plain}
 use Rattle.typst_html_encode.proofs.escape.write_plain.Goals as goal
 use native.Mathlib.Numerals.{unary_clauses}
-use Rattle.html_names.proofs.Basics.{front_length, front_taken}
+use Rattle.html_names_core.proofs.Basics.{front_length, front_taken}
 
 pub range-requires-clause-end_boundary : goal.range-requires-clause-end_boundary
 range-requires-clause-end_boundary c =

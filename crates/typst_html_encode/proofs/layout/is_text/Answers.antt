@@ -1,6 +1,6 @@
 use Rattle.std.proofs.Common.{ap, sym, ◌∙◌, bytes_eq, string_bytes}
 use Rattle.std.proofs.lemmas.Str.{IsUtf8-string_bytes}
-use Rattle.html_names.proofs.Lists.{bytes_eq-ascii}
+use Rattle.html_names_core.proofs.Lists.{bytes_eq-ascii}
 use Rattle.typst_html_encode.proofs.layout.is_text.Goals as goal
 
 pub returns : goal.returns

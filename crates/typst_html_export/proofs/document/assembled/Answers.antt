@@ -2,9 +2,8 @@ use Rattle.std.proofs.Common.{◌≡◌, ◌∙◌, sym, ap, map}
 use Rattle.html_dom_tree.specs.Views.{node_view, nodes_view}
 use Rattle.html_dom_document.specs.Views.{info_view}
 use Rattle.html_flow_convert.specs.Views.{items_view}
-use Rattle.typst_html_export.specs.Assembled.{own_html, own_body, document_outline, document_nodes, outline_faults}
+use Rattle.typst_html_export.specs.Assembled.{own_html, own_body, document_outline, document_nodes, outline_faults, output_by}
 use Rattle.typst_html_export.specs.Outlines.{outline_view}
-use Rattle.typst_html_export.specs.OwnHead.{output_with_head}
 use Rattle.typst_html_export.proofs.Assembling.{no_notes_clean}
 use Rattle.typst_html_export.proofs.Outlines.{own_stands}
 use Rattle.typst_html_export.proofs.document.assembled.Goals as goal
@@ -24,7 +23,7 @@ returns-in_ok-refuse_footnotes-in-OwnHtml c =
     let own : own_html c.in-OwnHtml.place ≡ document_outline content =
     sym (ap outline_view c.in-OwnHtml.is) ∙ (c.in_ok-place.ensures.made
     ∙ ap (λ ns. document_outline (nodes_view ns)) c.deref.ensures.value) in
-    let value = ap (λ o. output_with_head o (info_view c.args.info.now)
+    let value = ap (λ o. output_by o (info_view c.args.info.now)
     (map node_view c.args.head.now) content (document_nodes notes)) own in
     record {
       made = c.new.ensures ∙ value;
@@ -40,7 +39,7 @@ returns-in_ok-html_output-in-OwnBody c =
     let own : own_body ≡ document_outline content =
     sym (ap outline_view c.in-OwnBody.is) ∙ (c.in_ok-place.ensures.made
     ∙ ap (λ ns. document_outline (nodes_view ns)) c.deref.ensures.value) in
-    let value = ap (λ o. output_with_head o (info_view c.args.info.now)
+    let value = ap (λ o. output_by o (info_view c.args.info.now)
     (map node_view c.args.head.now) content (document_nodes notes)) own in
     record {
       made = c.in_ok-html_output-in-OwnBody.ensures ∙ value;

@@ -3,8 +3,7 @@ use Rattle.html_dom_tree.specs.Views.{node_view, nodes_view}
 use Rattle.html_dom_document.specs.Documents.{new_document}
 use Rattle.html_dom_document.specs.Views.{info_view, output_view}
 use Rattle.html_flow_convert.specs.Views.{items_view}
-use Rattle.typst_html_export.specs.Assembled.{document_nodes}
-use Rattle.typst_html_export.specs.OwnHead.{output_around_with_head}
+use Rattle.typst_html_export.specs.Assembled.{document_nodes, output_around}
 use Rattle.typst_html_export.specs.Roots.{styled_root}
 use Rattle.typst_html_export.proofs.Assembling.{assembled_styled}
 use Rattle.typst_html_export.proofs.document.document_around.Goals as goal
@@ -15,7 +14,7 @@ returns-clause-made c =
     let head = map node_view c.args.head.now in
     let content = nodes_view c.args.content.items in
     let notes = items_view c.args.footnotes.now in
-    let around = output_around_with_head info head content notes in
+    let around = output_around info head content notes in
     let styled : output_view c.in_ok-output-2.output ≡ around = c.in_ok-output-2.ensures
     ∙ (ap styled_root c.in_ok-output.ensures.made
     ∙ assembled_styled info head content (document_nodes notes)) in

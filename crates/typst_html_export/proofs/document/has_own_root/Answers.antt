@@ -5,7 +5,7 @@ use Rattle.html_flow_convert.specs.Items.{no_items}
 use Rattle.html_flow_convert.specs.Views.{items_view}
 use Rattle.typst_html_export.specs.Assembled.{depth_faults, document_nodes, document_outline, outline_faults}
 use Rattle.typst_html_export.specs.Assembles.{GivesDocument}
-use Rattle.typst_html_export.specs.OwnHead.{have_own_root, is_root}
+use Rattle.typst_html_export.specs.OwnRoots.{have_own_root, is_root}
 use Rattle.typst_html_export.proofs.Assembling.{alone_faults}
 use Rattle.typst_html_export.proofs.FaultsInOrder.{around_items}
 use Rattle.typst_html_export.proofs.document.has_own_root.Goals as goal

@@ -1,25 +1,17 @@
-use Rattle.std.proofs.Common.{◌≡◌, subst, Result, Ok, Err, IfOk}
+use Rattle.std.proofs.Common.{◌≡◌, Result, Ok, Err, IfOk}
 use Rattle.html_dom_document.specs.Documents.{InfoView}
 use Rattle.html_dom_document.specs.Views.{document_view, info_view}
 use Rattle.html_dom_document.specs.declared.document.HtmlDocument.{HtmlDocument}
 use Rattle.html_flow_convert.specs.Items.{ItemsView}
 use Rattle.html_flow_convert.specs.Views.{items_view}
 use Rattle.typst_html_encode.specs.declared.fault.ExportFault.{ExportFault}
-use Rattle.typst_html_export.specs.Assembled.{assembled_document, document_nodes, items_document_faults}
-use Rattle.typst_html_export.specs.Assembles.{GivesDocument}
+use Rattle.typst_html_export.specs.Assembled.{assembled_document}
 use Rattle.typst_html_export.specs.SpacesInDocuments.{SpacesAreLeft}
-use Rattle.typst_html_export.proofs.OwnHead.{no_nodes_around}
 use Rattle.typst_html_export.proofs.SpacesInDocuments.{spaces_are_left_without_anchors}
 use Rattle.typst_html_export.proofs.document.html_document_for_bundle.Goals as goal
 
 pub returns-clause-made : goal.returns-clause-made
-returns-clause-made c =
-    let items = items_view c.args.items.now in
-    let notes = items_view c.args.footnotes.now in
-    subst (λ d. GivesDocument document_view c.document_without_anchors.result d
-    (items_document_faults c.args.limit items notes))
-    (no_nodes_around (info_view c.args.info.now) (document_nodes items) notes)
-    c.document_without_anchors.ensures.made
+returns-clause-made c = c.document_without_anchors.ensures.made
 
 left : (info : InfoView) (items notes : ItemsView) (r : Result HtmlDocument ExportFault) →
     IfOk r (λ d. document_view d ≡ assembled_document info items notes) →
@@ -30,4 +22,4 @@ left info items notes (Err e) made = tt
 pub returns-clause-spaces : goal.returns-clause-spaces
 returns-clause-spaces c =
     left (info_view c.args.info.now) (items_view c.args.items.now) (items_view c.args.footnotes.now)
-    c.document_without_anchors.result (returns-clause-made c).made
+    c.document_without_anchors.result c.document_without_anchors.ensures.made.made

@@ -3,9 +3,9 @@ use Rattle.std.proofs.lemmas.Result.{err_from_is_err_and}
 use Rattle.html_dom_tree.specs.Views.{node_view}
 use Rattle.html_dom_document.specs.Documents.{document_root}
 use Rattle.html_dom_document.specs.Views.{document_view, info_view}
-use Rattle.html_dom_link.specs.Distinct.{IdsAreDistinct}
-use Rattle.html_dom_link.specs.GivenLinks.{KnownAnchorsAreShown}
-use Rattle.html_dom_link.specs.Serving.{KnownAnchorsServe}
+use Rattle.html_anchors.specs.DistinctIds.{IdsAreDistinct}
+use Rattle.html_anchors.specs.GivenLinks.{KnownAnchorsAreShown}
+use Rattle.html_anchors.specs.Serving.{KnownAnchorsServe}
 use Rattle.html_flow_convert.specs.Views.{items_view}
 use Rattle.typst_html_export.specs.Assembled.{items_document_faults}
 use Rattle.typst_html_export.specs.Linked.{AnchorsAreFirstIds, document_with_anchors}

@@ -1,14 +1,14 @@
 use Rattle.std.proofs.Common.{ap, ◌∙◌}
 use Rattle.html_dom_document.specs.Documents.{DocumentView, document_root}
 use Rattle.html_dom_document.specs.Views.{document_view, info_view}
-use Rattle.html_dom_link.specs.Distinct.{GivenLinksLeadToOne, IdsAreDistinct}
-use Rattle.html_dom_link.specs.FoundAnchors.{LiveLinksLead}
-use Rattle.html_dom_link.specs.GivenLinks.{AnchorsAreTexts, GivenLinksLead}
-use Rattle.html_names.specs.Names.{stands_in}
-use Rattle.html_dom_link.specs.Indicated.{element_places}
-use Rattle.html_dom_link.specs.Links.{document_hrefs, document_with_links}
-use Rattle.html_dom_link.proofs.ChangedRoots.{root_has_links}
-use Rattle.html_dom_link.proofs.GivenLinks.{texts_in}
+use Rattle.html_anchors.specs.DistinctIds.{GivenLinksLeadToOne, IdsAreDistinct}
+use Rattle.html_anchors.specs.FoundAnchors.{LiveLinksLead}
+use Rattle.html_anchors.specs.GivenLinks.{AnchorsAreTexts, GivenLinksLead}
+use Rattle.html_names_core.specs.Names.{stands_in}
+use Rattle.html_links.specs.Indicated.{element_places}
+use Rattle.html_anchors.specs.Links.{document_hrefs, document_with_links}
+use Rattle.html_anchors.proofs.ChangedRoots.{root_has_links}
+use Rattle.html_anchors.proofs.GivenLinks.{texts_in}
 use Rattle.html_flow_convert.specs.Views.{items_view}
 use Rattle.typst_html_export.specs.Assembled.{items_document_faults}
 use Rattle.typst_html_export.specs.Exported.{resolved_root, root_faults}

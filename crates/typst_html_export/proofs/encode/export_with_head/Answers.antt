@@ -14,8 +14,8 @@ use Rattle.typst_html_encode.specs.Reader.{read}
 use Rattle.typst_html_encode.specs.declared.fault.ExportFault.{ExportFault}
 use Rattle.typst_html_encode.specs.declared.options.HtmlOptions.{HtmlOptions}
 use Rattle.typst_html_export.specs.Assembled.{items_document_faults}
-use Rattle.typst_html_export.specs.Exported.{root_faults}
-use Rattle.typst_html_export.specs.OwnHead.{linked_document_with_head, linked_root_with_head}
+use Rattle.typst_html_export.specs.Exported.{linked_root_with_head, root_faults}
+use Rattle.typst_html_export.specs.Linked.{linked_document_with_head}
 use Rattle.typst_html_export.proofs.CleanRoots.{clean_exports_with_head}
 use Rattle.typst_html_export.proofs.FaultsInOrder.{exported}
 use Rattle.typst_html_export.proofs.Firsts.{memory_first, first_past_none, fails_by_memory_alone}

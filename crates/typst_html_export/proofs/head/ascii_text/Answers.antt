@@ -1,5 +1,5 @@
 use Rattle.std.proofs.Common.{◌∙◌, ap, chars}
-use Rattle.html_names.proofs.Lists.{chars_ascii}
+use Rattle.html_names_core.proofs.Lists.{chars_ascii}
 use Rattle.typst_html_export.proofs.head.ascii_text.Goals as goal
 
 pub returns : goal.returns

@@ -4,8 +4,8 @@ use Rattle.typst_html_read.specs.Endings.{Gives}
 use Rattle.typst_html_read.specs.PlainElements.{accepted}
 use Rattle.typst_html_read.specs.LimitedReading.{document_type, too_deep, unread}
 use Rattle.typst_html_read.proofs.Loops.{begins_otherwise}
-use Rattle.typst_html_read.proofs.Words.{chars_after_word}
-use Rattle.html_names.proofs.Lists.{chars_ascii}
+use Rattle.html_text.proofs.Words.{chars_after_word}
+use Rattle.html_names_core.proofs.Lists.{chars_ascii}
 use Rattle.typst_html_read.proofs.read.read_html.Goals as goal
 
 pub returns-in-None : goal.returns-in-None

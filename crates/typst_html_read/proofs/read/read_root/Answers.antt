@@ -6,7 +6,7 @@ use Rattle.typst_html_read.specs.PlainElements.{accepted}
 use Rattle.typst_html_read.specs.PlainViews.{completed}
 use Rattle.typst_html_read.specs.ReaderViews.{reader_state}
 use Rattle.typst_html_read.specs.LimitedReading.{next_state, deep_places}
-use Rattle.typst_html_read.specs.Places.{place_at}
+use Rattle.html_text.specs.Places.{place_at}
 use Rattle.typst_html_read.proofs.Loops.{not_stop}
 use Rattle.typst_html_read.proofs.Names.{taken, root_read, root_accepted}
 use Rattle.typst_html_read.proofs.Stretches.{GivesReading, goes_on, goes_one, reading, whole_deep, whole_ended, whole_stopped}

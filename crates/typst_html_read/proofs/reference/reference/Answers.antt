@@ -1,9 +1,9 @@
 use Rattle.std.proofs.Common.{◌≡◌, ℕ, List, ◌∷◌, true, chars, codes, refl, sym, ap, ◌∙◌}
 use Rattle.std.specs.Fmt.{digits}
-use Rattle.html_names.specs.Names.{is_ascii}
+use Rattle.html_names_core.specs.Names.{is_ascii}
 use Rattle.typst_html_encode.specs.References as definition
 use Rattle.typst_html_read.proofs.References.{by_number, no_reference}
-use Rattle.typst_html_read.proofs.Words.{word_is}
+use Rattle.html_text.proofs.Words.{word_is}
 use Rattle.typst_html_read.proofs.reference.reference.Goals as goal
 
 of_word : (w words : List ℕ) → is_ascii w ≡ true → words ≡ w →

@@ -1,6 +1,6 @@
 use Rattle.std.proofs.Common.{chars}
 use Rattle.html_dom_tree.specs.Views.{text_view}
-use Rattle.html_names.specs.Characters.{is_tag_char}
+use Rattle.html_names_core.specs.Characters.{is_tag_char}
 use Rattle.typst_html_read.proofs.Stretches.{all_alike}
 use Rattle.typst_html_read.proofs.stretch.add_name.Goals as goal
 

@@ -1,12 +1,12 @@
 use Rattle.std.proofs.Common.{refl}
 use lib.Utf8.{encode}
-use Rattle.html_names.specs.Characters.{is_ignorable}
-use Rattle.html_names.specs.Displays.{default_display}
-use Rattle.html_names.specs.Kinds.{is_replaced, is_raw, is_escapable_raw}
-use Rattle.html_names.specs.Names.{stands_in}
+use Rattle.html_names_core.specs.Characters.{is_ignorable}
+use Rattle.html_names_core.specs.Displays.{default_display}
+use Rattle.html_names_core.specs.Kinds.{is_replaced, is_raw, is_escapable_raw}
+use Rattle.html_names_core.specs.Names.{stands_in}
 use Rattle.html_dom_tree.specs.PlainTree.{nodes_normal}
 use Rattle.html_dom_tree.specs.Styled.{styled_node}
-use Rattle.typst_html_encode.specs.Collapsing.{preserves, has_border}
+use Rattle.html_dom_shown.specs.Collapsing.{preserves, has_border}
 use Rattle.html_flow_convert.specs.BareSpaces.{is_border_element, is_entered, node_things, bare_after}
 use Rattle.html_flow_convert.specs.Pieces.{pieces_after}
 use Rattle.html_flow_convert.specs.Protected.{node_by_answers}

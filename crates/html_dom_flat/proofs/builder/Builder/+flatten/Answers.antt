@@ -9,7 +9,7 @@ use Rattle.html_dom_flat.specs.FlatViews.{flat_node_view}
 use Rattle.html_dom_flat.specs.Builders.{builder_view}
 use Rattle.html_dom_flat.specs.ClosedElements.{closed_at}
 use Rattle.html_dom_flat.proofs.Closings.{closed_element}
-use Rattle.html_dom_flat.proofs.Reversed.{most_reversed, next_reversed}
+use Rattle.html_dom_tree.proofs.Reversed.{most_reversed, next_reversed}
 use Rattle.html_dom_flat.proofs.builder.Builder.+flatten.Goals as goal
 
 pub move_element-returns-clause-list : goal.move_element-returns-clause-list

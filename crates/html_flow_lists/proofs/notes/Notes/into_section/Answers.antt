@@ -1,6 +1,6 @@
 use Rattle.std.proofs.Common.{◌==◌, ◌∷◌, [], ◌++◌, ap, sym, ◌∙◌}
 use Rattle.std.proofs.lemmas.List.{length-map}
-use Rattle.html_names.specs.Tables.{known_tags}
+use Rattle.html_names_core.specs.Tables.{known_tags}
 use Rattle.html_flow_convert.specs.Views.{pairs_view}
 use Rattle.html_flow_lists.specs.ListViews.{note_view, notes_view}
 use Rattle.html_flow_lists.proofs.NoteParts.{section_seen}

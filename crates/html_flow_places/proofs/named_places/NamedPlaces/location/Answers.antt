@@ -1,5 +1,5 @@
 use Rattle.std.proofs.Common.{sym, ◌∙◌}
-use Rattle.html_names.proofs.NameTables.{with_name-stands}
+use Rattle.html_names_table.proofs.NameTables.{with_name-stands}
 use Rattle.html_flow_places.proofs.HeldLocations.{found}
 use Rattle.html_flow_places.proofs.named_places.NamedPlaces.location.Goals as goal
 

@@ -1,5 +1,5 @@
 use Rattle.std.proofs.Common.{ap, ◌∙◌, chars, Some}
-use Rattle.html_names.specs.Texts.{texts_view}
+use Rattle.html_names_core.specs.Texts.{texts_view}
 use Rattle.html_flow_places.proofs.NamedLocations.{name_held}
 use Rattle.html_flow_places.proofs.named_places.NamedPlaces.name.Goals as goal
 

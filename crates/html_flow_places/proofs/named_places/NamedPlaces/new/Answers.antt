@@ -1,5 +1,5 @@
 use Rattle.std.proofs.Common.{ap, rules}
-use Rattle.html_names.specs.Texts.{texts_view}
+use Rattle.html_names_core.specs.Texts.{texts_view}
 use Rattle.html_flow_places.proofs.HeldLocations.{fresh}
 use Rattle.html_flow_places.proofs.named_places.NamedPlaces.new.Goals as goal
 

@@ -1,6 +1,6 @@
 use Rattle.std.proofs.Common.{ap, ◌∙◌}
 use Rattle.std.specs.Hash.{fed_along}
-use Rattle.html_names.specs.Hashes.{pairs_writes}
+use Rattle.html_names_core.specs.Hashes.{pairs_writes}
 use Rattle.html_values_css.proofs.Equals.{list_hashed}
 use Rattle.html_values_css.proofs.properties.PropertiesHash.hash.Goals as goal
 

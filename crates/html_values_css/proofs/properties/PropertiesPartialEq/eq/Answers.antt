@@ -1,5 +1,5 @@
-use Rattle.html_names.specs.Equal.{pairs_discrete}
-use Rattle.html_names.proofs.Equals.{same_result}
+use Rattle.html_names_core.specs.Equal.{pairs_discrete}
+use Rattle.html_names_core.proofs.Equals.{same_result}
 use Rattle.html_values_css.proofs.properties.PropertiesPartialEq.eq.Goals as goal
 
 pub returns : goal.returns

@@ -1,4 +1,4 @@
-use Rattle.html_names.proofs.Equals.{same_result}
+use Rattle.html_names_core.proofs.Equals.{same_result}
 use Rattle.typst_html_encode.specs.FaultViews.{export_fault_view, export_fault_discrete}
 use Rattle.typst_html_encode.proofs.fault.ExportFaultPartialEq.eq.Goals as goal
 

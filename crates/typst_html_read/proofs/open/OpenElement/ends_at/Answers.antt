@@ -1,7 +1,7 @@
 use Rattle.std.proofs.Common.{◌≡◌, ◌≤◌, eqb, get_or, length, sym, ap, ◌∙◌, subst, arith}
 use Rattle.std.proofs.lemmas.List.{get_or_default, get_or_past}
-use Rattle.html_names.specs.Characters.{IsOf, is_tag_char}
-use Rattle.typst_html_read.proofs.Closings.{name_is}
+use Rattle.html_names_core.specs.Characters.{IsOf, is_tag_char}
+use Rattle.html_text.proofs.TagNames.{name_is}
 use Rattle.typst_html_read.proofs.open.OpenElement.ends_at.Goals as goal
 
 pub returns-then-place-name : goal.returns-then-place-name

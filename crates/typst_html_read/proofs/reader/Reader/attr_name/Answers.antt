@@ -1,7 +1,7 @@
 use Rattle.std.proofs.Common.{◌≡◌, ◌++◌, ◌∷◌, [], chars, sym, ap, ◌∙◌, subst}
 use Rattle.std.specs.Result.{OnOk}
 use Rattle.std.proofs.lemmas.Str.{chars-nil}
-use Rattle.html_names.specs.Names.{attr_fault}
+use Rattle.html_names_core.specs.Names.{attr_fault}
 use Rattle.html_dom_tree.specs.Views.{attrs_view, text_view}
 use Rattle.typst_html_encode.specs.Reader.{after}
 use Rattle.typst_html_read.specs.OpenViews.{stack_of}

@@ -1,0 +1,138 @@
+-- All names that are made are new.
+use Rattle.std.proofs.Common.{◌≡◌, Bool, ◌||◌, List, [], ◌∷◌, ◌++◌, Option, Some, None, refl, ap, sym, ◌∙◌, subst}
+use Rattle.std.specs.Prelude.{option_to_list}
+use Rattle.std.proofs.Math.Bool.{or-true}
+use Rattle.html_dom_tree.specs.Tree.{ElementView}
+use Rattle.html_names_core.specs.Names.{stands_in}
+use Rattle.html_links.specs.TreeNames.{Name, with_used_name, anchor_names, element_names}
+use Rattle.html_anchors.specs.NewNames.{new_name}
+use Rattle.html_links.specs.UsedNames.{with_names}
+use Rattle.html_anchors.specs.NumberedNames.{IsBounded}
+use Rattle.html_anchors.specs.Events.{Start, FrameStart, Event, Targets, events}
+use Rattle.html_anchors.specs.Groups.{Cut, own_name, label_for, cuts}
+use Rattle.html_anchors.specs.Namings.{made_for, starts_in, start_pairs, used_after_starts, with_made, made_at, naming, used_after, namings}
+use Rattle.html_anchors.specs.Fresh.{AreNew, names_made, all_made, MadeAreNew, NamesAreNew}
+use Rattle.html_anchors.specs.AnchorWalk.{element_walk}
+use Rattle.html_links.proofs.Gathering.{with-none, with-one, with-append, with-more}
+use Rattle.html_anchors.proofs.Numbers.{new_is_new}
+use Rattle.html_anchors.proofs.States.{Groups, step, finished}
+use Rattle.html_anchors.proofs.Walks.{walk_is}
+
+-- before more were put in use there were no more
+bounded_before : (names : List Name) (used : Name → Bool) → IsBounded (with_names names used) →
+    IsBounded used
+bounded_before names used b = record {
+  names = b.names;
+  few = b.few;
+  holds = λ n e. b.holds n (ap (λ a. stands_in names n || a) e ∙ or-true (stands_in names n));
+}
+
+new-append : (as' bs : List Name) (used : Name → Bool) → AreNew used as' →
+    AreNew (with_names as' used) bs → AreNew used (as' ++ bs)
+new-append [] bs used a b = subst (λ u. AreNew u bs) (with-none used) b
+new-append (n ∷ ns) bs used a b = (
+  a.0,
+  new-append ns bs (with_used_name n used) a.1 (subst (λ u. AreNew u bs) (with-more n ns used) b),
+)
+
+starts_named : (ss : List FrameStart) (used : Name → Bool) →
+    with_names (anchor_names (start_pairs used ss)) used ≡ used_after_starts used ss
+starts_named [] used = with-none used
+starts_named (s ∷ ss) used =
+    let n = new_name s.label used in
+    let next = with_used_name n used in
+    with-more n (anchor_names (start_pairs next ss)) used ∙ starts_named ss next
+
+before_starts : (ss : List FrameStart) (used : Name → Bool) →
+    IsBounded (used_after_starts used ss) → IsBounded used
+before_starts ss used b =
+    bounded_before (anchor_names (start_pairs used ss)) used
+    (subst IsBounded (sym (starts_named ss used)) b)
+
+starts_new : (ss : List FrameStart) (used : Name → Bool) →
+    IsBounded (used_after_starts used ss) → AreNew used (anchor_names (start_pairs used ss))
+starts_new [] used b = tt
+starts_new (s ∷ ss) used b = (
+  new_is_new s.label used (before_starts (s ∷ ss) used b),
+  starts_new ss (with_used_name (new_name s.label used) used) b,
+)
+
+own_named : (made : Option Name) (used : Name → Bool) →
+    with_names (option_to_list made) used ≡ with_made made used
+own_named None used = with-none used
+own_named (Some n) used = with-one n used
+
+own_new : (own label : Option Name) (used : Name → Bool) (q : List Start) → IsBounded used →
+    AreNew used (option_to_list (made_for own label used q))
+own_new own label used [] b = tt
+own_new (Some n) label used (s ∷ ss) b = tt
+own_new None label used (s ∷ ss) b = (new_is_new label used b, tt)
+
+naming_named : (used : Name → Bool) (c : Cut) →
+    with_names (names_made (naming used c)) used ≡ used_after used c
+naming_named used c =
+    let made = made_at used c in
+    let pairs = anchor_names (start_pairs (with_made made used) (starts_in c.event)) in
+    with-append (option_to_list made) pairs used
+    ∙ (ap (with_names pairs) (own_named made used)
+    ∙ starts_named (starts_in c.event) (with_made made used))
+
+naming_new : (used : Name → Bool) (c : Cut) → IsBounded (used_after used c) →
+    AreNew used (names_made (naming used c))
+naming_new used c b =
+    let made = made_at used c in
+    let own = option_to_list made in
+    let ss = starts_in c.event in
+    let next = with_made made used in
+    let pairs = anchor_names (start_pairs next ss) in
+    let named = sym (own_named made used) in
+    let first : IsBounded used =
+    bounded_before own used (subst IsBounded named (before_starts ss next b)) in
+    new-append own pairs used
+    (own_new (own_name c.event) (label_for c.event c.group) used c.group first)
+    (subst (λ u. AreNew u pairs) named (starts_new ss next b))
+
+-- the names in use after all events
+abbrev used_after_all : (used : Name → Bool) → List Cut → Name → Bool
+used_after_all used [] = used
+used_after_all used (c ∷ cs) = used_after_all (used_after used c) cs
+
+all_named : (cs : List Cut) (used : Name → Bool) →
+    with_names (all_made (namings used cs)) used ≡ used_after_all used cs
+all_named [] used = with-none used
+all_named (c ∷ cs) used =
+    let next = used_after used c in
+    let later = all_made (namings next cs) in
+    with-append (names_made (naming used c)) later used
+    ∙ (ap (with_names later) (naming_named used c) ∙ all_named cs next)
+
+all_new : (cs : List Cut) (used : Name → Bool) → IsBounded (used_after_all used cs) →
+    AreNew used (all_made (namings used cs))
+all_new [] used b = tt
+all_new (c ∷ cs) used b =
+    let next = used_after used c in
+    let later = all_made (namings next cs) in
+    let mid : IsBounded next =
+    bounded_before later next (subst IsBounded (sym (all_named cs next)) b) in
+    new-append (names_made (naming used c)) later used (naming_new used c mid)
+    (subst (λ u. AreNew u later) (sym (naming_named used c)) (all_new cs next b))
+
+pub names_are_new : NamesAreNew
+names_are_new x e b =
+    let cs = cuts [] (events x e.1) in
+    let used = stands_in (element_names e) in
+    all_new cs used (subst IsBounded (all_named cs used) b)
+
+finished_used : (es : List Event) (g : Groups) →
+    (finished g es).used ≡ used_after_all g.used (cuts g.queue es)
+finished_used [] g = refl
+finished_used (e ∷ es) g = finished_used es (step g e)
+
+pub made_in_walk : (x : Targets) (e : ElementView) → IsBounded (element_walk x e).1.used →
+    MadeAreNew x e
+made_in_walk x e b =
+    let es = events x e.1 in
+    let used = stands_in (element_names e) in
+    let g : Groups = record { queue = []; used = used; answers = λ l. None } in
+    all_new (cuts [] es) used
+    (subst IsBounded (ap (λ w. w.1.used) (walk_is x e.1 g []) ∙ finished_used es g) b)

@@ -1,0 +1,16 @@
+-- The `href` of each location, and of each whose anchor is found, from the data of a walk.
+use Rattle.html_dom_document.specs.Introspectors.{introspector_view}
+use Rattle.html_anchors.specs.FoundAnchors.{anchors_found}
+use Rattle.html_anchors.specs.Links.{Hrefs, anchor_hrefs}
+use Rattle.html_links.specs.UsedNames.{used_in}
+use Rattle.html_anchors.specs.declared.dead.FoundTargets.{FoundTargets}
+use Rattle.html_anchors.specs.declared.links.LinkTargets.{LinkTargets}
+
+abbrev pub hrefs_view : LinkTargets → Hrefs
+hrefs_view targets =
+    anchor_hrefs (used_in targets.places.now) (introspector_view targets.known.now).anchor
+
+abbrev pub live_hrefs_view : FoundTargets → Hrefs
+live_hrefs_view found =
+    let known = (introspector_view found.targets.known.now).anchor in
+    anchor_hrefs (used_in found.targets.places.now) (anchors_found (used_in found.names.now) known)

@@ -1,5 +1,0 @@
-use Rattle.html_dom_findings.proofs.FindingPlaces.{all_findings_stand}
-use Rattle.html_dom_findings.proofs.laws.paths_lead_to_findings.Goals as goal
-
-pub returns : goal.returns
-returns c = all_findings_stand

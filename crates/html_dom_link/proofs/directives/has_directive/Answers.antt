@@ -1,5 +1,0 @@
-use Rattle.html_dom_link.proofs.CutFragments.{contains_is}
-use Rattle.html_dom_link.proofs.directives.has_directive.Goals as goal
-
-pub returns : goal.returns
-returns c = contains_is c.args.fragment.now c.utf8.fragment c.contains.result c.contains.ensures.cases

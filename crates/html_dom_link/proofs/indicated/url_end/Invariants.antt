@@ -1,7 +1,0 @@
-use Rattle.std.proofs.Common.{chars}
-use Rattle.std.specs.Str.Iter.{chars_rest}
-use Rattle.html_dom_link.proofs.TakenFragments.{IsTaken}
-use Rattle.html_dom_link.proofs.indicated.url_end.Given as goal
-
-abbrev pub invariant-loop-c : goal.invariant-loop-c
-invariant-loop-c l = IsTaken l.end l.blanks (chars_rest l.c-iterator) (chars l.fn.text)

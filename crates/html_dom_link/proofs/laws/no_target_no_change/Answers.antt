@@ -1,5 +1,0 @@
-use Rattle.html_dom_link.proofs.Consequences.{no_target_no_change}
-use Rattle.html_dom_link.proofs.laws.no_target_no_change.Goals as goal
-
-pub returns : goal.returns
-returns c = no_target_no_change

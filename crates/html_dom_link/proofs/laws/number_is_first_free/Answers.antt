@@ -1,5 +1,0 @@
-use Rattle.html_dom_link.proofs.Numbers.{is_first_free}
-use Rattle.html_dom_link.proofs.laws.number_is_first_free.Goals as goal
-
-pub returns : goal.returns
-returns c = is_first_free

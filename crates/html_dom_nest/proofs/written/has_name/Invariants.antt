@@ -1,9 +1,0 @@
-use Rattle.std.proofs.Common.{◌≡◌, drop, map}
-use Rattle.html_dom_tree.specs.Attributes.{has_name}
-use Rattle.html_dom_tree.specs.Views.{pair_view}
-use Rattle.html_dom_nest.proofs.written.has_name.Given as goal
-
-abbrev pub invariant-loop-pair : goal.invariant-loop-pair
-invariant-loop-pair l =
-    has_name (map pair_view (drop l.pair-index l.pairs)) l.name
-    ≡ has_name (map pair_view l.pairs) l.name

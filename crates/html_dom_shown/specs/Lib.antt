@@ -1,0 +1,4 @@
+pub mod Bodies
+pub mod Collapsing
+pub mod SeenBodies
+pub mod Values

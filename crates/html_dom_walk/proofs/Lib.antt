@@ -1,0 +1,4 @@
+pub mod Events
+pub mod Gathering
+pub mod Levels
+pub mod Skipping

@@ -1,0 +1,4 @@
+pub mod Events
+pub mod Gathered
+pub mod Walks
+pub mod WalkLaws

@@ -1,9 +1,0 @@
-use Rattle.std.proofs.Common.{◌≡◌, ◌+◌, drop, option_map}
-use Rattle.html_flow.specs.Construct.{args_view}
-use Rattle.html_flow.specs.ArgumentPieces.{unnamed_at}
-use Rattle.html_flow.proofs.construction.unnamed_at.Given as goal
-
-abbrev pub invariant-loop-place : goal.invariant-loop-place
-invariant-loop-place l =
-    unnamed_at (args_view l.args)
-    ≡ option_map (λ k. l.place + k) (unnamed_at (args_view (drop l.place l.args)))

@@ -1,0 +1,3 @@
+pub mod Construct
+pub mod Endings
+pub mod ArgumentPieces

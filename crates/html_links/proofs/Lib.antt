@@ -1,0 +1,11 @@
+pub mod CutFragments
+pub mod Differing
+pub mod FirstBases
+pub mod Gathering
+pub mod InDocument
+pub mod Narrowed
+pub mod PutPlaces
+pub mod ShownNames
+pub mod SpelledNames
+pub mod TakenFragments
+pub mod UsedNames

@@ -1,0 +1,10 @@
+pub mod Bases
+pub mod Directives
+pub mod Distinct
+pub mod HrefLaws
+pub mod InDocument
+pub mod Indicated
+pub mod Scripts
+pub mod Spellings
+pub mod TreeNames
+pub mod UsedNames

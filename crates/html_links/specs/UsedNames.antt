@@ -1,0 +1,14 @@
+-- The names in use as they are stored: a set of texts.
+use Rattle.std.specs.Prelude.{Bool, ◌||◌, List, map, String}
+use Rattle.std.specs.declared.alloc.Global.{Global}
+use Rattle.std.specs.BTreeSet.{BTreeSet}
+use Rattle.html_names_core.specs.Names.{stands_in}
+use Rattle.html_names_core.specs.Texts.{text_view}
+use Rattle.html_links.specs.TreeNames.{Name}
+
+abbrev pub used_in : BTreeSet (String Global) → Name → Bool
+used_in used = stands_in (map text_view used.keys)
+
+-- the names in use, with these names
+abbrev pub with_names : List Name → (used : Name → Bool) → Name → Bool
+with_names names used n = stands_in names n || used n

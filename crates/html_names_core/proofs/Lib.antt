@@ -1,0 +1,14 @@
+pub mod Ascending
+pub mod AttrKinds
+pub mod Basics
+pub mod ByTable
+pub mod Digits
+pub mod EndChars
+pub mod Equals
+pub mod Faults
+pub mod Held
+pub mod Known
+pub mod Lists
+pub mod Same
+pub mod Starts
+pub mod Texts

@@ -1,0 +1,70 @@
+-- Names are equal where they are held alike.
+use Rattle.std.proofs.Common.{◌≡◌, ℕ, ◌<◌, ◌==◌, Bool, true, List, [], refl, sym, ◌∙◌, chars, length, get_or, arith, bytes_eq, string_bytes}
+use Rattle.std.proofs.lemmas.Str.{IsUtf8-string_bytes}
+use Rattle.html_names_core.specs.Names.{rises}
+use Rattle.html_names_core.specs.Characters.{is_tag_char, is_attr_char}
+use Rattle.html_names_core.specs.Held.{held_text, IsHeld, same_held}
+use Rattle.html_names_core.specs.Tables.{known_tags, known_attrs, tag_count, attr_count}
+use Rattle.html_names_core.specs.declared.name.Name.{Name}
+use Rattle.html_names_core.specs.declared.name.Name.TheVariants.{Known, Own}
+use Rattle.html_names_core.proofs.Lists.{bytes_eq-chars}
+use Rattle.html_names_core.proofs.Ascending.{differs, places_differ, stands}
+use Rattle.html_names_core.proofs.Held.{tag_long, attr_long}
+use Rattle.html_names_core.proofs.Basics.{bytes_eq-refl, bytes_eq-sym}
+
+tags_rise : rises known_tags ≡ true
+unfolding known_tags
+tags_rise = refl
+
+attrs_rise : rises known_attrs ≡ true
+unfolding known_attrs
+attrs_rise = refl
+
+-- two places of an ascending table are one where their texts are
+places : (table : List (List ℕ)) → rises table ≡ true → (m n : ℕ) → m < length table →
+    n < length table → (m == n) ≡ bytes_eq (get_or table m []) (get_or table n [])
+places table up m n h l =
+    grind (
+      arith,
+      places_differ table up m n,
+      places_differ table up n m,
+      bytes_eq-refl,
+      bytes_eq-sym (get_or table m []) (get_or table n []),
+    )
+
+pub tag_places : (m n : ℕ) → m < tag_count → n < tag_count →
+    (m == n) ≡ bytes_eq (get_or known_tags m []) (get_or known_tags n [])
+tag_places m n h l =
+    places known_tags tags_rise m n (omega (arith, tag_long, h)) (omega (arith, tag_long, l))
+
+pub attr_places : (m n : ℕ) → m < attr_count → n < attr_count →
+    (m == n) ≡ bytes_eq (get_or known_attrs m []) (get_or known_attrs n [])
+attr_places m n h l =
+    places known_attrs attrs_rise m n (omega (arith, attr_long, h)) (omega (arith, attr_long, l))
+
+module _ (count : ℕ) (table : List (List ℕ)) (p : ℕ → Bool) (up : rises table ≡ true)
+    (long : length table ≡ count) where
+  pub same_by : (x y : Name) → IsHeld count table p x → IsHeld count table p y →
+      same_held x y ≡ bytes_eq (held_text table x) (held_text table y)
+  same_by (Known m) (Known n) h l =
+      places table up m n (omega (arith, long, h)) (omega (arith, long, l))
+  same_by (Own s) (Own t) h l =
+      let a = string_bytes s in
+      let b = string_bytes t in
+      sym (bytes_eq-chars a b (IsUtf8-string_bytes s) (IsUtf8-string_bytes t))
+  same_by (Known m) (Own t) h l =
+      sym (differs table _ (chars (string_bytes t)) (stands table m (omega (arith, long, h))) l.1)
+  same_by (Own s) (Known n) h l =
+      let text = chars (string_bytes s) in
+      let differ = differs table _ text (stands table n (omega (arith, long, l))) h.1 in
+      sym (bytes_eq-sym text (get_or table n []) ∙ differ)
+
+pub tag_same : (x y : Name) → IsHeld tag_count known_tags is_tag_char x →
+    IsHeld tag_count known_tags is_tag_char y →
+    same_held x y ≡ bytes_eq (held_text known_tags x) (held_text known_tags y)
+tag_same x y h l = same_by tag_count known_tags is_tag_char tags_rise tag_long x y h l
+
+pub attr_same : (x y : Name) → IsHeld attr_count known_attrs is_attr_char x →
+    IsHeld attr_count known_attrs is_attr_char y →
+    same_held x y ≡ bytes_eq (held_text known_attrs x) (held_text known_attrs y)
+attr_same x y h l = same_by attr_count known_attrs is_attr_char attrs_rise attr_long x y h l

@@ -1,0 +1,19 @@
+use Rattle.html_names_core.specs.Characters.{is_attr_char}
+use Rattle.html_names_core.specs.Tables.{known_attrs, attr_count}
+use Rattle.html_names_core.proofs.Held.{made, unknown, on_err, attr_long}
+use Rattle.html_names_core.proofs.html_attr.HtmlAttr.make.Goals as goal
+
+pub returns-in_err-make-clause-memory : goal.returns-in_err-make-clause-memory
+returns-in_err-make-clause-memory c =
+    on_err c.from_residual.result _
+    (unknown known_attrs _ c.args.place c.in_err-make.ensures.memory c.requires.place)
+
+pub invariant_of-result : goal.invariant_of-result
+invariant_of-result c =
+    (made attr_count known_attrs is_attr_char attr_long c.args.place _ c.in_ok-make.field-0
+    c.requires.valid c.requires.place c.in_ok-make.ensures.name).0
+
+pub returns-clause-name : goal.returns-clause-name
+returns-clause-name c =
+    (made attr_count known_attrs is_attr_char attr_long c.args.place _ c.in_ok-make.field-0
+    c.requires.valid c.requires.place c.in_ok-make.ensures.name).1

@@ -1,0 +1,14 @@
+pub mod AttrKinds
+pub mod ByNumber
+pub mod Characters
+pub mod Displays
+pub mod Endings
+pub mod Equal
+pub mod NameFaults
+pub mod Hashes
+pub mod Held
+pub mod Kinds
+pub mod Names
+pub mod Starts
+pub mod Tables
+pub mod Texts

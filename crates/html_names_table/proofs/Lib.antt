@@ -1,0 +1,4 @@
+pub mod NameTables
+pub mod Numberings
+pub mod NumberMaps
+pub mod OwnNumbers

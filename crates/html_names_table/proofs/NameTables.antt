@@ -1,0 +1,202 @@
+-- Numbers of names, over lists of texts.
+use Rattle.std.proofs.Common.{◌≡◌, ℕ, zero, suc, ◌+◌, ◌<◌, ◌≤◌, Bool, true, false, if◌then◌else◌, List, [], ◌∷◌, ◌++◌, refl, sym, ap, ◌∙◌, length, get_or, arith, bytes_eq, add-one, append-nil, length-append, Some, Ok}
+use Rattle.std.proofs.lemmas.Bool.{eq-eqb}
+use Rattle.std.proofs.lemmas.List.{get_or_read_under}
+use Rattle.std.proofs.lemmas.Slice.Eq.{bytes_eq-Decides}
+use Rattle.std.proofs.Math.Bool.{or-true}
+use Rattle.html_names_core.specs.Names.{stands_in}
+use Rattle.html_names_table.specs.NameTables.{NamesView, Numbers, IsNumbered, number_in, with_name, name_at}
+use Rattle.html_names_table.specs.NumberMaps.{number_where}
+use Rattle.html_names_core.proofs.Ascending.{stands, stands_in-append}
+use Rattle.html_names_core.proofs.Basics.{bytes_eq-refl}
+
+pub number_below : (names : List (List ℕ)) (name : List ℕ) → stands_in names name ≡ true →
+    number_in names name < length names
+unfolding stands_in number_in
+number_below [] name h = cc
+number_below (n ∷ ns) name h = grind (arith, number_below ns name)
+
+pub number_next : (names : List (List ℕ)) (name : List ℕ) → stands_in names name ≡ false →
+    number_in names name ≡ length names
+unfolding stands_in number_in
+number_next [] name h = refl
+number_next (n ∷ ns) name h = grind (arith, number_next ns name)
+
+pub name_at-number : (names : List (List ℕ)) (name : List ℕ) → stands_in names name ≡ true →
+    name_at names (number_in names name) ≡ name
+unfolding stands_in number_in
+name_at-number [] name h = cc
+name_at-number (n ∷ ns) name h =
+    grind (arith, name_at-number ns name, add-one, (bytes_eq-Decides n name).0)
+
+pub name_at-append : (names more : List (List ℕ)) (number : ℕ) → number < length names →
+    name_at (names ++ more) number ≡ name_at names number
+name_at-append [] more number h = absurd (omega arith)
+name_at-append (n ∷ ns) more zero h = refl
+name_at-append (n ∷ ns) more (suc number) h = name_at-append ns more number (omega arith)
+
+pub name_at-last : (names : List (List ℕ)) (name : List ℕ) →
+    name_at (names ++ name ∷ []) (length names) ≡ name
+name_at-last [] name = refl
+name_at-last (n ∷ ns) name = name_at-last ns name
+
+pub number_in-append : (names more : List (List ℕ)) (name : List ℕ) →
+    stands_in names name ≡ true → number_in (names ++ more) name ≡ number_in names name
+unfolding stands_in number_in
+number_in-append [] more name h = cc
+number_in-append (n ∷ ns) more name h = grind (arith, number_in-append ns more name)
+
+-- a name at the end stands there, with the number that it has or gets
+pub stands_in-last : (names : List (List ℕ)) (name : List ℕ) →
+    stands_in (names ++ name ∷ []) name ≡ true
+unfolding stands_in
+stands_in-last [] name = rw (bytes_eq-refl name) refl
+stands_in-last (n ∷ ns) name = rw (stands_in-last ns name) (or-true (bytes_eq n name))
+
+pub number_in-last : (names : List (List ℕ)) (name : List ℕ) →
+    number_in (names ++ name ∷ []) name ≡ number_in names name
+unfolding number_in
+number_in-last [] name = rw (bytes_eq-refl name) refl
+number_in-last (n ∷ ns) name = rw (number_in-last ns name) refl
+
+-- a name that stands there is not added again
+pub with_name-stands : (names : List (List ℕ)) (name : List ℕ) → stands_in names name ≡ true →
+    with_name names name ≡ names
+unfolding with_name
+with_name-stands names name h = rw h refl
+
+pub with_name-new : (names : List (List ℕ)) (name : List ℕ) → stands_in names name ≡ false →
+    with_name names name ≡ names ++ name ∷ []
+unfolding with_name
+with_name-new names name h = rw h refl
+
+-- a name is added at the end
+pub with_name-appends : (names : List (List ℕ)) (name : List ℕ) →
+    (more : List (List ℕ)) × (with_name names name ≡ names ++ more)
+unfolding with_name
+with_name-appends names name =
+    (if stands_in names name then [] else name ∷ [], grind (arith, append-nil names))
+
+pub with_name-long : (names : List (List ℕ)) (name : List ℕ) →
+    length names ≤ length (with_name names name)
+unfolding with_name
+with_name-long names name = grind (arith, length-append names (name ∷ []))
+
+-- a name that is added stands there, with the number that it had or got
+pub stands_in-added : (names : List (List ℕ)) (name : List ℕ) →
+    stands_in (with_name names name) name ≡ true
+unfolding with_name
+stands_in-added names name = grind (arith, stands_in-last names name)
+
+pub number_in-added : (names : List (List ℕ)) (name : List ℕ) →
+    number_in (with_name names name) name ≡ number_in names name
+unfolding with_name
+number_in-added names name = grind (arith, number_in-last names name)
+
+pub name_at-added : (names : List (List ℕ)) (name : List ℕ) →
+    name_at (with_name names name) (number_in names name) ≡ name
+name_at-added names name =
+    let grown : List (List ℕ) = with_name names name in
+    ap (name_at grown) (sym (number_in-added names name))
+    ∙ name_at-number grown name (stands_in-added names name)
+
+pub name_at-with_name : (names : List (List ℕ)) (name : List ℕ) (number : ℕ) →
+    number < length names → name_at (with_name names name) number ≡ name_at names number
+name_at-with_name names name number h =
+    let grown = with_name-appends names name in
+    rw grown.1 (name_at-append names grown.0 number h)
+
+pub stands_in-with_name : (names : List (List ℕ)) (name other : List ℕ) →
+    stands_in names other ≡ true → stands_in (with_name names name) other ≡ true
+stands_in-with_name names name other h =
+    let grown = with_name-appends names name in
+    rw grown.1 (stands_in-append names grown.0 other h)
+
+pub number_in-with_name : (names : List (List ℕ)) (name other : List ℕ) →
+    stands_in names other ≡ true → number_in (with_name names name) other ≡ number_in names other
+number_in-with_name names name other h =
+    let grown = with_name-appends names name in
+    rw grown.1 (number_in-append names grown.0 other h)
+
+pub one_number : (names : List (List ℕ)) (a b : List ℕ) → stands_in names a ≡ true →
+    stands_in names b ≡ true → number_in names a ≡ number_in names b → a ≡ b
+one_number names a b h l e =
+    sym (name_at-number names a h) ∙ (ap (name_at names) e ∙ name_at-number names b l)
+
+pub equal_numbers : (names : List (List ℕ)) (a b : List ℕ) →
+    (number_in names a ≡ number_in (with_name names a) b → a ≡ b)
+    × (a ≡ b → number_in names a ≡ number_in (with_name names a) b)
+equal_numbers names a b =
+    let one : List (List ℕ) = with_name names a in
+    let both : List (List ℕ) = with_name one b in
+    let there : stands_in one a ≡ true = stands_in-added names a in
+    let first : number_in both a ≡ number_in names a =
+    number_in-with_name one b a there ∙ number_in-added names a in (
+      λ e. one_number both a b (stands_in-with_name one b a there) (stands_in-added one b)
+          (first ∙ (e ∙ sym (number_in-added one b))),
+      λ e. sym (number_in-added names a) ∙ ap (number_in one) e,
+    )
+
+pub number_later : (names : List (List ℕ)) (name other : List ℕ) →
+    number_in (with_name (with_name names name) other) name ≡ number_in names name
+number_later names name other =
+    number_in-with_name (with_name names name) other name (stands_in-added names name)
+    ∙ number_in-added names name
+
+pub stands_in-both : (names : List (List ℕ)) (name other : List ℕ) →
+    stands_in (with_name (with_name names name) other) name ≡ true
+stands_in-both names name other =
+    stands_in-with_name (with_name names name) other name (stands_in-added names name)
+
+pub added_again : (names : List (List ℕ)) (name other : List ℕ) →
+    with_name (with_name (with_name names name) other) name
+    ≡ with_name (with_name names name) other
+added_again names name other =
+    with_name-stands (with_name (with_name names name) other) name (stands_in-both names name other)
+
+-- for a number that is asked for twice
+pub ruleset stays = (number_later, stands_in-both, added_again, eq-eqb)
+
+-- a name that is equal to the one with a number has that number
+pub guessed : (now names : List (List ℕ)) (name kept : List ℕ) (number count : ℕ) → now ≡ names →
+    IsNumbered now → kept ≡ get_or now number kept → number < count → count ≡ length now →
+    bytes_eq kept name ≡ true → Some number ≡ number_where names name
+guessed now names name kept number count is all read below counted e =
+    let at : kept ≡ name_at now number = get_or_read_under now number count kept [] read below counted in
+    let named : name_at now number ≡ name = sym at ∙ (bytes_eq-Decides kept name).0 e in
+    let within : number < length now = omega arith in
+    rw (sym is, sym named, stands now number within) (ap Some (sym (all number within)))
+
+found_where : (names : List (List ℕ)) (name : List ℕ) (number : ℕ) →
+    Some number ≡ number_where names name →
+    (number ≡ number_in names name) × (number < length names) × (with_name names name ≡ names)
+unfolding with_name
+found_where names name number e = grind (arith, number_below names name)
+
+last_below : (names after : List (List ℕ)) (name : List ℕ) (number : ℕ) → number ≡ length names →
+    after ≡ names ++ name ∷ [] → number < length after
+last_below names after name number counted added =
+    rw (added, length-append names (name ∷ [])) (omega arith)
+
+-- in a table, of which the names that have a number are one part: a name that is found, and one that
+-- is not
+module _ (part : List (List ℕ) → NamesView) (names : List (List ℕ)) (text : List ℕ)
+    (number : ℕ) where
+  pub finds : {E : Type 0} → Some number ≡ number_where names text →
+      Numbers {E = E} (Ok number) names names text (part names) (part names) (part (with_name names text))
+  finds there =
+      let grown = found_where names text number there in
+      record { number = grown.0; below = grown.1; names = rw grown.2 refl; absent = tt; kept = tt }
+
+  pub adds : {E : Type 0} → (now : List (List ℕ)) (held : List ℕ) → now ≡ names → held ≡ text →
+      (after : List (List ℕ)) (table : NamesView) → table ≡ part after →
+      after ≡ now ++ held ∷ [] → number ≡ length now → stands_in names text ≡ false →
+      Numbers {E = E} (Ok number) names after text (part names) table (part (with_name names text))
+  adds now held is named after table grown added counted new =
+      record {
+        number = rw (number_next names text new, counted, is) refl;
+        below = last_below now after held number counted added;
+        names = grown ∙ ap part (added ∙ rw (is, named, with_name-new names text new) refl);
+        absent = tt;
+        kept = tt;
+      }

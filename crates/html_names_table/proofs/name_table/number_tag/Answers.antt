@@ -1,0 +1,34 @@
+use Rattle.std.proofs.Common.{◌≡◌, ℕ, refl, length}
+use Rattle.html_names_table.specs.declared.name_table.number_map.NumberMap.{NumberMap}
+use Rattle.html_names_table.specs.NumberMaps.{known_number}
+use Rattle.html_names_table.specs.OwnNumbers.{IsOwnNumbering}
+use Rattle.html_names_core.specs.Tables.{known_tags, tag_count}
+use Rattle.html_names_core.proofs.Held.{tag_long}
+use Rattle.html_names_core.proofs.Same.{tag_places}
+use Rattle.html_names_table.proofs.Numberings.{next_known, next_own}
+use Rattle.html_names_table.proofs.name_table.number_tag.Goals as goal
+use Rattle.html_names_table.proofs.name_table.number_tag.Goals.{then-are_few+in_ok-widen_tags-in-None, else-are_few}
+
+pub returns-in-Some-clause-next : goal.returns-in-Some-clause-next
+returns-in-Some-clause-next c =
+    next_known tag_count known_tags tag_long c.args.kept.now c.args.tag.now c.requires.new
+    (length c.args.kept.now) refl tag_places c.put_known.result c.args.numbers.now
+    c.put_known.new.self c.in-Some.place c.in-Some.ensures c.requires.was c.put_known.ensures
+
+pub returns-after-are_few-clause-next : goal.returns-after-are_few-clause-next
+returns-after-are_few-clause-next c =
+    let new : NumberMap = record { known = c.if-are_few.numbers.known; own = c.put.new.self } in
+    let own : IsOwnNumbering known_tags c.if-are_few.numbers.own c.args.kept.now =
+    elim c.if-are_few.branch [
+      | then-are_few+in_ok-widen_tags-in-None w ↦ rw w.numbers-is w.widen_tags.ensures
+      | else-are_few w ↦ rw w.numbers-is c.requires.was.2
+    ] in
+    let known : (place : ℕ) → known_number new place ≡ known_number c.args.numbers.now place =
+    elim c.if-are_few.branch [
+      | then-are_few+in_ok-widen_tags-in-None w ↦ λ place. rw w.numbers-is refl
+      | else-are_few w ↦ λ place. rw w.numbers-is refl
+    ] in
+    next_own tag_count known_tags tag_long c.args.kept.now c.args.tag.now c.requires.new
+    (length c.args.kept.now) refl c.put.result c.args.numbers.now new c.if-are_few.numbers.own
+    c.resolve.result.now c.resolve.utf8 c.resolve.ensures.text c.in-None.ensures c.requires.was.0
+    c.requires.was.1 own known c.put.ensures

@@ -1,0 +1,3 @@
+pub mod NameTables
+pub mod NumberMaps
+pub mod OwnNumbers

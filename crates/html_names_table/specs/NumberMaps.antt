@@ -1,0 +1,39 @@
+-- Numbers of names by their representation, and when they are the numbers in a list of names.
+use Rattle.std.specs.Prelude.{◌≡◌, ℕ, ◌<◌, ◌==◌, List, [], slice_index_or, if◌then◌else◌, Option, Some, None, Result, OnOk, OnErr}
+use Rattle.std.specs.declared.alloc.AllocError.{AllocError}
+use Rattle.html_names_table.specs.declared.name_table.number_map.NumberMap.{NumberMap}
+use Rattle.html_names_core.specs.Names.{stands_in}
+use Rattle.html_names_table.specs.NameTables.{number_in, IsNumbered}
+use Rattle.html_names_table.specs.OwnNumbers.{HoldsNoText, IsOwnNumbering}
+
+-- the number of the known name with that index, if it has one
+abbrev pub known_number : NumberMap → ℕ → Option ℕ
+known_number numbers place = slice_index_or numbers.known.items place None
+
+-- no name has a number
+pub record HoldsNone (numbers : NumberMap) : Type 0 where
+  pub known : (place : ℕ) → known_number numbers place ≡ None
+  pub own : HoldsNoText numbers.own
+
+-- a call sets the number of a known name and no other; if it fails, it changes none
+pub record PutsKnown (result : Result (Unit {0}) AllocError) (old new : NumberMap)
+    (place number : ℕ) : Type 0 where
+  pub placed : OnOk result ((other : ℕ) → known_number new other
+      ≡ (if place == other then Some number else known_number old other))
+  pub kept : OnErr result ((other : ℕ) → known_number new other ≡ known_number old other)
+  pub own : new.own ≡ old.own
+
+-- the number of a text among names, if it is one of them
+abbrev pub number_where : List (List ℕ) → List ℕ → Option ℕ
+number_where names name = if stands_in names name then Some (number_in names name) else None
+
+-- each of a table of known names has the number of its text among the names
+abbrev pub IsKnownNumbering : (count : ℕ) (table : List (List ℕ)) → NumberMap →
+    List (List ℕ) → Type 0
+IsKnownNumbering count table numbers names = (place : ℕ) → place < count →
+    known_number numbers place ≡ number_where names (slice_index_or table place [])
+
+-- no two of the names are equal, and each name has its number among them
+abbrev pub IsNumbering : (count : ℕ) (table : List (List ℕ)) → NumberMap → List (List ℕ) → Type 0
+IsNumbering count table numbers names = IsNumbered names
+    × IsKnownNumbering count table numbers names × IsOwnNumbering table numbers.own names

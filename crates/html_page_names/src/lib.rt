@@ -1,0 +1,19 @@
+//! Names that the reader of a page distinguishes: the kinds of elements, the names of SVG and
+//! MathML with their capitals, and the named character references.
+#![tactic(auto)]
+
+mod foreign_names;
+mod foreign_table;
+mod kind;
+mod kind_table;
+mod kinds;
+mod reference_rows;
+mod references;
+
+pub use foreign_names::{
+    is_encoding, is_font_attr, is_html_encoding, is_same_lowered, math_attr, svg_attr, svg_tag,
+};
+pub use html_names_core::lookup::is_one_of;
+pub use kind::Kind;
+pub use kinds::{Kinds, kinds_of};
+pub use references::{legacy_reference, named_reference};

@@ -1,0 +1,10 @@
+use Rattle.html_dom_tree.specs.Views.{element_view}
+use Rattle.html_page_nesting.specs.Misnested.{misnested_nodes}
+use Rattle.html_page_nesting.proofs.Walks.{walk_ended}
+use Rattle.html_page_nesting.proofs.walk.walk_tree.Goals as goal
+
+pub returns : goal.returns
+returns g c =
+    walk_ended g.S.MisnestedSink.made_with c.args.sink c.pass_tree-passed.new.walk.sink
+    (misnested_nodes (element_view c.args.root.now)) c.pass_tree-passed.result c.finish.result
+    (rw c.new-walk.ensures.sink at c.pass_tree-passed.ensures c.new-walk.ensures.path) c.finish.ensures

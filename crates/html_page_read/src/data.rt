@@ -1,0 +1,102 @@
+//! Text, and the beginnings of tags (HTML Standard 13.2.5.1, 13.2.5.6, 13.2.5.7, 13.2.5.41).
+
+ghost use Rattle.std.specs.Prelude.{◌≡◌, []};
+ghost use Rattle.html_page_read.specs.Endings.{Moves};
+ghost use Rattle.html_page_read.specs.PageTokens as tokens;
+ghost use Rattle.html_page_read.specs.PageReaderViews.{holder_at, reader_of, reading_of};
+
+use crate::reader::{Holder, Reader, State};
+use crate::reference::is_letter;
+use html_dom_tree::text;
+use html_page_stack::{Halt, PageError};
+
+impl Reader {
+    pub(crate) fn begin_reference(&mut self, holder: Holder)
+        ensures { reader_of self.new ≡ record {
+          state = tokens.Reference [] (holder_at holder self.old);
+          reading = reading_of self.old.reading;
+        } }
+    {
+        self.since.clear();
+        self.holder = holder;
+        self.state = State::Reference;
+    }
+
+    pub(crate) fn data(&mut self, c: char) -> Result<(), Halt>
+        ensures { Moves result (tokens.data_read c (reading_of self.old.reading))
+            (reader_of self.new) }
+    {
+        self.reading.page.start = self.reading.place;
+        match c {
+            '<' => self.state = State::TagOpen,
+            '&' => self.begin_reference(Holder::Data),
+            _ => {
+                self.reading.emit_char(c)?;
+                self.state = State::Data;
+            }
+        }
+        Ok(())
+    }
+
+    pub(crate) fn bogus_comment(&mut self, c: char) -> Result<(), Halt>
+        ensures { Moves result (tokens.bogus_read c (reading_of self.old.reading))
+            (reader_of self.new) }
+    {
+        if c == '>' {
+            self.reading.fresh = false;
+            self.state = State::Data;
+        } else {
+            self.state = State::BogusComment;
+        }
+        Ok(())
+    }
+
+    pub(crate) fn tag_open(&mut self, c: char) -> Result<(), Halt>
+        ensures { Moves result (tokens.tag_open_read c (reading_of self.old.reading))
+            (reader_of self.new) }
+    {
+        if is_letter(c) {
+            self.draft.begin(self.alloc, false, c)?;
+            self.state = State::TagName;
+            return Ok(());
+        }
+        match c {
+            '/' => self.state = State::EndTagOpen,
+            '!' => {
+                text::empty(&mut self.inner);
+                self.state = State::Markup;
+            }
+            '?' => {
+                self.reading
+                    .note(PageError::UnexpectedQuestionMarkInsteadOfTagName)?;
+                return self.bogus_comment(c);
+            }
+            _ => {
+                self.reading
+                    .note(PageError::InvalidFirstCharacterOfTagName)?;
+                self.reading.emit_char('<')?;
+                return self.data(c);
+            }
+        }
+        Ok(())
+    }
+
+    pub(crate) fn end_tag_open(&mut self, c: char) -> Result<(), Halt>
+        ensures { Moves result (tokens.end_tag_open_read c (reading_of self.old.reading))
+            (reader_of self.new) }
+    {
+        if is_letter(c) {
+            self.draft.begin(self.alloc, true, c)?;
+            self.state = State::TagName;
+            return Ok(());
+        }
+        if c == '>' {
+            self.reading.note(PageError::MissingEndTagName)?;
+            self.state = State::Data;
+            return Ok(());
+        }
+        self.reading
+            .note(PageError::InvalidFirstCharacterOfTagName)?;
+        self.bogus_comment(c)
+    }
+}

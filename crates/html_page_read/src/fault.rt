@@ -1,0 +1,97 @@
+//! The reasons for which a page is not read, and the errors from which the reader recovers.
+
+ghost use Rattle.std.specs.Prelude.{◌≡◌};
+ghost use Rattle.html_page_read.specs.PageFaults.{number_of};
+
+use html_names_core::Refused;
+use html_page_stack::{PageError, PageRefusal};
+use html_text::Place;
+use std::alloc::{AllocError, AllocFailed};
+use thiserror::Error;
+
+/// The reason why a page was not read. Offsets of places are in bytes of the given page; a line
+/// ends with a line feed, a carriage return or both in that order, and a byte order mark at the
+/// beginning is no character of the first.
+#[derive(Clone, Copy, Debug, PartialEq, Eq, Error)]
+pub enum PageFault {
+    /// An allocation failed.
+    #[error("out of memory")]
+    OutOfMemory,
+    /// A byte that is no UTF-8.
+    #[error("a byte that is no text at {place}")]
+    NotText {
+        /// Its place.
+        place: Place,
+    },
+    /// A page that is refused.
+    #[error("{refusal} at {place}")]
+    Refused {
+        /// The content that is refused.
+        refusal: PageRefusal,
+        /// The beginning of the token: the `<` of a tag, or a character.
+        place: Place,
+    },
+}
+
+/// An error of a page from which the reader recovered, and its place, with the units of
+/// [`PageFault`].
+#[derive(Clone, Copy, Debug, PartialEq, Eq)]
+pub struct PageNote {
+    /// The error.
+    pub error: PageError,
+    /// Its place.
+    pub place: Place,
+}
+
+/// The errors of a page from which the reader recovered.
+#[derive(Debug, Drop)]
+pub struct PageNotes {
+    /// The number of errors, at most that of 32 bits.
+    pub count: u32,
+    /// The first ten.
+    pub first: Vec<PageNote>,
+}
+
+impl PageFault {
+    /// Returns the fault's number: 0 if an allocation failed, 25 for bytes that are no text, like a
+    /// text with another syntax, and otherwise that of the refusal.
+    pub fn number(&self) -> u8
+        ensures { result ≡ number_of self.now }
+    {
+        match self {
+            PageFault::OutOfMemory => 0,
+            PageFault::NotText { .. } => 25,
+            PageFault::Refused { refusal, .. } => refusal.number(),
+        }
+    }
+}
+
+impl From<AllocError> for PageFault {
+    ghost use Rattle.html_page_read.specs.declared.fault.PageFault.TheVariants.{OutOfMemory};
+
+    ghost from_gives = { λ _ e. e ≡ OutOfMemory };
+
+    fn from(_refused: AllocError) -> PageFault {
+        PageFault::OutOfMemory
+    }
+}
+
+impl<T: Drop> From<AllocFailed<T>> for PageFault {
+    ghost use Rattle.html_page_read.specs.declared.fault.PageFault.TheVariants.{OutOfMemory};
+
+    ghost from_gives = { λ _ e. e ≡ OutOfMemory };
+
+    fn from(_refused: AllocFailed<T>) -> PageFault {
+        PageFault::OutOfMemory
+    }
+}
+
+impl<T: Drop> From<Refused<T>> for PageFault {
+    ghost use Rattle.html_page_read.specs.declared.fault.PageFault.TheVariants.{OutOfMemory};
+
+    ghost from_gives = { λ _ e. e ≡ OutOfMemory };
+
+    fn from(_refused: Refused<T>) -> PageFault {
+        PageFault::OutOfMemory
+    }
+}

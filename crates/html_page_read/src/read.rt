@@ -1,0 +1,206 @@
+//! Reading a page as browsers do, from a text or bytes to its element and the errors in it.
+
+ghost use Rattle.std.specs.Prelude.{◌≡◌, ◌≤◌, ◌<◌, ◌+◌, ◌^◌, OnOk, IfOk, IfErr, chars, length};
+ghost use Rattle.html_page_read.specs.Endings.{Moves};
+ghost use Rattle.html_page_read.specs.PageAnswers.{ArePlaced, Begins, Gives, GivesBytes, ReadsText, fault_of, placed};
+ghost use Rattle.html_page_read.specs.PageReading as pages;
+ghost use Rattle.html_page_read.specs.PageReaderViews.{reader_of, reading_of};
+ghost use Rattle.html_page_stack.specs.PageViews.{notes_of};
+
+use crate::fault::{PageFault, PageNote, PageNotes};
+use crate::place::place_at;
+use crate::reader::Reader;
+use crate::reading::Reading;
+use html_dom_tree::HtmlElement;
+use html_dom_tree::text::split_first;
+use html_page_stack::{Halt, Notes, PageError, PageRefusal};
+use std::alloc::{AllocError, Global};
+use std::str;
+
+const BYTE_ORDER_MARK: char = '\u{feff}';
+
+/// Reads a page from elsewhere as browsers do, and returns its element and the errors in it.
+///
+/// Reads as HTML Standard 13.2 says, with scripting disabled, and recovers from the errors that
+/// browsers recover from. Comments and document types leave nothing in the element. Refuses a page
+/// if a browser would move nodes of it, make them a second time, or change a complete element;
+/// [`PageRefusal`] lists the cases.
+///
+/// The span of an element is the offset in bytes of the `<` of its start tag, or of the tag or the
+/// character that implied it; [`Places`](crate::Places) maps it to a line and a column. A text has
+/// the span of its element.
+///
+/// `limit` is from 1 to 10,000 and bounds the depth of elements; the root has depth 1.
+///
+/// # Errors
+///
+/// [`PageFault::Refused`] with the first place from which on the page is not read: that of the `<`
+/// of the tag, or of the character.
+///
+/// Takes time linear in the length of the text, except that a tag that looks for an open element,
+/// such as an end tag, visits those inside it, or all if there is none. Beside the element,
+/// allocates memory for the open elements, one text and one tag.
+///
+/// ```
+/// use html_page::{PageFault, read_page};
+///
+/// let alloc = rt.alloc();
+/// let (root, notes) = read_page(alloc, "<!DOCTYPE html><ul><li>a<li>b</b></ul>", 50)?;
+/// assert_eq!(rt; root.children.len(), 2); // head and body
+/// assert_eq!(rt; notes.count, 1);
+/// for note in &notes.first {
+///     assert_eq!(rt; note.place.offset, 29); // `</b>`, which closes nothing
+/// }
+///
+/// let read = read_page(alloc, "<!DOCTYPE html><table>a", 50);
+/// let Err(PageFault::Refused { place, .. }) = read else {
+///     panic!(rt; "a text is moved out of a table");
+/// };
+/// assert_eq!(rt; place.column, 23);
+/// ```
+pub fn read_page(
+    alloc: Global,
+    text: &str,
+    limit: usize,
+) -> Result<(HtmlElement, PageNotes), PageFault>
+    requires some_limit { 1 ≤ limit }
+    requires low_limit { limit ≤ 10000 }
+    ensures { Gives result (chars text.now) (pages.page_read limit (chars text.now)) }
+{
+    match read_text(alloc, text, limit) {
+        Ok((root, notes)) => {
+            let notes = notes_at(alloc, text, notes)?;
+            Ok((root, notes))
+        }
+        Err(halt) => Err(fault_of(text, halt)),
+    }
+}
+
+/// Reads a page from elsewhere, in bytes, and returns its element and the errors in it.
+///
+/// Reads the text as [`read_page`] does.
+///
+/// # Errors
+///
+/// Those of [`read_page`], and before all others [`PageFault::NotText`] with the place of the first
+/// byte that is no UTF-8.
+pub fn read_page_bytes(
+    alloc: Global,
+    page: &[u8],
+    limit: usize,
+) -> Result<(HtmlElement, PageNotes), PageFault>
+    requires some_limit { 1 ≤ limit }
+    requires low_limit { limit ≤ 10000 }
+    ensures { GivesBytes result page.now limit }
+{
+    match str::from_utf8(page) {
+        Ok(text) => read_page(alloc, text, limit),
+        Err(fault) => {
+            let valid = fault.valid_up_to();
+            let front = str::from_utf8(&page[..valid]).unwrap();
+            let place = place_at(front, valid);
+            Err(PageFault::NotText { place })
+        }
+    }
+}
+
+/// Returns the fault for a text that is not read.
+fn fault_of(text: &str, halt: Halt) -> PageFault
+    ensures { result ≡ fault_of (chars text.now) halt }
+{
+    match halt {
+        Halt::OutOfMemory => PageFault::OutOfMemory,
+        Halt::Refused { refusal, place } => {
+            let place = place_at(text, place);
+            PageFault::Refused { refusal, place }
+        }
+    }
+}
+
+/// Returns an error with its place in the text.
+fn note_at(text: &str, note: &(PageError, usize)) -> PageNote
+    ensures { result ≡ placed (chars text.now) note.now }
+{
+    let place = place_at(text, note.1);
+    PageNote {
+        error: note.0,
+        place,
+    }
+}
+
+/// Returns the errors with their places in the text.
+fn notes_at(alloc: Global, text: &str, notes: Notes) -> Result<PageNotes, AllocError>
+    ensures { IfOk result (ArePlaced (chars text.now) (notes_of notes)) }
+{
+    let count = notes.count;
+    let mut first = Vec::new(alloc);
+    for note in &notes.first {
+        first.push(note_at(text, note))?;
+    }
+    Ok(PageNotes { count, first })
+}
+
+fn run(reader: &mut Reader, text: &str) -> Result<(), Halt>
+    requires { reader.old.reading.place + length text.now < 2 ^ 64 }
+    ensures { Moves result (pages.run (reader_of reader.old) (chars text.now))
+        (reader_of reader.new) }
+{
+    let mut rest = text;
+    loop {
+        let past = reader.read_front(rest)?;
+        let mut left = past.chars();
+        let Some(c) = left.next() else {
+            return Ok(());
+        };
+        reader.step(c)?;
+        rest = left.as_str();
+    }
+}
+
+/// Returns a reader that has read a text, which starts at that offset in bytes.
+fn read_from(alloc: Global, text: &str, limit: usize, place: usize) -> Result<Reader, Halt>
+    requires { place + length text.now < 2 ^ 64 }
+    ensures { Begins result (pages.run (pages.first_reader limit place) (chars text.now)) }
+{
+    let mut reader = Reader::new(alloc, limit, place);
+    run(&mut reader, text)?;
+    Ok(reader)
+}
+
+/// Returns a reader that has read a text, and dropped its byte order mark.
+fn reader_behind(alloc: Global, text: &str, limit: usize) -> Result<Reader, Halt>
+    ensures { Begins result (pages.begun limit (chars text.now)) }
+{
+    let Some((first, rest)) = split_first(text) else {
+        return Ok(Reader::new(alloc, limit, 0));
+    };
+    if first == BYTE_ORDER_MARK {
+        read_from(alloc, rest, limit, BYTE_ORDER_MARK.len_utf8())
+    } else {
+        read_from(alloc, text, limit, 0)
+    }
+}
+
+/// Returns the element of a page that is read, and the errors recovered from.
+fn page_made(reading: Reading) -> Result<(HtmlElement, Notes), Halt>
+    ensures { ReadsText result (pages.page_made (reading_of reading)) }
+{
+    let place = reading.place;
+    let (root, notes) = reading.page.finish()?;
+    match root {
+        Some(root) => Ok((root, notes)),
+        None => {
+            let refusal = PageRefusal::Unsettled;
+            Err(Halt::Refused { refusal, place })
+        }
+    }
+}
+
+/// Returns the element that the text is read as, and the errors recovered from.
+fn read_text(alloc: Global, text: &str, limit: usize) -> Result<(HtmlElement, Notes), Halt>
+    ensures { ReadsText result (pages.page_read limit (chars text.now)) }
+{
+    let mut reader = reader_behind(alloc, text, limit)?;
+    reader.finish()?;
+    page_made(reader.reading)
+}

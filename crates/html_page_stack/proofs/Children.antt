@@ -1,0 +1,35 @@
+-- Elements with one child more: whether some child is an element, and texts that are not empty.
+use Rattle.std.proofs.Common.{◌≡◌, ℕ, true, false, List, [], ◌∷◌, refl, sym, ap, ◌∙◌, eqb, length, chars}
+use Rattle.std.specs.Str.{IsUtf8}
+use Rattle.std.proofs.lemmas.Bool.{false≢true}
+use Rattle.std.proofs.lemmas.Str.{encodes-chars}
+use lib.Utf8.{encodes}
+use Rattle.html_dom_tree.specs.Tree.{Head, tag_node, text_node, element_node, frame_node, NodesView, none, node, with_last}
+use Rattle.html_page_stack.specs.OpenElements.{OpenElement, has_elements, with_text}
+
+pub text_counts : (ns : NodesView) (text : List ℕ) (span : ℕ) →
+    has_elements (with_last ns (text_node text span)) ≡ has_elements ns
+text_counts none text span = refl
+text_counts (node (tag_node t) ns) text span = text_counts ns text span
+text_counts (node (text_node s n) ns) text span = text_counts ns text span
+text_counts (node (element_node h children) ns) text span = refl
+text_counts (node (frame_node f) ns) text span = text_counts ns text span
+
+pub element_counts : (ns : NodesView) (h : Head) (children : NodesView) →
+    has_elements (with_last ns (element_node h children)) ≡ true
+element_counts none h children = refl
+element_counts (node (tag_node t) ns) h children = element_counts ns h children
+element_counts (node (text_node s n) ns) h children = element_counts ns h children
+element_counts (node (element_node g kids) ns) h children = refl
+element_counts (node (frame_node f) ns) h children = element_counts ns h children
+
+text_by : (cs bs : List ℕ) (o : OpenElement) → encodes cs ≡ bs → eqb (length bs) 0 ≡ false →
+    with_text cs o ≡ record o { children = with_last o.children (text_node cs o.head.span) }
+text_by [] bs o e h = absurd (false≢true (sym h ∙ ap (λ l. eqb (length l) 0) (sym e)))
+text_by (c ∷ cs) bs o e h = refl
+
+-- a text that is not empty, by its bytes
+pub some_text : (bs : List ℕ) (o : OpenElement) → IsUtf8 bs → eqb (length bs) 0 ≡ false →
+    with_text (chars bs) o
+    ≡ record o { children = with_last o.children (text_node (chars bs) o.head.span) }
+some_text bs o u h = text_by (chars bs) bs o (encodes-chars bs u) h

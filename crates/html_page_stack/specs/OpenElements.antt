@@ -1,0 +1,165 @@
+-- The open elements, innermost first, what is in scope, and the insertion mode, which follows from
+-- them (HTML Standard 13.2.4).
+use Rattle.std.specs.Prelude.{ℕ, Bool, true, false, not, ◌&&◌, ◌||◌, ◌==◌, List, [], ◌∷◌, length, if◌then◌else◌, bytes_eq, Option, Some, None, unwrap_or}
+use Rattle.html_dom_tree.specs.Tree.{Head, NodeView, tag_node, text_node, element_node, frame_node, NodesView, none, node, ElementView, with_last}
+use Rattle.html_page_names.specs.ForeignNames.{lowered}
+use Rattle.html_page_names.specs.PageNames.{of}
+use Rattle.html_page_names.specs.declared.kind.Kind.TheVariants as kind
+use Rattle.html_page_stack.specs.declared.modes.Mode.{Mode}
+use Rattle.html_page_stack.specs.declared.modes.Mode.TheVariants.{BeforeHtml, BeforeHead, InHead, InHeadNoscript, AfterHead, InBody, InText, InTable, InCaption, InColumns, InSection, InRow, InCell}
+use Rattle.html_page_stack.specs.declared.modes.Scope.{Scope}
+use Rattle.html_page_stack.specs.declared.modes.Scope.TheVariants.{General, ListItem, Button, Table}
+use Rattle.html_page_stack.specs.declared.modes.Space.{Space}
+use Rattle.html_page_stack.specs.declared.modes.Space.TheVariants.{Html, Svg, MathMl}
+
+-- an open element, and its children so far
+pub record OpenElement : Type 0 where
+  pub head : Head
+  pub space : Space
+  pub children : NodesView
+
+abbrev pub is_html : Space → Bool
+is_html Html = true
+is_html space = false
+
+-- whether the element is one of HTML whose name passes the test
+abbrev pub is_of : (test : List ℕ → Bool) → OpenElement → Bool
+is_of test o = is_html o.space && test o.head.name
+
+-- whether the element is one of SVG or MathML with that name, in lowercase
+abbrev pub is_foreign_of : (name : List ℕ) → OpenElement → Bool
+is_foreign_of name o = not (is_html o.space) && bytes_eq (lowered o.head.name) name
+
+-- whether the current node is a goal
+abbrev pub at : (goal : OpenElement → Bool) → List OpenElement → Bool
+at goal [] = false
+at goal (o ∷ os) = goal o
+
+-- whether the current node is an element of HTML whose name passes the test
+abbrev pub is_at : (test : List ℕ → Bool) → List OpenElement → Bool
+is_at test = at (is_of test)
+
+-- the namespace of the current node
+abbrev pub current_space : List OpenElement → Space
+current_space [] = Html
+current_space (o ∷ os) = o.space
+
+-- whether the current node is an element of SVG or MathML
+abbrev pub is_in_foreign : List OpenElement → Bool
+is_in_foreign = at (λ o. not (is_html o.space))
+
+-- whether a search from the current node outwards reaches a goal before a bound
+abbrev pub reaches : (goal bound : OpenElement → Bool) → List OpenElement → Bool
+reaches goal bound [] = false
+reaches goal bound (o ∷ os) = goal o || (not (bound o) && reaches goal bound os)
+
+-- whether any open element is one of HTML whose name passes the test
+abbrev pub has : (test : List ℕ → Bool) → List OpenElement → Bool
+has test = reaches (is_of test) (λ o. false)
+
+-- whether an element of SVG or MathML bounds scopes, and is special
+abbrev pub is_foreign_bound : Space → (name : List ℕ) → Bool
+is_foreign_bound Html name = false
+is_foreign_bound Svg name = of kind.SvgHtml name
+is_foreign_bound MathMl name = of kind.MathText name || of kind.AnnotationXml name
+
+abbrev pub bounds_general : OpenElement → Bool
+bounds_general o = is_of (of kind.BoundsScope) o || is_foreign_bound o.space o.head.name
+
+abbrev pub bounds : Scope → OpenElement → Bool
+bounds General o = bounds_general o
+bounds ListItem o = is_of (of kind.BoundsList) o || bounds_general o
+bounds Button o = is_of (of kind.Button) o || bounds_general o
+bounds Table o = is_of (λ n. of kind.Html n || of kind.Table n || of kind.Template n) o
+
+-- whether such an element is in scope: no other element that bounds the scope is inside it
+abbrev pub in_scope : Scope → (test : List ℕ → Bool) → List OpenElement → Bool
+in_scope scope test = reaches (is_of test) (bounds scope)
+
+abbrev pub is_special : OpenElement → Bool
+is_special o = is_of (of kind.Special) o || is_foreign_bound o.space o.head.name
+
+-- whether such an element is open, with no special element inside it
+abbrev pub is_near : (test : List ℕ → Bool) → List OpenElement → Bool
+is_near test = reaches (is_of test) is_special
+
+-- whether such an element is open, with no element inside it that hides it
+abbrev pub is_active : (test : List ℕ → Bool) → List OpenElement → Bool
+is_active test = reaches (is_of test) (is_of (of kind.Marker))
+
+-- whether an element ends the search for an item: `address`, `div` and `p` do not (13.2.6.4.7,
+-- start tags of `li`, `dd`, `dt`)
+abbrev pub bounds_item : OpenElement → Bool
+bounds_item o = is_special o && not (is_of (of kind.PassedByItems) o)
+
+abbrev pub has_item : (test : List ℕ → Bool) → List OpenElement → Bool
+has_item test = reaches (is_of test) bounds_item
+
+-- the mode that an element of HTML sets
+abbrev pub named_mode : (name : List ℕ) (below : List OpenElement) → Option Mode
+named_mode name below = if of kind.Cell name then Some InCell
+    else (if of kind.Section name then Some InSection
+    else (if of kind.Tr name then Some InRow
+    else (if of kind.Caption name then Some InCaption
+    else (if of kind.Colgroup name then Some InColumns
+    else (if of kind.Table name then Some InTable
+    else (if of kind.Body name then Some InBody
+    else (if of kind.Head name then Some InHead
+    else (if of kind.Raw name then Some InText
+    else (if of kind.Noscript name && is_at (of kind.Head) below then Some InHeadNoscript
+    else None)))))))))
+
+-- whether any of the nodes is an element
+abbrev pub has_elements : NodesView → Bool
+has_elements none = false
+has_elements (node (tag_node t) ns) = has_elements ns
+has_elements (node (text_node text span) ns) = has_elements ns
+has_elements (node (element_node h children) ns) = true
+has_elements (node (frame_node f) ns) = has_elements ns
+
+-- the mode within `html`, outside of head and body
+abbrev pub html_mode : NodesView → Mode
+html_mode children = if has_elements children then AfterHead else BeforeHead
+
+-- the insertion mode (13.2.4.1, "reset the insertion mode appropriately")
+abbrev pub mode : List OpenElement → Mode
+mode [] = BeforeHtml
+mode (o ∷ os) = unwrap_or (if is_html o.space then named_mode o.head.name os else None)
+    (if length os == 0 then html_mode o.children else mode os)
+
+-- appends a text to an element, with the span of the element, unless the text is empty
+abbrev pub with_text : List ℕ → OpenElement → OpenElement
+with_text [] o = o
+with_text (c ∷ cs) o =
+    record o { children = with_last o.children (text_node (c ∷ cs) o.head.span) }
+
+-- appends a text to the current node, unless it is empty
+abbrev pub with_last_text : List ℕ → List OpenElement → List OpenElement
+with_last_text text [] = []
+with_last_text text (o ∷ os) = with_text text o ∷ os
+
+abbrev pub completed : OpenElement → NodeView
+completed o = element_node o.head o.children
+
+abbrev pub with_last_child : NodeView → OpenElement → OpenElement
+with_last_child child o = record o { children = with_last o.children child }
+
+-- completes the current node, unless it is the root
+abbrev pub without_current : List OpenElement → List OpenElement
+without_current [] = []
+without_current (o ∷ []) = o ∷ []
+without_current (o ∷ p ∷ ps) = with_last_child (completed o) p ∷ ps
+
+-- the root, with all open elements complete
+abbrev pub all_completed : OpenElement → List OpenElement → ElementView
+all_completed o [] = (o.head, o.children)
+all_completed o (p ∷ ps) = all_completed (with_last_child (completed o) p) ps
+
+abbrev pub root_of : List OpenElement → Option ElementView
+root_of [] = None
+root_of (o ∷ os) = Some (all_completed o os)
+
+-- the name of the current node
+abbrev pub current_name : List OpenElement → Option (List ℕ)
+current_name [] = None
+current_name (o ∷ os) = Some o.head.name

@@ -1,0 +1,72 @@
+-- The program's page, tokens and searches as those of the definition.
+use Rattle.std.specs.Prelude.{ℕ, Bool, false, not, ◌&&◌, List, reverse}
+use Rattle.html_dom_tree.specs.Views.{attrs_view, text_view}
+use Rattle.html_page_names.specs.PageNames.{is, of}
+pub use Rattle.html_page_stack.specs.ElementViews.{element_of, list_of}
+use Rattle.html_page_stack.specs.OpenElements as elements
+use Rattle.html_page_stack.specs.OpenElements.{OpenElement, bounds, bounds_item, is_html, is_of, is_special}
+use Rattle.html_page_stack.specs.OpenElements.{is_foreign_of}
+use Rattle.html_page_stack.specs.Pages as pages
+use Rattle.html_page_names.specs.declared.kind.Kind.TheVariants as kind
+use Rattle.html_page_stack.specs.declared.notes.Notes.{Notes}
+use Rattle.html_page_stack.specs.declared.page.Page.{Page}
+use Rattle.html_page_stack.specs.declared.search.Bound.{Bound}
+use Rattle.html_page_stack.specs.declared.search.Bound.TheVariants as bound
+use Rattle.html_page_stack.specs.declared.search.Goal.{Goal}
+use Rattle.html_page_stack.specs.declared.search.Goal.TheVariants as goal
+use Rattle.html_page_stack.specs.declared.search.Target.{Target}
+use Rattle.html_page_stack.specs.declared.search.Target.TheVariants as target
+use Rattle.html_page_stack.specs.declared.search.While.{While}
+use Rattle.html_page_stack.specs.declared.search.While.TheVariants as while
+use Rattle.html_page_stack.specs.declared.stack.Stack.{Stack}
+use Rattle.html_page_stack.specs.declared.token.StartTag.{StartTag}
+use Rattle.html_page_stack.specs.declared.token.Token.{Token}
+use Rattle.html_page_stack.specs.declared.token.Token.TheVariants as token
+
+abbrev pub stack_of : Stack → List OpenElement
+stack_of s = list_of s.items.items
+
+abbrev pub notes_of : Notes → pages.Notes
+notes_of notes = record { count = notes.count; first = notes.first.items }
+
+abbrev pub page_of : Page → pages.Page
+page_of p = record {
+  text = text_view p.text;
+  stack = stack_of p.stack;
+  lost = reverse p.lost.names.items;
+  tables = p.tables;
+  limit = p.limit;
+  start = p.start;
+  notes = notes_of p.notes;
+}
+
+abbrev pub start_of : StartTag → pages.StartTag
+start_of t = record { name = t.name.tag; attrs = attrs_view t.attrs; closed = t.closed }
+
+abbrev pub token_of : Token → pages.Token
+token_of (token.Char c) = pages.Char c
+token_of (token.Start tag) = pages.Start (start_of tag)
+token_of (token.End name) = pages.End name.tag
+token_of token.Finish = pages.Finish
+
+abbrev pub target_test : Target → List ℕ → Bool
+target_test (target.Kind k) = of k
+target_test (target.Named tag) = is tag.now
+target_test target.Nothing = pages.no_name
+
+abbrev pub goal_test : Goal → OpenElement → Bool
+goal_test (goal.Of t) = is_of (target_test t)
+goal_test (goal.Foreign tag) = is_foreign_of tag.now
+
+abbrev pub while_test : While → List OpenElement → Bool
+while_test (while.Above g) = λ os. not (elements.at (goal_test g) os)
+while_test (while.Implied but) =
+    elements.is_at (λ n. of kind.Implied n && not (target_test but n))
+
+abbrev pub bound_test : Bound → OpenElement → Bool
+bound_test (bound.Scope s) = bounds s
+bound_test bound.Special = is_special
+bound_test bound.Marker = is_of (of kind.Marker)
+bound_test bound.Item = bounds_item
+bound_test bound.Html = λ o. is_html o.space
+bound_test bound.Nothing = λ o. false

@@ -1,0 +1,214 @@
+-- The state of a page that is being read, and the steps that its tokens take: they open and close
+-- elements (HTML Standard 13.2.4 and 13.2.6).
+use Rattle.std.specs.Prelude.{ℕ, zero, suc, ◌+◌, min, Bool, true, false, not, ◌&&◌, ◌||◌, nat_lt, nat_le, List, [], ◌∷◌, ◌++◌, length, if◌then◌else◌, bytes_eq, Option, Some, None, Result, Ok, Err}
+use Rattle.html_dom_tree.specs.Tree.{TextPair, Head, none}
+use Rattle.html_page_stack.specs.OpenElements.{OpenElement, at, is_of, is_at, in_scope, with_last_text, without_current}
+use Rattle.html_page_names.specs.PageNames.{of}
+use Rattle.html_page_names.specs.declared.kind.Kind.TheVariants as kind
+use Rattle.html_page_stack.specs.declared.error.PageError.{PageError}
+use Rattle.html_page_stack.specs.declared.error.PageError.TheVariants as error
+use Rattle.html_page_stack.specs.declared.fault.PageRefusal.{PageRefusal}
+use Rattle.html_page_stack.specs.declared.fault.PageRefusal.TheVariants as refusal
+use Rattle.html_page_stack.specs.declared.modes.Scope.{Scope}
+use Rattle.html_page_stack.specs.declared.modes.Space.{Space}
+use Rattle.html_page_stack.specs.declared.modes.Space.TheVariants.{Html}
+use Rattle.html_page_stack.specs.declared.modes.TableRule.{TableRule}
+use Rattle.html_page_stack.specs.declared.modes.TableRule.TheVariants as rule
+
+-- the errors that the reader recovered from: their number (at most that of 32 bits), and the first
+-- ten, each with its offset in bytes
+pub record Notes : Type 0 where
+  pub count : ℕ
+  pub first : List (PageError × ℕ)
+
+abbrev pub with_note : PageError → (place : ℕ) → Notes → Notes
+with_note e place notes = record {
+  count = min (notes.count + 1) 0xffff_ffff;
+  first = if nat_lt (length notes.first) 10 then notes.first ++ (e, place) ∷ [] else notes.first;
+}
+
+pub record Page : Type 0 where
+  -- the text since the last child of the current node
+  pub text : List ℕ
+  -- the open elements, innermost first
+  pub stack : List OpenElement
+  -- the formatting elements that a tag of another name closed, the last first; None stands for an
+  -- open element that hides those behind it
+  pub lost : List (Option (List ℕ))
+  pub tables : TableRule
+  -- the greatest depth of elements
+  pub limit : ℕ
+  -- the offset of the token in bytes
+  pub start : ℕ
+  pub notes : Notes
+
+-- a page of which nothing is read
+abbrev pub first_page : (limit : ℕ) → Page
+first_page limit = record {
+  text = [];
+  stack = [];
+  lost = [];
+  tables = rule.Unseen;
+  limit = limit;
+  start = 0;
+  notes = record { count = 0; first = [] };
+}
+
+pub record StartTag : Type 0 where
+  pub name : List ℕ
+  pub attrs : List TextPair
+  -- whether it ends in `/>`
+  pub closed : Bool
+
+pub data Token : Type 0 where
+  Char : ℕ → Token
+  Start : StartTag → Token
+  End : (name : List ℕ) → Token
+  -- the end of the page
+  Finish : Token
+
+-- the result of a token, or the refusal of the page, with the offset of its place in bytes
+abbrev pub Reads : Type 0 → Type 0
+Reads A = Result A (PageRefusal × ℕ)
+
+infixl 20 ◌next◌
+abbrev pub ◌next◌ : {A B : Type 0} → Reads A → (A → Reads B) → Reads B
+(Ok a) next f = f a
+(Err e) next f = Err e
+
+abbrev pub refused : {A : Type 0} → PageRefusal → Page → Reads A
+refused r p = Err (r, p.start)
+
+-- records an error at the token
+abbrev pub noted : PageError → Page → Page
+noted e p = record p { notes = with_note e p.start p.notes }
+
+abbrev pub noted_if : Bool → PageError → Page → Page
+noted_if is_error e p = if is_error then noted e p else p
+
+abbrev pub with_char : ℕ → Page → Page
+with_char c p = record p { text = p.text ++ c ∷ [] }
+
+abbrev pub with_chars : List ℕ → Page → Page
+with_chars cs p = record p { text = p.text ++ cs }
+
+-- makes the text a child of the current node
+abbrev pub settled : Page → Page
+settled p = record p { text = []; stack = with_last_text p.text p.stack }
+
+abbrev pub with_element : OpenElement → Page → Page
+with_element o p = record p {
+  stack = o ∷ p.stack;
+  lost = if is_of (of kind.Marker) o then None ∷ p.lost else p.lost;
+}
+
+-- the head of an element that a tag makes; its span is the offset in bytes of the token that opens
+-- it
+abbrev pub page_head : (name : List ℕ) → List TextPair → (start : ℕ) → Head
+page_head name attrs start = record {
+  name = name;
+  attrs = attrs;
+  css = [];
+  parent = None;
+  span = start;
+  pre_span = false;
+}
+
+-- opens an element, unless it is too deep (13.2.6.1)
+abbrev pub opened_in : Space → (name : List ℕ) → List TextPair → Page → Reads Page
+opened_in space name attrs p = if nat_le p.limit (length p.stack) then refused refusal.TooDeep p
+    else Ok (with_element
+    (record { head = page_head name attrs p.start; space = space; children = none }) (settled p))
+
+abbrev pub opened : (name : List ℕ) → List TextPair → Page → Reads Page
+opened = opened_in Html
+
+-- the formatting elements that were lost outside the nearest element that hides them
+abbrev pub behind_marker : List (Option (List ℕ)) → List (Option (List ℕ))
+behind_marker [] = []
+behind_marker (None ∷ ls) = ls
+behind_marker (Some name ∷ ls) = behind_marker ls
+
+-- the formatting elements that are lost once the current node is closed, by its own end tag or
+-- another
+abbrev pub lost_with : (own : Bool) → List OpenElement → List (Option (List ℕ)) →
+    List (Option (List ℕ))
+lost_with own [] lost = lost
+lost_with own (o ∷ os) lost = if is_of (of kind.Marker) o then behind_marker lost
+    else (if is_of (of kind.Formatting) o && not own then Some o.head.name ∷ lost else lost)
+
+-- closes the current node, whose text is already a child of it
+abbrev pub settled_closed : (own : Bool) → Page → Reads Page
+settled_closed own p = if is_at (of kind.Whole) p.stack && not own
+    then refused refusal.CrossedElement p
+    else Ok (record p { stack = without_current p.stack; lost = lost_with own p.stack p.lost })
+
+abbrev pub closed : (own : Bool) → Page → Reads Page
+closed own p = settled_closed own (settled p)
+
+-- closes the current node while the condition holds, at most so many times
+abbrev pub closed_while : (goes_on : List OpenElement → Bool) → (at_most : ℕ) → Page → Reads Page
+closed_while goes_on zero p = Ok p
+closed_while goes_on (suc n) p = if goes_on p.stack then (closed false p) next closed_while goes_on n
+    else Ok p
+
+-- closes the nearest element that is a goal, with everything in it
+abbrev pub closed_to_goal : (goal : OpenElement → Bool) → Page → Reads Page
+closed_to_goal goal p =
+    (closed_while (λ os. not (at goal os)) (length p.stack) p) next closed true
+
+abbrev pub closed_to : (test : List ℕ → Bool) → Page → Reads Page
+closed_to test = closed_to_goal (is_of test)
+
+-- closes elements whose end tag is implied, except those with these names (13.2.6.3)
+abbrev pub implied_closed : (but : List ℕ → Bool) → Page → Reads Page
+implied_closed but p =
+    closed_while (is_at (λ n. of kind.Implied n && not (but n))) (length p.stack) p
+
+abbrev pub no_name : List ℕ → Bool
+no_name name = false
+
+-- closes elements whose end tag is implied, and then the nearest element of HTML whose name passes
+-- `test`; records an error unless the current node is then the named one
+abbrev pub closed_over : (named test but : List ℕ → Bool) → Page → Reads Page
+closed_over named test but p = (implied_closed but p) next (λ q. closed_to test
+    (noted_if (not (is_at named q.stack)) error.EndTagOverOpenElements q))
+
+-- closes such an element by its end tag, or records an error if it is not in scope
+abbrev pub closed_in : Scope → (named test but : List ℕ → Bool) → Page → Reads Page
+closed_in scope named test but p = if in_scope scope test p.stack then closed_over named test but p
+    else Ok (noted error.EndTagWithoutStart p)
+
+-- whether a tag of another name closed a formatting element of that name, and no element hides it
+abbrev pub is_lost : (name : List ℕ) → List (Option (List ℕ)) → Bool
+is_lost name [] = false
+is_lost name (None ∷ ls) = false
+is_lost name (Some n ∷ ls) = bytes_eq n name || is_lost name ls
+
+abbrev pub without_lost : (name : List ℕ) → List (Option (List ℕ)) → List (Option (List ℕ))
+without_lost name [] = []
+without_lost name (None ∷ ls) = None ∷ ls
+without_lost name (Some n ∷ ls) = if bytes_eq n name then ls else Some n ∷ without_lost name ls
+
+abbrev pub loses_some : List (Option (List ℕ)) → Bool
+loses_some [] = false
+loses_some (None ∷ ls) = false
+loses_some (Some name ∷ ls) = true
+
+-- refuses a page in which a formatting element would be made again here (13.2.4.3)
+abbrev pub reconstructed : Page → Reads Page
+reconstructed p = if loses_some p.lost then refused refusal.Reconstruction p else Ok p
+
+-- the result of a mode's rules for a token: they take it, or process it again
+pub data Turn : Type 0 where
+  Taken : Page → Turn
+  Again : Page → Token → Turn
+
+abbrev pub taken : Reads Page → Reads Turn
+taken r = r next (λ p. Ok (Taken p))
+
+abbrev pub again : Reads Page → Token → Reads Turn
+again r token = r next (λ p. Ok (Again p token))
+
+abbrev pub taken_with : PageError → Page → Reads Turn
+taken_with e p = Ok (Taken (noted e p))

@@ -1,0 +1,289 @@
+//! A page that is being read, and the steps that its tokens take.
+
+ghost use Rattle.std.specs.Prelude.{◌≡◌, chars, length};
+ghost use Rattle.html_dom_tree.specs.Views.{attrs_view};
+ghost use Rattle.html_page_names.specs.Kinds.{IsKindsOf};
+ghost use Rattle.html_page_names.specs.PageNames.{of};
+ghost use Rattle.html_page_names.specs.declared.kind.Kind.TheVariants as kind;
+ghost use Rattle.html_page_stack.specs.Endings.{Changes, Finishes, Steps};
+ghost use Rattle.html_page_stack.specs.OpenElements.{in_scope};
+ghost use Rattle.html_page_stack.specs.PageViews.{element_of, goal_test, page_of, target_test, while_test};
+ghost use Rattle.html_page_stack.specs.Pages as pages;
+
+use crate::element::PageElement;
+use crate::error::PageError;
+use crate::fault::{Halt, PageRefusal};
+use crate::lost::Lost;
+use crate::modes::{Scope, Space, TableRule};
+use crate::notes::Notes;
+use crate::search::{Bound, Goal, Target, While};
+use crate::stack::Stack;
+use html_dom_tree::{HtmlAttrs, HtmlElement, text};
+use html_names_core::HtmlTag;
+use html_page_names::{Kind, Kinds};
+use std::alloc::{AllocError, Global};
+
+/// A page that is being read.
+#[derive(Drop)]
+pub struct Page {
+    /// The allocator of its texts and elements.
+    pub alloc: Global,
+    /// The text since the last child of the current node.
+    pub text: String,
+    /// The open elements.
+    pub stack: Stack,
+    /// The formatting elements that a tag of another name closed.
+    pub lost: Lost,
+    /// What a table does to an open `p`.
+    pub tables: TableRule,
+    pub(crate) limit: usize,
+    /// The offset of the token in the text, in bytes.
+    pub start: usize,
+    /// The errors from which the reader recovered.
+    pub notes: Notes,
+}
+
+impl Page {
+    /// Creates a page of which nothing is read, with a limit on the depth of its elements.
+    #[tactic(auto, using(std::proofs::StrCases::chars_of_empty))]
+    pub fn new(alloc: Global, limit: usize) -> Page
+        ensures { page_of result ≡ pages.first_page limit }
+    {
+        Page {
+            alloc,
+            text: String::new(alloc),
+            stack: Stack::new(alloc),
+            lost: Lost::new(alloc),
+            tables: TableRule::Unseen,
+            limit,
+            start: 0,
+            notes: Notes::new(alloc),
+        }
+    }
+
+    /// Returns the refusal of the page at the token.
+    pub fn refusal(&self, refusal: PageRefusal) -> Halt
+        ensures { result ≡ Halt.Refused refusal self.now.start }
+    {
+        let place = self.start;
+        Halt::Refused { refusal, place }
+    }
+
+    /// Records an error at the token.
+    pub fn note(&mut self, error: PageError) -> Result<(), Halt>
+        ensures { Changes result (pages.noted error (page_of self.old)) (page_of self.new) }
+    {
+        let place = self.start;
+        self.notes.add(error, place)?;
+        Ok(())
+    }
+
+    /// Records an error at the token, if there is one.
+    pub fn note_if(&mut self, is_error: bool, error: PageError) -> Result<(), Halt>
+        ensures { Changes result (pages.noted_if is_error error (page_of self.old))
+            (page_of self.new) }
+    {
+        if is_error { self.note(error) } else { Ok(()) }
+    }
+
+    /// Appends a character to the current node.
+    pub fn add_char(&mut self, c: char) -> Result<(), Halt>
+        ensures { Changes result (pages.with_char c (page_of self.old)) (page_of self.new) }
+    {
+        text::add(&mut self.text, c)?;
+        Ok(())
+    }
+
+    /// Appends a text to the current node.
+    pub fn add_text(&mut self, text: &str) -> Result<(), Halt>
+        ensures { Changes result (pages.with_chars (chars text.now) (page_of self.old))
+            (page_of self.new) }
+    {
+        text::add_text(&mut self.text, text)?;
+        Ok(())
+    }
+
+    /// Makes the text a child of the current node.
+    pub(crate) fn settle(&mut self) -> Result<(), Halt>
+        ensures { Changes result (pages.settled (page_of self.old)) (page_of self.new) }
+    {
+        if self.text.as_str().is_empty() {
+            return Ok(());
+        }
+        let text = text::take(self.alloc, &mut self.text);
+        self.stack.add_text(text)?;
+        Ok(())
+    }
+
+    fn push(&mut self, element: PageElement) -> Result<(), Halt>
+        ensures { Changes result (pages.with_element (element_of element) (page_of self.old))
+            (page_of self.new) }
+    {
+        if element.is(Kind::Marker) {
+            self.lost.push_marker()?;
+        }
+        self.stack.push(element)?;
+        Ok(())
+    }
+
+    /// Opens an element, unless it would be too deep (HTML Standard 13.2.6.1).
+    pub fn open_in(
+        &mut self,
+        space: Space,
+        tag: HtmlTag,
+        kinds: Kinds,
+        attrs: HtmlAttrs,
+    ) -> Result<(), Halt>
+        requires { IsKindsOf tag kinds }
+        ensures { Steps result (pages.opened_in space tag (attrs_view attrs) (page_of self.old))
+            (page_of self.new) }
+    {
+        if self.limit <= self.stack.len() {
+            return Err(self.refusal(PageRefusal::TooDeep));
+        }
+        self.settle()?;
+        let element = PageElement::new(self.alloc, space, tag, kinds, attrs, self.start);
+        self.push(element)
+    }
+
+    /// Records what is lost when the current node is closed, by its own end tag or another.
+    fn lose_current(&mut self, own: bool) -> Result<(), Halt>
+        ensures { Changes result (let p = page_of self.old in
+            record p { lost = pages.lost_with own p.stack p.lost }) (page_of self.new) }
+    {
+        let Some(element) = self.stack.items.last() else {
+            return Ok(());
+        };
+        if element.is(Kind::Marker) {
+            self.lost.leave_marker();
+        } else if element.is(Kind::Formatting) && !own {
+            let tag = element.element.tag.try_clone()?;
+            self.lost.push(tag)?;
+        }
+        Ok(())
+    }
+
+    /// Closes the current node, by its own end tag or another.
+    pub fn close(&mut self, own: bool) -> Result<(), Halt>
+        ensures { Steps result (pages.closed own (page_of self.old)) (page_of self.new) }
+    {
+        self.settle()?;
+        if self.stack.is_at(Kind::Whole) && !own {
+            return Err(self.refusal(PageRefusal::CrossedElement));
+        }
+        self.lose_current(own)?;
+        self.stack.close_current()?;
+        Ok(())
+    }
+
+    /// Closes the current node as long as the condition holds.
+    #[tactic(auto, using(crate::proofs::Closing::while_once, crate::proofs::Closing::while_done))]
+    fn close_while(&mut self, goes_on: While<'_>) -> Result<(), Halt>
+        ensures { let p = page_of self.old in
+            Steps result (pages.closed_while (while_test goes_on.entry) (length p.stack) p)
+            (page_of self.new) }
+    {
+        let most = self.stack.len();
+        for count in 0..most {
+            if !self.stack.goes_on(goes_on) {
+                return Ok(());
+            }
+            self.close(false)?;
+        }
+        Ok(())
+    }
+
+    /// Closes the nearest element that is the goal, with everything in it.
+    pub fn close_to_goal(&mut self, goal: Goal<'_>) -> Result<(), Halt>
+        ensures { Steps result (pages.closed_to_goal (goal_test goal.entry) (page_of self.old))
+            (page_of self.new) }
+    {
+        self.close_while(While::Above(goal))?;
+        self.close(true)
+    }
+
+    /// Closes the nearest element of HTML that the target means, with everything in it.
+    pub fn close_to(&mut self, target: Target<'_>) -> Result<(), Halt>
+        ensures { Steps result (pages.closed_to (target_test target.entry) (page_of self.old))
+            (page_of self.new) }
+    {
+        self.close_to_goal(Goal::Of(target))
+    }
+
+    /// Closes elements whose end tag is implied, except those that `but` means (HTML Standard
+    /// 13.2.6.3).
+    pub fn close_implied(&mut self, but: Target<'_>) -> Result<(), Halt>
+        ensures { Steps result (pages.implied_closed (target_test but.entry) (page_of self.old))
+            (page_of self.new) }
+    {
+        self.close_while(While::Implied(but))
+    }
+
+    /// Closes such an element, and records an error unless the current node is the named one.
+    pub fn close_over(
+        &mut self,
+        named: Target<'_>,
+        target: Target<'_>,
+        but: Target<'_>,
+    ) -> Result<(), Halt>
+        ensures { Steps result (pages.closed_over (target_test named.entry) (target_test target.entry)
+            (target_test but.entry) (page_of self.old)) (page_of self.new) }
+    {
+        self.close_implied(but)?;
+        let is_error = !self.stack.is_target(named);
+        self.note_if(is_error, PageError::EndTagOverOpenElements)?;
+        self.close_to(target)
+    }
+
+    /// Returns whether such an element is in scope.
+    pub fn in_scope(&self, scope: Scope, target: Target<'_>) -> bool
+        ensures { result ≡ in_scope scope (target_test target.entry) (page_of self.now).stack }
+    {
+        self.stack.reaches(Goal::Of(target), Bound::Scope(scope))
+    }
+
+    /// Returns whether a `p` is in button scope.
+    pub fn has_paragraph(&self) -> bool
+        ensures { result ≡ in_scope Scope.Button (of kind.P) (page_of self.now).stack }
+    {
+        self.stack.has_paragraph()
+    }
+
+    /// Closes such an element by its end tag, if it is in scope.
+    pub fn close_in(
+        &mut self,
+        scope: Scope,
+        named: Target<'_>,
+        target: Target<'_>,
+        but: Target<'_>,
+    ) -> Result<(), Halt>
+        ensures { Steps result (pages.closed_in scope (target_test named.entry) (target_test target.entry)
+            (target_test but.entry) (page_of self.old)) (page_of self.new) }
+    {
+        if self.in_scope(scope, target) {
+            self.close_over(named, target, but)
+        } else {
+            self.note(PageError::EndTagWithoutStart)
+        }
+    }
+
+    /// Refuses to make formatting elements again (HTML Standard 13.2.4.3), unless none is lost.
+    pub fn reconstruct(&self) -> Result<(), Halt>
+        ensures { Steps result (pages.reconstructed (page_of self.now)) (page_of self.now) }
+    {
+        if self.lost.loses_some() {
+            return Err(self.refusal(PageRefusal::Reconstruction));
+        }
+        Ok(())
+    }
+
+    /// Returns the root with all its open elements complete, and the errors recovered from.
+    pub fn finish(mut self) -> Result<(Option<HtmlElement>, Notes), Halt>
+        ensures { Finishes result (page_of self) }
+    {
+        self.settle()?;
+        let Page { stack, notes, .. } = self;
+        let root = stack.into_root()?;
+        Ok((root, notes))
+    }
+}

@@ -1,0 +1,218 @@
+//! The open elements of a page.
+
+ghost use Rattle.std.proofs.Props.{props};
+ghost use Rattle.html_page_stack.specs.Contexts.{AreKnown, contexts_are_set};
+
+use crate::context::Context;
+use crate::element::PageElement;
+use crate::elements::{at, own_mode, reaches, root_mode};
+use crate::modes::{Mode, Scope, Space};
+use crate::search::{Bound, Goal, Target, While, bounds};
+use html_dom_tree::HtmlElement;
+use html_names_core::HtmlTag;
+use html_page_names::Kind;
+use std::alloc::{AllocError, Global};
+
+/// The open elements of a page, the innermost last.
+#[derive(Drop)]
+pub struct Stack {
+    /// The elements, outermost first.
+    pub items: Vec<PageElement>,
+    ghost known: { AreKnown items.items } by { Prim.hlevel (props, contexts_are_set) },
+}
+
+impl Stack {
+    ghost use Rattle.std.specs.Prelude.{◌≡◌, ◌∷◌, [], IfOk, OnOk, length, option_map};
+    ghost use Rattle.html_dom_tree.specs.Views.{element_view, text_view};
+    ghost use Rattle.html_page_names.specs.PageNames.{of};
+    ghost use Rattle.html_page_names.specs.declared.kind.Kind.TheVariants as kind;
+    ghost use Rattle.html_page_stack.specs.Contexts.{context};
+    ghost use Rattle.html_page_stack.specs.OpenElements.{at, current_name, in_scope, is_at, is_in_foreign};
+    ghost use Rattle.html_page_stack.specs.OpenElements.{current_space, mode, reaches, root_of, with_last_text, without_current};
+    ghost use Rattle.html_page_stack.specs.PageViews.{bound_test, element_of, goal_test, stack_of, target_test, while_test};
+
+    /// Creates a stack without elements.
+    pub fn new(alloc: Global) -> Stack
+        ensures { stack_of result ≡ [] }
+    {
+        Stack {
+            items: Vec::new(alloc),
+        }
+    }
+
+    pub(crate) fn len(&self) -> usize
+        ensures { result ≡ length (stack_of self.now) }
+    {
+        self.items.len()
+    }
+
+    /// Returns whether a search from the current node on reaches the goal before the bound.
+    pub fn reaches(&self, goal: Goal<'_>, bound: Bound) -> bool
+        ensures { result ≡ reaches (goal_test goal.entry) (bound_test bound) (stack_of self.now) }
+    {
+        reaches(&self.items, goal, bound)
+    }
+
+    /// Returns whether the current node is an element of HTML that the target means.
+    pub fn is_target(&self, target: Target<'_>) -> bool
+        ensures { result ≡ is_at (target_test target.entry) (stack_of self.now) }
+    {
+        self.is_goal(Goal::Of(target))
+    }
+
+    /// Returns whether the current node is the goal.
+    pub fn is_goal(&self, goal: Goal<'_>) -> bool
+        ensures { result ≡ at (goal_test goal.entry) (stack_of self.now) }
+    {
+        at(&self.items, goal)
+    }
+
+    /// Returns whether more elements must be closed.
+    pub(crate) fn goes_on(&self, goes_on: While<'_>) -> bool
+        ensures { result ≡ while_test goes_on.entry (stack_of self.now) }
+    {
+        match goes_on {
+            While::Above(goal) => !self.is_goal(goal),
+            While::Implied(but) => self.is_at(Kind::Implied) && !self.is_target(but),
+        }
+    }
+
+    /// Returns whether the current node is an element of HTML of the kind.
+    pub fn is_at(&self, kind: Kind) -> bool
+        ensures { result ≡ is_at (of kind) (stack_of self.now) }
+    {
+        self.is_target(Target::Kind(kind))
+    }
+
+    /// Returns whether the current node is an element of SVG or MathML.
+    pub fn is_in_foreign(&self) -> bool
+        ensures { result ≡ is_in_foreign (stack_of self.now) }
+    {
+        match self.items.last() {
+            None => false,
+            Some(element) => !element.is_html(),
+        }
+    }
+
+    /// Returns the name of the current node.
+    pub fn current_tag(&self) -> Option<&HtmlTag>
+        ensures { option_map (λ tag. tag.now) result ≡ current_name (stack_of self.now) }
+    {
+        match self.items.last() {
+            None => None,
+            Some(element) => Some(&element.element.tag),
+        }
+    }
+
+    /// Returns the namespace of the current node.
+    pub fn current_space(&self) -> Space
+        ensures { result ≡ current_space (stack_of self.now) }
+    {
+        match self.items.last() {
+            None => Space::Html,
+            Some(element) => element.space,
+        }
+    }
+
+    /// Returns the facts about the current node.
+    fn context(&self) -> Context
+        ensures { result ≡ context (stack_of self.now) }
+    {
+        match self.items.last() {
+            None => Context::OUTSIDE,
+            Some(element) => element.context,
+        }
+    }
+
+    /// Returns the insertion mode (HTML Standard 13.2.4.1).
+    #[tactic(auto, using(crate::proofs::Contexts::mode_known))]
+    pub fn mode(&self) -> Mode
+        ensures { result ≡ mode (stack_of self.now) }
+    {
+        match self.context().mode {
+            None => root_mode(&self.items),
+            Some(mode) => mode,
+        }
+    }
+
+    /// Returns whether a `p` is in button scope.
+    pub(crate) fn has_paragraph(&self) -> bool
+        ensures { result ≡ in_scope Scope.Button (of kind.P) (stack_of self.now) }
+    {
+        self.context().has_paragraph
+    }
+
+    /// Returns the facts about an element once it is the current node.
+    fn context_with(&self, element: &PageElement) -> Context
+        ensures { result ≡ context (element_of element.now ∷ stack_of self.now) }
+    {
+        let around = self.context();
+        let mode = match own_mode(element, &self.items) {
+            None => around.mode,
+            Some(mode) => Some(mode),
+        };
+        let has_paragraph = element.is(Kind::P)
+            || (!bounds(Scope::Button, element) && around.has_paragraph);
+        Context {
+            mode,
+            has_paragraph,
+        }
+    }
+
+    /// Pushes an element that has the facts about it.
+    fn put(&mut self, element: PageElement) -> Result<(), AllocError>
+        requires { element.context ≡ context (element_of element ∷ stack_of self.old) }
+        ensures { OnOk result (stack_of self.new ≡ element_of element ∷ stack_of self.old) }
+    {
+        self.items.push(element)?;
+        Ok(())
+    }
+
+    pub(crate) fn push(&mut self, element: PageElement) -> Result<(), AllocError>
+        ensures { OnOk result (stack_of self.new ≡ element_of element ∷ stack_of self.old) }
+    {
+        let mut element = element;
+        element.context = self.context_with(&element);
+        self.put(element)
+    }
+
+    /// Appends a text to the current node, unless the text is empty.
+    pub(crate) fn add_text(&mut self, text: String) -> Result<(), AllocError>
+        ensures { OnOk result (stack_of self.new
+            ≡ with_last_text (text_view text) (stack_of self.old)) }
+    {
+        match self.items.pop() {
+            None => Ok(()),
+            Some(element) => self.put(element.with_text(text)?),
+        }
+    }
+
+    /// Completes the current node, unless it is the root.
+    pub(crate) fn close_current(&mut self) -> Result<(), AllocError>
+        ensures { OnOk result (stack_of self.new ≡ without_current (stack_of self.old)) }
+    {
+        let Some(child) = self.items.pop() else {
+            return Ok(());
+        };
+        match self.items.pop() {
+            None => self.put(child),
+            Some(parent) => self.put(parent.with_child(child)?),
+        }
+    }
+
+    /// Returns the root, with all its open elements complete.
+    #[tactic(auto, using(crate::proofs::Stacks::last_first))]
+    pub(crate) fn into_root(self) -> Result<Option<HtmlElement>, AllocError>
+        ensures { IfOk result (λ root.
+            option_map element_view root ≡ root_of (stack_of self)) }
+    {
+        let mut items = self.items;
+        let Some(mut child) = items.pop() else {
+            return Ok(None);
+        };
+        while let Some(parent) = items.pop() {
+            child = parent.with_child(child)?;
+        }
+        Ok(Some(child.element))
+    }
+}

@@ -1,0 +1,13 @@
+use Rattle.std.proofs.Common.{true}
+use Rattle.html_dom_shown.specs.Collapsing.{char}
+use Rattle.html_page_text.specs.Gathering.{released}
+use Rattle.html_page_text.specs.PageViews.{before_view, page_view}
+use Rattle.html_page_text.proofs.Gathering.{one_behind, seen_is}
+use Rattle.html_page_text.proofs.seen.Seen.shown.Goals as goal
+
+pub returns : goal.returns
+returns c =
+    let old = c.args.self.now in
+    seen_is _ _ _ _ (one_behind (page_view old.page) _ _ (released true (before_view old.before))
+    (char c.args.c) c.in_ok-supported.ensures.page c.in_ok-push_char.ensures)
+    c.in_ok-supported.ensures.before

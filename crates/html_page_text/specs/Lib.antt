@@ -1,0 +1,6 @@
+pub mod Gathering
+pub mod PageTexts
+pub mod PageViews
+pub mod Parts
+pub mod PlainTexts
+pub mod Unseen

@@ -1,0 +1,210 @@
+-- Where a page takes the end tag of the current node's name, the tag closes it.
+use Rattle.std.proofs.Common.{◌≡◌, arith, ℕ, Bool, true, false, not, ◌&&◌, ◌||◌, List, [], ◌∷◌, inl, inr, refl, sym, ap, subst, ◌∙◌, Ok, Err}
+use Rattle.std.proofs.lemmas.Bool.{and_from, and_parts, and_right, cases_Bool, false≢true, not-true, or_left, or_parts}
+use Rattle.std.proofs.lemmas.Option.{none-some, same_Some}
+use Rattle.std.proofs.lemmas.Slice.Eq.{bytes_eq-Decides}
+use Rattle.std.specs.Prelude.{Option, Some, None, codes, if◌then◌else◌}
+use Rattle.html_page_names.specs.PageNames.{is, of}
+use Rattle.html_page_names.specs.declared.kind.Kind.TheVariants as kind
+use Rattle.html_page_stack.specs.OpenElements.{OpenElement, bounds, current_name, in_scope, is_active, is_at, is_html, is_near, is_of, is_special, mode, reaches}
+use Rattle.html_page_stack.specs.Pages.{Page, Reads, Token, End, ◌next◌, closed, closed_in, closed_over, closed_to, implied_closed, is_lost, loses_some, no_name, noted, noted_if, opened, refused, taken, taken_with, without_lost}
+use Rattle.html_page_stack.specs.declared.error.PageError.TheVariants as error
+use Rattle.html_page_stack.specs.declared.fault.PageRefusal.TheVariants as refusal
+use Rattle.html_page_stack.specs.declared.modes.Mode.{Mode}
+use Rattle.html_page_stack.specs.declared.modes.Mode.TheVariants.{InBody, InTable, InSection, InRow, InCell}
+use Rattle.html_page_stack.specs.declared.modes.Scope.{Scope}
+use Rattle.html_page_stack.specs.declared.modes.Scope.TheVariants as scope
+use Rattle.html_page_tree.specs.OwnEnds.{closes_in, closes_in_body, closes_in_cell, is_of_table, takes_own_end}
+use Rattle.html_page_tree.specs.PageBodies.{adopted, element_ended, in_body_end, other_closed, p_closed, p_ended}
+use Rattle.html_page_tree.specs.PageTrees.{behind_turn, by_mode, in_cell, in_foreign, is_unseen, part_closed, processed, token_read, turn}
+
+-- both branches are the same
+pub either : {A : Type 0} (b : Bool) (x y r : A) → (b ≡ true → x ≡ r) → (b ≡ false → y ≡ r) →
+    (if b then x else y) ≡ r
+either b x y r h k = grind arith
+
+none_lost : (name : List ℕ) (ls : List (Option (List ℕ))) → loses_some ls ≡ false →
+    is_lost name ls ≡ false
+none_lost name [] h = refl
+none_lost name (None ∷ ls) h = refl
+none_lost name (Some n ∷ ls) h = absurd (false≢true (sym h))
+
+pub taken_behind : (f : Token → Page → Reads Page) (r : Reads Page) →
+    ((taken r) next behind_turn f) ≡ r
+taken_behind f (Ok p) = refl
+taken_behind f (Err e) = refl
+
+-- the current node, an element of HTML
+module _ (p : Page) (o : OpenElement) (os : List OpenElement) (html : is_html o.space ≡ true) where
+  abbrev n : List ℕ
+  n = o.head.name
+
+  abbrev q : Page
+  q = record p { stack = o ∷ os }
+
+  pub named : is n n ≡ true
+  named = (bytes_eq-Decides n n).1 refl
+
+  pub but_named : (but : List ℕ → Bool) → but n ≡ true → (of kind.Implied n && not (but n)) ≡ false
+  but_named but h = and_right (of kind.Implied n) (not (but n)) (ap not h)
+
+  pub none_implied : (but : List ℕ → Bool) → (of kind.Implied n && not (but n)) ≡ false →
+      implied_closed but q ≡ Ok q
+  none_implied but h = rw (html, h) refl
+
+  pub closes : (test : List ℕ → Bool) → test n ≡ true → closed_to test q ≡ closed true q
+  closes test h = rw (html, h) refl
+
+  pub at_name : (test : List ℕ → Bool) → test n ≡ true → is_at test q.stack ≡ true
+  at_name test h = and_from (is_html o.space) (test n) html h
+
+  -- the search for such an element ends at the current node
+  pub reached : (test : List ℕ → Bool) (bound : OpenElement → Bool) → test n ≡ true →
+      reaches (is_of test) bound q.stack ≡ true
+  reached test bound h = or_left (is_of test o) _ (at_name test h)
+
+  pub over : (name test but : List ℕ → Bool) → name n ≡ true → test n ≡ true →
+      (of kind.Implied n && not (but n)) ≡ false → closed_over name test but q ≡ closed true q
+  over name test but g h k =
+      ap (λ x. x next (λ r. closed_to test (noted_if (not (is_at name r.stack)) error.EndTagOverOpenElements r)))
+      (none_implied but k)
+      ∙ (ap (λ b. closed_to test (noted_if (not b) error.EndTagOverOpenElements q)) (at_name name g)
+      ∙ closes test h)
+
+  pub within : (s : Scope) (test but : List ℕ → Bool) → test n ≡ true →
+      (of kind.Implied n && not (but n)) ≡ false → closed_in s (is n) test but q ≡ closed true q
+  within s test but h k =
+      ap (λ b. if b then closed_over (is n) test but q else Ok (noted error.EndTagWithoutStart q))
+      (reached test (bounds s) h)
+      ∙ over (is n) test but named h k
+
+  pub end_p : of kind.P n ≡ true → p_ended q ≡ closed true q
+  end_p h =
+      let scoped = reached (of kind.P) (bounds scope.Button) h in
+      ap (λ b. if b then p_closed q
+      else ((opened (codes "p") [] (noted error.EndTagWithoutStart q)) next closed true)) scoped
+      ∙ (ap (λ b. if b then closed_over (of kind.P) (of kind.P) (of kind.P) q else Ok q) scoped
+      ∙ over (of kind.P) (of kind.P) (of kind.P) h h (but_named (of kind.P) h))
+
+  pub end_other : other_closed n q ≡ closed true q
+  end_other =
+      ap (λ b. if b then closed_over (is n) (is n) (is n) q else Ok (noted error.EndTagWithoutStart q))
+      (reached (is n) is_special named)
+      ∙ over (is n) (is n) (is n) named named (but_named (is n) named)
+
+  closed_last : closed_to (is n) (noted_if (not (is_at (is n) q.stack)) error.EndTagOverOpenElements q)
+      ≡ closed true q
+  closed_last =
+      ap (λ b. closed_to (is n) (noted_if (not b) error.EndTagOverOpenElements q)) (at_name (is n) named)
+      ∙ closes (is n) named
+
+  pub end_formatting : loses_some p.lost ≡ false → adopted n q ≡ closed true q
+  end_formatting l = adopted_by (is_lost n q.lost) (is_active (is n) q.stack)
+      (in_scope scope.General (is n) q.stack) (is_near (is n) q.stack) (none_lost n p.lost l)
+      (reached (is n) (is_of (of kind.Marker)) named) (reached (is n) (bounds scope.General) named)
+      (reached (is n) is_special named) where
+        adopted_by : (lost active scoped near : Bool) → lost ≡ false → active ≡ true → scoped ≡ true →
+            near ≡ true →
+            (if lost then Ok (noted error.EndTagOfClosedElement (record q { lost = without_lost n q.lost }))
+            else (if not active then other_closed n q
+            else (if not scoped then Ok (noted error.EndTagWithoutStart q)
+            else (if not near then refused refusal.AdoptionAgency q
+            else closed_to (is n)
+            (noted_if (not (is_at (is n) q.stack)) error.EndTagOverOpenElements q))))) ≡ closed true q
+        adopted_by lost active scoped near a b c d = rw (a, b, c, d) closed_last
+
+  end_element : closes_in_body n ≡ true → loses_some p.lost ≡ false →
+      element_ended n q ≡ closed true q
+  end_element h l =
+      let form : of kind.Form n ≡ false = grind arith in
+      let implied : (of kind.Implied n && (of kind.Heading n || of kind.ClosesInScope n)) ≡ false =
+      grind arith in
+      rw form (either (of kind.P n) _ _ (closed true q) end_p (λ p.
+      either (of kind.ListItem n) _ _ (closed true q)
+      (λ h. within scope.ListItem (is n) (is n) named (but_named (is n) named)) (λ i.
+      either (of kind.DescriptionPart n) _ _ (closed true q)
+      (λ h. within scope.General (is n) (is n) named (but_named (is n) named)) (λ d.
+      either (of kind.Heading n) _ _ (closed true q)
+      (λ h. within scope.General (of kind.Heading) no_name h (grind arith)) (λ k.
+      either (of kind.ClosesInScope n) _ _ (closed true q)
+      (λ h. within scope.General (is n) no_name named (grind arith)) (λ c.
+      either (of kind.Formatting n) _ _ (closed true q)
+      (λ h. end_formatting l) (λ f. end_other)))))))
+
+  end_in_body : closes_in_body n ≡ true → loses_some p.lost ≡ false →
+      in_body_end n q ≡ taken (closed true q)
+  end_in_body h l =
+      let root : of kind.Root n ≡ false = grind arith in
+      let br : of kind.Br n ≡ false = grind arith in
+      rw (root, br) (ap taken (end_element h l))
+
+  pub none_implied_at_all : of kind.Implied n ≡ false → implied_closed no_name q ≡ Ok q
+  none_implied_at_all h = none_implied no_name (ap (λ b. b && true) h)
+
+  part_ended : of kind.Cell n ≡ true → of kind.Implied n ≡ false →
+      part_closed (of kind.Cell) q ≡ closed true q
+  part_ended cell implied =
+      ap (λ x. x next (λ r. closed_to (of kind.Cell)
+      (noted_if (not (is_at (of kind.Cell) r.stack)) error.CellOverOpenElements r)))
+      (none_implied_at_all implied)
+      ∙ (ap (λ b. closed_to (of kind.Cell) (noted_if (not b) error.CellOverOpenElements q))
+      (at_name (of kind.Cell) cell)
+      ∙ closes (of kind.Cell) cell)
+
+  end_in_cell : closes_in_cell n ≡ true → loses_some p.lost ≡ false →
+      in_cell (End n) q ≡ taken (closed true q)
+  end_in_cell h l = elim (cases_Bool (of kind.Cell n)) [
+    | inl cell ↦
+        let implied = not-true (of kind.Implied n) (rw cell at h) in
+        let scoped = reached (is n) (bounds scope.Table) named in
+        rw (cell, scoped) (ap taken (part_ended cell implied))
+    | inr other ↦
+        let both = and_parts (not (is_of_table n)) (closes_in_body n) (rw other at h) in
+        let parts = or_parts (of kind.Section n) _ (not-true _ both.0) in
+        let row = or_parts (of kind.Tr n) _ parts.1 in
+        let table = or_parts (of kind.Table n) (of kind.TablePart n) row.1 in
+        let body = and_parts (not (of kind.Root n || (of kind.Br n || of kind.Form n))) _ both.1 in
+        let root = (or_parts (of kind.Root n) _ (not-true _ body.0)).0 in
+        rw (other, parts.0, row.0, table.0, table.1)
+        (ap (λ b. if b then taken_with error.EndTagWithoutStart q else in_body_end n q) root
+        ∙ end_in_body both.1 l)
+  ]
+
+  end_in_mode : (m : Mode) → closes_in m n ≡ true → loses_some p.lost ≡ false →
+      by_mode m (End n) q ≡ taken (closed true q)
+  end_in_mode InBody h l = end_in_body h l
+  end_in_mode InCell h l = end_in_cell h l
+  end_in_mode InRow h l = rw h refl
+  end_in_mode InSection h l = rw (h, html, named) refl
+  end_in_mode InTable h l = either (of kind.Table n) _ _ (taken (closed true q))
+      (λ k. ap taken (closes (of kind.Table) k)) (λ k. absurd (false≢true (sym k ∙ h)))
+  end_in_mode _ h l = absurd (false≢true h)
+
+  end_taken : takes_own_end q ≡ true → token_read (End n) q ≡ closed true q
+  unfolding takes_own_end processed token_read
+  end_taken h =
+      let seen = and_parts (not (is_unseen p.tables)) _ h in
+      let kept = and_parts (not (loses_some p.lost)) _ seen.1 in
+      let closes_itself = (and_parts (is_html o.space) _ kept.1).1 in
+      let turned : turn (End n) q ≡ taken (closed true q) =
+      ap (λ b. if not b then in_foreign (End n) q else by_mode (mode q.stack) (End n) q) html
+      ∙ end_in_mode (mode q.stack) closes_itself (not-true _ kept.0) in
+      rw (seen.0, turned) (taken_behind (processed 7) (closed true q))
+
+is_html_at : (o : OpenElement) (os : List OpenElement) (p : Page) →
+    takes_own_end (record p { stack = o ∷ os }) ≡ true → is_html o.space ≡ true
+unfolding takes_own_end
+is_html_at o os p h = grind arith
+
+of_stack : (s : List OpenElement) (n : List ℕ) (p : Page) → current_name s ≡ Some n →
+    takes_own_end (record p { stack = s }) ≡ true →
+    token_read (End n) (record p { stack = s }) ≡ closed true (record p { stack = s })
+of_stack [] n p e h = absurd (none-some n e)
+of_stack (o ∷ os) n p e h =
+    let html = is_html_at o os p h in
+    subst (λ m. token_read (End m) (record p { stack = o ∷ os }) ≡ closed true (record p { stack = o ∷ os }))
+    (same_Some o.head.name n e) (end_taken p o os html h)
+
+pub own_end_taken : (n : List ℕ) (p : Page) → current_name p.stack ≡ Some n →
+    takes_own_end p ≡ true → token_read (End n) p ≡ closed true p
+own_end_taken n p e h = of_stack p.stack n p e h

@@ -1,0 +1,21 @@
+-- When a page takes any text as it is.
+use Rattle.std.specs.Prelude.{Bool, true, false, not, ◌&&◌, ◌||◌}
+use Rattle.html_page_stack.specs.OpenElements.{mode}
+use Rattle.html_page_tree.specs.PageTrees.{is_foreign_token, is_unseen}
+use Rattle.html_page_stack.specs.Pages.{Page, Char, loses_some}
+use Rattle.html_page_stack.specs.declared.modes.Mode.{Mode}
+use Rattle.html_page_stack.specs.declared.modes.Mode.TheVariants.{InBody, InText, InCaption, InCell}
+
+-- whether the rules of the mode append each character to the current node: those of a text always
+-- do, and those of a body, a caption and a cell do if no formatting element is lost
+abbrev pub mode_takes_text : Mode → Page → Bool
+mode_takes_text InText p = true
+mode_takes_text InBody p = not (loses_some p.lost)
+mode_takes_text InCaption p = not (loses_some p.lost)
+mode_takes_text InCell p = not (loses_some p.lost)
+mode_takes_text m p = false
+
+-- whether each character is appended to the current node
+unfoldable pub takes_text : Page → Bool
+takes_text p = not (is_unseen p.tables)
+    && (is_foreign_token (Char 0) p.stack || mode_takes_text (mode p.stack) p)

@@ -1,0 +1,114 @@
+//! Other tokens in a body (HTML Standard 13.2.6.4.7).
+
+ghost use Rattle.std.specs.Prelude.{[], codes};
+ghost use Rattle.html_page_stack.specs.Endings.{Steps, Turns};
+ghost use Rattle.html_page_stack.specs.PageViews.{page_of, token_of};
+ghost use Rattle.html_page_stack.specs.Pages as pages;
+ghost use Rattle.html_page_tree.specs.PageBodies as bodies;
+
+use crate::body_start::{adopt, close_other, close_p, in_body_start, open_implied};
+use html_dom_tree::HtmlAttrs;
+use html_names_core::tag;
+use html_page_names::Kind;
+use html_page_stack::{
+    Bound, Goal, Halt, Page, PageError, PageRefusal, Scope, StartTag, TagName, Target, Token,
+};
+
+fn close_form(page: &mut Page) -> Result<(), Halt>
+    ensures { Steps result (bodies.form_closed (page_of page.old)) (page_of page.new) }
+{
+    let form = Target::Kind(Kind::Form);
+    if !page.stack.reaches(Goal::Of(form), Bound::Nothing) {
+        return page.note(PageError::EndTagWithoutStart);
+    }
+    if page.in_scope(Scope::General, form) {
+        page.close_implied(Target::Nothing)?;
+    }
+    if !page.stack.is_at(Kind::Form) {
+        return Err(page.refusal(PageRefusal::CrossedElement));
+    }
+    page.close(true)
+}
+
+#[tactic(auto, unfolding(html_names_core::specs::Tables::known_tags))]
+fn open_p(page: &mut Page) -> Result<(), Halt>
+    ensures { Steps result (pages.opened (codes "p") [] (page_of page.old))
+        (page_of page.new) }
+{
+    open_implied(page, tag::p)
+}
+
+/// Handles a `</p>`, which makes an empty `p` if there is none.
+fn end_p(page: &mut Page) -> Result<(), Halt>
+    ensures { Steps result (bodies.p_ended (page_of page.old)) (page_of page.new) }
+{
+    if page.has_paragraph() {
+        return close_p(page);
+    }
+    page.note(PageError::EndTagWithoutStart)?;
+    open_p(page)?;
+    page.close(true)
+}
+
+/// Handles an end tag that closes an element.
+fn end_element(page: &mut Page, name: &TagName) -> Result<(), Halt>
+    ensures { Steps result (bodies.element_ended name.now.tag (page_of page.old))
+        (page_of page.new) }
+{
+    let named = Target::Named(&name.tag);
+    if name.is(Kind::Form) {
+        close_form(page)
+    } else if name.is(Kind::P) {
+        end_p(page)
+    } else if name.is(Kind::ListItem) {
+        page.close_in(Scope::ListItem, named, named, named)
+    } else if name.is(Kind::DescriptionPart) {
+        page.close_in(Scope::General, named, named, named)
+    } else if name.is(Kind::Heading) {
+        let heading = Target::Kind(Kind::Heading);
+        page.close_in(Scope::General, named, heading, Target::Nothing)
+    } else if name.is(Kind::ClosesInScope) {
+        page.close_in(Scope::General, named, named, Target::Nothing)
+    } else if name.is(Kind::Formatting) {
+        adopt(page, name)
+    } else {
+        close_other(page, name)
+    }
+}
+
+pub(crate) fn in_body_end(page: &mut Page, name: TagName) -> Result<Option<Token>, Halt>
+    ensures { Turns result (bodies.in_body_end name.tag (page_of page.old))
+        (page_of page.new) }
+{
+    if name.is(Kind::Root) {
+        return Ok(None);
+    }
+    if name.is(Kind::Br) {
+        page.note(PageError::EndTagBr)?;
+        let attrs = HtmlAttrs::new(page.alloc);
+        let closed = false;
+        return Ok(Some(Token::Start(StartTag {
+            name,
+            attrs,
+            closed,
+        })));
+    }
+    end_element(page, &name)?;
+    Ok(None)
+}
+
+pub(crate) fn in_body(page: &mut Page, token: Token) -> Result<Option<Token>, Halt>
+    ensures { Turns result (bodies.in_body (token_of token) (page_of page.old))
+        (page_of page.new) }
+{
+    match token {
+        Token::Char(c) => {
+            page.reconstruct()?;
+            page.add_char(c)?;
+            Ok(None)
+        }
+        Token::Start(start) => in_body_start(page, start),
+        Token::End(name) => in_body_end(page, name),
+        Token::Finish => Ok(None),
+    }
+}

@@ -1,0 +1,377 @@
+//! Start tags in a body (HTML Standard 13.2.6.4.7).
+
+ghost use Rattle.std.specs.Prelude.{◌≡◌, [], codes};
+ghost use Rattle.html_dom_tree.specs.Views.{attrs_view};
+ghost use Rattle.html_page_names.specs.PageNames.{of};
+ghost use Rattle.html_page_stack.specs.Endings.{Steps, Turns};
+ghost use Rattle.html_page_stack.specs.OpenElements.{is_active};
+ghost use Rattle.html_page_stack.specs.PageViews.{page_of, start_of};
+ghost use Rattle.html_page_stack.specs.Pages as pages;
+ghost use Rattle.html_page_tree.specs.PageBodies as bodies;
+
+use crate::foreign::enter;
+use html_dom_tree::HtmlAttrs;
+use html_names_core::{HtmlTag, tag};
+use html_page_names::Kind;
+use html_page_stack::{
+    Bound, Goal, Halt, Page, PageError, PageRefusal, Scope, Space, StartTag, TableRule, TagName,
+    Target, Token,
+};
+
+/// Returns the start tag of an `img` for that of an `image`.
+#[tactic(auto, unfolding(html_names_core::specs::Tables::known_tags))]
+fn img_start(start: StartTag) -> StartTag
+    ensures { start_of result ≡ record (start_of start) { name = codes "img" } }
+{
+    let StartTag { attrs, closed, .. } = start;
+    let name = TagName::new(tag::img);
+    StartTag {
+        name,
+        attrs,
+        closed,
+    }
+}
+
+pub(crate) fn open(page: &mut Page, name: TagName, attrs: HtmlAttrs) -> Result<(), Halt>
+    ensures { Steps result (pages.opened name.tag (attrs_view attrs) (page_of page.old))
+        (page_of page.new) }
+{
+    let TagName { tag, kinds } = name;
+    page.open_in(Space::Html, tag, kinds, attrs)
+}
+
+/// Opens an element that no tag begins.
+pub(crate) fn open_implied(page: &mut Page, tag: HtmlTag) -> Result<(), Halt>
+    ensures { Steps result (pages.opened tag [] (page_of page.old)) (page_of page.new) }
+{
+    open(page, TagName::new(tag), HtmlAttrs::new(page.alloc))
+}
+
+/// Appends an element without content.
+pub(crate) fn add_leaf(page: &mut Page, start: StartTag) -> Result<(), Halt>
+    ensures { Steps result (bodies.leaf (start_of start) (page_of page.old))
+        (page_of page.new) }
+{
+    open(page, start.name, start.attrs)?;
+    page.close(true)
+}
+
+/// Handles a second `html` or `body`, whose attributes would be added to those of the first.
+pub(crate) fn repeat(page: &mut Page, start: &StartTag) -> Result<(), Halt>
+    ensures { Steps result (bodies.repeated (start_of start.now) (page_of page.old))
+        (page_of page.new) }
+{
+    if !start.attrs.0.is_empty() {
+        return Err(page.refusal(PageRefusal::MergedAttributes));
+    }
+    page.note(PageError::SecondStartTag)
+}
+
+pub(crate) fn add_to_head(page: &mut Page, start: StartTag) -> Result<(), Halt>
+    ensures { Steps result (bodies.head_element (start_of start) (page_of page.old))
+        (page_of page.new) }
+{
+    if start.name.is(Kind::HeadLeaf) {
+        return add_leaf(page, start);
+    }
+    open(page, start.name, start.attrs)
+}
+
+/// Handles any other end tag.
+pub(crate) fn close_other(page: &mut Page, name: &TagName) -> Result<(), Halt>
+    ensures { Steps result (bodies.other_closed name.now.tag (page_of page.old))
+        (page_of page.new) }
+{
+    let named = Target::Named(&name.tag);
+    if page.stack.reaches(Goal::Of(named), Bound::Special) {
+        page.close_over(named, named, named)
+    } else {
+        page.note(PageError::EndTagWithoutStart)
+    }
+}
+
+/// Runs the adoption agency algorithm, as long as nothing moves (HTML Standard 13.2.6.4.7).
+pub(crate) fn adopt(page: &mut Page, name: &TagName) -> Result<(), Halt>
+    ensures { Steps result (bodies.adopted name.now.tag (page_of page.old))
+        (page_of page.new) }
+{
+    let named = Target::Named(&name.tag);
+    if page.lost.holds(&name.tag) {
+        page.lost.forget(&name.tag);
+        return page.note(PageError::EndTagOfClosedElement);
+    }
+    if !page.stack.reaches(Goal::Of(named), Bound::Marker) {
+        return close_other(page, name);
+    }
+    if !page.in_scope(Scope::General, named) {
+        return page.note(PageError::EndTagWithoutStart);
+    }
+    if !page.stack.reaches(Goal::Of(named), Bound::Special) {
+        return Err(page.refusal(PageRefusal::AdoptionAgency));
+    }
+    let agrees = !page.stack.is_target(named);
+    page.note_if(agrees, PageError::EndTagOverOpenElements)?;
+    page.close_to(named)
+}
+
+/// Closes an element with that name before the next.
+fn close_nested(page: &mut Page, name: &TagName) -> Result<(), Halt>
+    ensures { Steps result (bodies.nested_closed name.now.tag (page_of page.old))
+        (page_of page.new) }
+{
+    let named = Target::Named(&name.tag);
+    if !page.in_scope(Scope::General, named) {
+        return Ok(());
+    }
+    page.note(PageError::NestedElement)?;
+    page.close_implied(Target::Nothing)?;
+    page.close_to(named)
+}
+
+fn close_select(page: &mut Page) -> Result<(), Halt>
+    ensures { Steps result (bodies.select_closed (page_of page.old)) (page_of page.new) }
+{
+    let select = Target::Kind(Kind::Select);
+    if !page.in_scope(Scope::General, select) {
+        return Ok(());
+    }
+    page.note(PageError::NestedElement)?;
+    page.close_to(select)
+}
+
+fn has_active_anchor(page: &Page) -> bool
+    ensures { result ≡ is_active (of Kind.A) (page_of page.now).stack }
+{
+    page.stack
+        .reaches(Goal::Of(Target::Kind(Kind::A)), Bound::Marker)
+}
+
+/// Refuses an `a` that is still open, and would be removed.
+fn refuse_open_anchor(page: &Page) -> Result<(), Halt>
+    ensures { Steps result (bodies.anchor_left (page_of page.now)) (page_of page.now) }
+{
+    if has_active_anchor(page) {
+        return Err(page.refusal(PageRefusal::OpenAnchorRemoved));
+    }
+    Ok(())
+}
+
+fn close_anchor(page: &mut Page, name: &TagName) -> Result<(), Halt>
+    ensures { Steps result (bodies.anchor_closed name.now.tag (page_of page.old))
+        (page_of page.new) }
+{
+    if !has_active_anchor(page) && !page.lost.holds(&name.tag) {
+        return Ok(());
+    }
+    page.note(PageError::NestedElement)?;
+    adopt(page, name)?;
+    refuse_open_anchor(page)
+}
+
+pub(crate) fn close_p(page: &mut Page) -> Result<(), Halt>
+    ensures { Steps result (bodies.p_closed (page_of page.old)) (page_of page.new) }
+{
+    let p = Target::Kind(Kind::P);
+    if !page.has_paragraph() {
+        return Ok(());
+    }
+    page.close_over(p, p, p)
+}
+
+/// Closes an item before the next of its kind.
+fn close_item(page: &mut Page, kind: Kind) -> Result<(), Halt>
+    ensures { Steps result (bodies.item_closed kind (page_of page.old)) (page_of page.new) }
+{
+    let item = Target::Kind(kind);
+    if !page.stack.reaches(Goal::Of(item), Bound::Item) {
+        return Ok(());
+    }
+    page.close_implied(item)?;
+    page.close_to(item)
+}
+
+fn close_heading(page: &mut Page) -> Result<(), Halt>
+    ensures { Steps result (bodies.heading_closed (page_of page.old)) (page_of page.new) }
+{
+    if !page.stack.is_at(Kind::Heading) {
+        return Ok(());
+    }
+    page.note(PageError::NestedElement)?;
+    page.close(false)
+}
+
+/// Closes options before the next, and before a rule.
+fn close_option(page: &mut Page, name: &TagName) -> Result<(), Halt>
+    ensures { Steps result (bodies.option_closed name.now.tag (page_of page.old))
+        (page_of page.new) }
+{
+    if page.in_scope(Scope::General, Target::Kind(Kind::Select)) {
+        if name.is(Kind::Option) {
+            return page.close_implied(Target::Kind(Kind::Optgroup));
+        }
+        return page.close_implied(Target::Nothing);
+    }
+    if !name.is(Kind::Hr) && page.stack.is_at(Kind::Option) {
+        return page.close(false);
+    }
+    Ok(())
+}
+
+/// Closes parts of a ruby annotation before the next.
+fn close_ruby(page: &mut Page, name: &TagName) -> Result<(), Halt>
+    ensures { Steps result (bodies.ruby_closed name.now.tag (page_of page.old))
+        (page_of page.new) }
+{
+    if !page.in_scope(Scope::General, Target::Kind(Kind::Ruby)) {
+        return Ok(());
+    }
+    if name.is(Kind::RubyText) {
+        return page.close_implied(Target::Kind(Kind::Rtc));
+    }
+    page.close_implied(Target::Nothing)
+}
+
+/// Closes a `p` before a table, except in quirks mode.
+fn close_before_table(page: &mut Page) -> Result<(), Halt>
+    ensures { Steps result (bodies.table_closes (page_of page.old)) (page_of page.new) }
+{
+    if !page.has_paragraph() {
+        return Ok(());
+    }
+    match page.tables {
+        TableRule::KeepsP => Ok(()),
+        TableRule::ClosesP => close_p(page),
+        TableRule::Unseen | TableRule::Unknown => Err(page.refusal(PageRefusal::DocumentType)),
+    }
+}
+
+/// Closes blocks before the next, and whatever else it closes.
+fn close_before_block(page: &mut Page, name: &TagName) -> Result<(), Halt>
+    ensures { Steps result (bodies.closed_before_block name.now.tag (page_of page.old))
+        (page_of page.new) }
+{
+    if name.is(Kind::ListItem) {
+        close_item(page, Kind::ListItem)?;
+        return close_p(page);
+    }
+    if name.is(Kind::DescriptionPart) {
+        close_item(page, Kind::DescriptionPart)?;
+        return close_p(page);
+    }
+    if name.is(Kind::Heading) {
+        close_p(page)?;
+        return close_heading(page);
+    }
+    if name.is(Kind::ClosesP) {
+        return close_p(page);
+    }
+    Ok(())
+}
+
+/// Closes what a start tag closes before its element.
+fn close_before(page: &mut Page, name: &TagName) -> Result<(), Halt>
+    ensures { Steps result (bodies.closed_before name.now.tag (page_of page.old))
+        (page_of page.new) }
+{
+    if name.is(Kind::A) {
+        return close_anchor(page, name);
+    }
+    if name.is(Kind::Button) {
+        return close_nested(page, name);
+    }
+    if name.is(Kind::Input) {
+        return close_select(page);
+    }
+    if name.is(Kind::Table) {
+        return close_before_table(page);
+    }
+    if name.is(Kind::Option) || name.is(Kind::Optgroup) {
+        return close_option(page, name);
+    }
+    if name.is(Kind::Hr) {
+        close_p(page)?;
+        return close_option(page, name);
+    }
+    if name.is(Kind::RubyPart) {
+        return close_ruby(page, name);
+    }
+    close_before_block(page, name)
+}
+
+/// Handles the formatting elements around an element, which come before it.
+fn format(page: &mut Page, name: &TagName) -> Result<(), Halt>
+    ensures { Steps result (bodies.formatted name.now.tag (page_of page.old))
+        (page_of page.new) }
+{
+    if name.is(Kind::Unformatted) {
+        return Ok(());
+    }
+    page.reconstruct()?;
+    if !name.is(Kind::Nobr) || !page.in_scope(Scope::General, Target::Named(&name.tag)) {
+        return Ok(());
+    }
+    page.note(PageError::NestedElement)?;
+    adopt(page, name)?;
+    page.reconstruct()
+}
+
+fn insert(page: &mut Page, start: StartTag) -> Result<(), Halt>
+    ensures { Steps result (bodies.inserted (start_of start) (page_of page.old))
+        (page_of page.new) }
+{
+    if start.name.is(Kind::Leaf) {
+        return add_leaf(page, start);
+    }
+    if start.name.is(Kind::Svg) {
+        return enter(page, Space::Svg, start);
+    }
+    if start.name.is(Kind::Math) {
+        return enter(page, Space::MathMl, start);
+    }
+    open(page, start.name, start.attrs)
+}
+
+fn start_in_body(page: &mut Page, start: StartTag) -> Result<(), Halt>
+    ensures { Steps result (bodies.element_begun (start_of start) (page_of page.old))
+        (page_of page.new) }
+{
+    close_before(page, &start.name)?;
+    format(page, &start.name)?;
+    insert(page, start)
+}
+
+/// Returns whether the start tag is ignored, with an error.
+fn is_nested(page: &Page, name: &TagName) -> bool
+    ensures { result ≡ bodies.is_nested name.now.tag (page_of page.now) }
+{
+    name.is(Kind::Form)
+        && page
+            .stack
+            .reaches(Goal::Of(Target::Named(&name.tag)), Bound::Nothing)
+}
+
+pub(crate) fn in_body_start(page: &mut Page, start: StartTag) -> Result<Option<Token>, Halt>
+    ensures { Turns result (bodies.in_body_start (start_of start) (page_of page.old))
+        (page_of page.new) }
+{
+    let name = &start.name;
+    if name.is(Kind::Root) {
+        repeat(page, &start)?;
+    } else if name.is(Kind::HeadContent) {
+        add_to_head(page, start)?;
+    } else if name.is(Kind::Unread) {
+        return Err(page.refusal(PageRefusal::UnreadElement));
+    } else if name.is(Kind::Misplaced) {
+        page.note(PageError::IgnoredStartTag)?;
+    } else if name.is(Kind::Image) {
+        page.note(PageError::ImageTag)?;
+        return Ok(Some(Token::Start(img_start(start))));
+    } else if is_nested(page, name) {
+        page.note(PageError::NestedElement)?;
+    } else if name.is(Kind::Select) && page.in_scope(Scope::General, Target::Kind(Kind::Select)) {
+        close_select(page)?;
+    } else {
+        start_in_body(page, start)?;
+    }
+    Ok(None)
+}

@@ -1,0 +1,188 @@
+//! Tokens before a body (HTML Standard 13.2.6.4.2 to 13.2.6.4.6), and in elements of text alone
+//! (13.2.6.4.8).
+
+ghost use Rattle.std.specs.Prelude.{◌≡◌, codes};
+ghost use Rattle.html_page_stack.specs.Endings.{Turns};
+ghost use Rattle.html_page_stack.specs.PageViews.{page_of, token_of};
+ghost use Rattle.html_page_tree.specs.PageBodies as bodies;
+
+use crate::body_start::{add_to_head, open, open_implied, repeat};
+use html_names_core::{HtmlTag, tag};
+use html_page_names::Kind;
+use html_page_stack::{Halt, Page, PageError, PageRefusal, TagName, Token};
+
+/// Returns whether it is a tab, a line feed, a form feed, a carriage return or a space.
+pub fn is_space(c: char) -> bool
+    ensures { result ≡ bodies.is_space c }
+{
+    matches!(c, '\t' | '\n' | '\u{c}' | '\r' | ' ')
+}
+
+/// Returns whether the end tag begins a body, as start tags do (HTML Standard 13.2.6.4.6).
+fn opens_body(name: &TagName) -> bool
+    ensures { result ≡ bodies.opens_body name.now.tag }
+{
+    name.is(Kind::Root) || name.is(Kind::Br)
+}
+
+/// Opens `html` or `head`, whichever is given, before the token.
+fn imply(page: &mut Page, tag: HtmlTag, token: Token) -> Result<Option<Token>, Halt>
+    ensures { Turns result (bodies.implied tag (token_of token) (page_of page.old))
+        (page_of page.new) }
+{
+    open_implied(page, tag)?;
+    Ok(Some(token))
+}
+
+/// Opens `body` before the token.
+#[tactic(auto, unfolding(html_names_core::specs::Tables::known_tags))]
+fn imply_body(page: &mut Page, token: Token) -> Result<Option<Token>, Halt>
+    ensures { Turns result (bodies.body_implied (token_of token) (page_of page.old))
+        (page_of page.new) }
+{
+    imply(page, tag::body, token)
+}
+
+/// Closes the current node before the token.
+pub(crate) fn leave(page: &mut Page, token: Token) -> Result<Option<Token>, Halt>
+    ensures { Turns result (bodies.left (token_of token) (page_of page.old))
+        (page_of page.new) }
+{
+    page.close(true)?;
+    Ok(Some(token))
+}
+
+/// Handles a token before `html` or before `head`, which it begins or implies.
+fn before(page: &mut Page, tag: HtmlTag, token: Token) -> Result<Option<Token>, Halt>
+    ensures { Turns result (bodies.before tag (token_of token) (page_of page.old))
+        (page_of page.new) }
+{
+    match token {
+        Token::Char(c) if is_space(c) => Ok(None),
+        Token::Start(start) if start.name.tag == tag => {
+            open(page, start.name, start.attrs)?;
+            Ok(None)
+        }
+        Token::Start(start) if start.name.is(Kind::Html) => {
+            repeat(page, &start)?;
+            Ok(None)
+        }
+        Token::End(name) if !name.is(Kind::Head) && !opens_body(&name) => {
+            page.note(PageError::EndTagWithoutStart)?;
+            Ok(None)
+        }
+        token => imply(page, tag, token),
+    }
+}
+
+#[tactic(auto, unfolding(html_names_core::specs::Tables::known_tags))]
+pub(crate) fn before_html(page: &mut Page, token: Token) -> Result<Option<Token>, Halt>
+    ensures { Turns result (bodies.before (codes "html") (token_of token) (page_of page.old))
+        (page_of page.new) }
+{
+    before(page, tag::html, token)
+}
+
+#[tactic(auto, unfolding(html_names_core::specs::Tables::known_tags))]
+pub(crate) fn before_head(page: &mut Page, token: Token) -> Result<Option<Token>, Halt>
+    ensures { Turns result (bodies.before (codes "head") (token_of token) (page_of page.old))
+        (page_of page.new) }
+{
+    before(page, tag::head, token)
+}
+
+pub(crate) fn in_head(page: &mut Page, token: Token) -> Result<Option<Token>, Halt>
+    ensures { Turns result (bodies.in_head (token_of token) (page_of page.old))
+        (page_of page.new) }
+{
+    match token {
+        Token::Char(c) if is_space(c) => page.add_char(c)?,
+        Token::Start(start) if start.name.is(Kind::Html) => repeat(page, &start)?,
+        Token::Start(start) if start.name.is(Kind::HeadContent) => add_to_head(page, start)?,
+        Token::Start(start) if start.name.is(Kind::Noscript) => {
+            open(page, start.name, start.attrs)?;
+        }
+        Token::Start(start) if start.name.is(Kind::Head) => {
+            page.note(PageError::SecondStartTag)?;
+        }
+        Token::End(name) if name.is(Kind::Head) => page.close(true)?,
+        Token::End(name) if !opens_body(&name) => {
+            page.note(PageError::EndTagWithoutStart)?;
+        }
+        token => return leave(page, token),
+    }
+    Ok(None)
+}
+
+/// Closes a `noscript` of the head before content that can't stand in it.
+fn leave_noscript(page: &mut Page, token: Token) -> Result<Option<Token>, Halt>
+    ensures { Turns result (bodies.noscript_left (token_of token) (page_of page.old))
+        (page_of page.new) }
+{
+    page.note(PageError::UnexpectedInNoscript)?;
+    leave(page, token)
+}
+
+pub(crate) fn in_head_noscript(page: &mut Page, token: Token) -> Result<Option<Token>, Halt>
+    ensures { Turns result (bodies.in_head_noscript (token_of token) (page_of page.old))
+        (page_of page.new) }
+{
+    match token {
+        Token::Char(c) if is_space(c) => page.add_char(c)?,
+        Token::Start(start) if start.name.is(Kind::Html) => repeat(page, &start)?,
+        Token::Start(start) if start.name.is(Kind::NoscriptContent) => {
+            add_to_head(page, start)?;
+        }
+        Token::Start(start) if start.name.is(Kind::Head) || start.name.is(Kind::Noscript) => {
+            page.note(PageError::IgnoredStartTag)?;
+        }
+        Token::End(name) if name.is(Kind::Noscript) => page.close(true)?,
+        Token::End(name) if !name.is(Kind::Br) => {
+            page.note(PageError::EndTagWithoutStart)?;
+        }
+        token => return leave_noscript(page, token),
+    }
+    Ok(None)
+}
+
+/// Handles a token between the head and the body.
+pub(crate) fn after_head(page: &mut Page, token: Token) -> Result<Option<Token>, Halt>
+    ensures { Turns result (bodies.after_head (token_of token) (page_of page.old))
+        (page_of page.new) }
+{
+    match token {
+        Token::Char(c) if is_space(c) => page.add_char(c)?,
+        Token::Start(start) if start.name.is(Kind::Html) => repeat(page, &start)?,
+        Token::Start(start) if start.name.is(Kind::Body) => {
+            open(page, start.name, start.attrs)?;
+        }
+        Token::Start(start) if start.name.is(Kind::Unread) => {
+            return Err(page.refusal(PageRefusal::UnreadElement));
+        }
+        Token::Start(start) if start.name.is(Kind::HeadContent) => {
+            return Err(page.refusal(PageRefusal::HeadReopened));
+        }
+        Token::Start(start) if start.name.is(Kind::Head) => {
+            page.note(PageError::SecondStartTag)?;
+        }
+        Token::End(name) if !opens_body(&name) => {
+            page.note(PageError::EndTagWithoutStart)?;
+        }
+        token => return imply_body(page, token),
+    }
+    Ok(None)
+}
+
+/// Handles a token in an element of text alone: its characters, and its end tag.
+pub(crate) fn in_text(page: &mut Page, token: Token) -> Result<Option<Token>, Halt>
+    ensures { Turns result (bodies.in_text (token_of token) (page_of page.old))
+        (page_of page.new) }
+{
+    match token {
+        Token::Char(c) => page.add_char(c)?,
+        Token::Start(_) => {}
+        Token::End(_) => page.close(true)?,
+        Token::Finish => return leave(page, Token::Finish),
+    }
+    Ok(None)
+}

@@ -1,0 +1,5 @@
+pub mod ClosingTags
+pub mod Fronts
+pub mod Places
+pub mod RawEnds
+pub mod Words

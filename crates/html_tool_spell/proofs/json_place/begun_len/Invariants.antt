@@ -1,8 +1,0 @@
-use Rattle.std.proofs.Common.{◌≡◌, ◌+◌, [], drop}
-use Rattle.html_tool_spell.specs.JsonPlaces.{begun}
-use Rattle.html_tool_spell.specs.declared.json_stage.Stage.TheVariants.{Value}
-use Rattle.html_tool_spell.proofs.json_place.begun_len.Given as goal
-
-abbrev pub invariant-loop-index : goal.invariant-loop-index
-invariant-loop-index l = l.index + begun l.point.stage l.point.brackets.items (drop l.index l.text)
-    ≡ begun Value [] l.text

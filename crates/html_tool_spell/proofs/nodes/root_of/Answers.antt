@@ -1,7 +1,0 @@
-use Rattle.html_tool_spell.proofs.NodeRows.{first_element}
-use Rattle.html_tool_spell.proofs.nodes.root_of.Goals as goal
-
-pub returns : goal.returns
-returns c =
-    first_element c.in_ok-nodes.nodes.items _ c.in-Element.root c.swap_remove.result
-    c.in_ok-nodes.ensures c.swap_remove.ensures.value c.in-Element.is c.requires

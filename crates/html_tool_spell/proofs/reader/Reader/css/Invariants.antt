@@ -1,9 +1,0 @@
-use Rattle.std.proofs.Common.{◌≡◌}
-use Rattle.std.specs.Vec.Iter.{into_iter_items}
-use Rattle.serde_json.specs.View.{view, items_view}
-use Rattle.html_tool_spell.specs.SpelledItems.{css_at, with_css}
-use Rattle.html_tool_spell.proofs.reader.Reader.css.Given as goal
-
-abbrev pub invariant-loop-value : goal.invariant-loop-value
-invariant-loop-value l =
-    with_css l.css (items_view (into_iter_items l.value-iterator)) ≡ css_at (view l.fn.value)

@@ -1,9 +1,0 @@
-use Rattle.std.proofs.Common.{chars}
-use Rattle.html_names.specs.Names.{tag_fault}
-use Rattle.html_tool_spell.proofs.Readings.{name_refused}
-use Rattle.html_tool_spell.proofs.reader.Reader.tag.Goals as goal
-
-pub returns-in_ok-note-in-Err : goal.returns-in_ok-note-in-Err
-returns-in_ok-note-in-Err c =
-    name_refused tag_fault (chars c.args.text.now) _ c.in-Err.fault c.args.span c.args.self.now
-    c.note.new.self c.in-Err.ensures.name.fault c.in_ok-note-in-Err.ensures

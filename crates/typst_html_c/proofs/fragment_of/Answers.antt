@@ -1,8 +1,0 @@
-use Rattle.std.proofs.Common.{refl}
-use Rattle.typst_html_c.proofs.fragment_of.Goals as goal
-
-pub returns-in-Some : goal.returns-in-Some
-returns-in-Some c = rw (← c.wanted_fragment.ensures, c.in-Some.is) c.text_of_fragment.ensures
-
-pub returns-in-None : goal.returns-in-None
-returns-in-None c = rw (← c.wanted_fragment.ensures, c.in-None.is) refl

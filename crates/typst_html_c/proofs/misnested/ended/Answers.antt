@@ -1,5 +1,0 @@
-use Rattle.typst_html_c.proofs.TextPieces.{appended}
-use Rattle.typst_html_c.proofs.misnested.ended.Goals as goal
-
-pub returns : goal.returns
-returns c = appended c.args.list.text c.push_str.new.self _ c.in_ok-push_str.ensures.bytes

@@ -1,4 +1,0 @@
-use Rattle.typst_html_c.proofs.typst_html_unused.Goals as goal
-
-pub returns-clause-answered : goal.returns-clause-answered
-returns-clause-answered c = c.reply_with.ensures.answered _ c.unused_of.ensures

@@ -1,0 +1,135 @@
+//! The misnested nodes of a page, which would make a browser build another tree, as JSON.
+
+ghost use Rattle.std.specs.Prelude.{◌≡◌, List, ℕ, [], ◌++◌, string_bytes, IfOk, OnOk};
+ghost use Rattle.serde_json.specs.Written.{compact_text};
+ghost use Rattle.html_page_nesting.specs.Misnested.{Finding};
+ghost use Rattle.html_page_read.specs.PlaceViews.{text_of};
+ghost use Rattle.typst_html_ffi.specs.MisnestedNodes.{misnested_data, node_data, rule_name};
+ghost use Rattle.typst_html_ffi.specs.PageSteps.{text_with_nodes};
+ghost use Rattle.typst_html_ffi.specs.LongTexts.{text_bytes};
+
+use crate::lists::{push_comma_if, push_key, push_string, push_where};
+use crate::pieces::LongText;
+use html_dom_tree::Span;
+use html_page_nesting::{MisnestedSink, Misnesting};
+use html_page_read::Places;
+use html_text::Place;
+use std::alloc::{AllocError, Global};
+
+/// A list of the misnested nodes of a page that is being written.
+#[derive(Drop)]
+pub(crate) struct NodeList<'a> {
+    /// The places in the page. The nodes come in document order, so one pass finds all.
+    places: Places<'a>,
+    /// The text that is written so far.
+    text: LongText,
+    /// The path of the previous node; empty if there is none.
+    previous: Vec<usize>,
+    /// Whether there is a previous node.
+    later: bool,
+}
+
+pub(crate) fn begun<'a>(
+    alloc: Global,
+    places: Places<'a>,
+    text: String,
+) -> Result<NodeList<'a>, AllocError>
+    ensures { IfOk result (λ list. (fs : List Finding) → text_with_nodes list fs
+        ≡ string_bytes text ++ compact_text (misnested_data (text_of places.entry) fs)) }
+{
+    let mut text = text;
+    text.push_str("[")?;
+    Ok(NodeList {
+        places,
+        text: LongText::new(alloc, text),
+        previous: Vec::new(alloc),
+        later: false,
+    })
+}
+
+pub(crate) fn ended(list: NodeList) -> Result<LongText, AllocError>
+    ensures { IfOk result (λ text. text_bytes text ≡ text_with_nodes list.entry []) }
+{
+    let NodeList { mut text, .. } = list;
+    text.last.push_str("]")?;
+    Ok(text)
+}
+
+impl<'a> MisnestedSink for NodeList<'a> {
+    ghost Made = { List ℕ };
+
+    ghost made_with = { text_with_nodes };
+
+    fn take(
+        &mut self,
+        alloc: Global,
+        path: &[usize],
+        span: Span,
+        why: Misnesting,
+    ) -> Result<(), AllocError> {
+        self.text.break_off(alloc)?;
+        let text = &mut self.text.last;
+        push_comma_if(text, self.later)?;
+        let place = self.places.at(span.0 as usize);
+        push_node(alloc, text, &self.previous, path, place, why)?;
+        self.previous = path.to_vec(alloc)?;
+        self.later = true;
+        Ok(())
+    }
+}
+
+/// Appends a node as an object. `previous` is the path of the previous node.
+fn push_node(
+    alloc: Global,
+    text: &mut String,
+    previous: &[usize],
+    path: &[usize],
+    place: Place,
+    why: Misnesting,
+) -> Result<(), AllocError>
+    ensures { OnOk result (string_bytes text.new
+        ≡ string_bytes text.old ++ compact_text (node_data previous.now path.now place why)) }
+{
+    text.push_str("{")?;
+    push_key(alloc, text, false, "rule")?;
+    push_string(alloc, text, rule_name(why))?;
+    push_key(alloc, text, true, "why")?;
+    push_string(alloc, text, why.words())?;
+    push_where(alloc, text, previous, path, place)?;
+    Ok(())
+}
+
+#[tactic(auto, unfolding(crate::specs::MisnestedNodes::rule_name))]
+fn rule_name(rule: Misnesting) -> &'static str
+    ensures { result.now ≡ rule_name rule }
+{
+    match rule {
+        Misnesting::NoPage => "NoPage",
+        Misnesting::TooDeep => "TooDeep",
+        Misnesting::TagName => "TagName",
+        Misnesting::AttributeName => "AttributeName",
+        Misnesting::RepeatedAttribute => "RepeatedAttribute",
+        Misnesting::CarriageReturn => "CarriageReturn",
+        Misnesting::StaysOpen => "StaysOpen",
+        Misnesting::UnreadEnd => "UnreadEnd",
+        Misnesting::RawText => "RawText",
+        Misnesting::ForeignText => "ForeignText",
+        Misnesting::FirstLineFeed => "FirstLineFeed",
+        Misnesting::ScriptComment => "ScriptComment",
+        Misnesting::NotInHead => "NotInHead",
+        Misnesting::NotInTable => "NotInTable",
+        Misnesting::NotInColumns => "NotInColumns",
+        Misnesting::OutsideTable => "OutsideTable",
+        Misnesting::NeverRead => "NeverRead",
+        Misnesting::FormInForm => "FormInForm",
+        Misnesting::ClosesParagraph => "ClosesParagraph",
+        Misnesting::ClosesHeading => "ClosesHeading",
+        Misnesting::ClosesItem => "ClosesItem",
+        Misnesting::ClosesSame => "ClosesSame",
+        Misnesting::ClosesOption => "ClosesOption",
+        Misnesting::ClosesSelect => "ClosesSelect",
+        Misnesting::ClosesRubyPart => "ClosesRubyPart",
+        Misnesting::LeavesForeign => "LeavesForeign",
+        Misnesting::Filled => "Filled",
+    }
+}

@@ -1,0 +1,14 @@
+use Rattle.std.proofs.Common.{refl}
+use Rattle.html_flow_convert.specs.Views.{item_view}
+use Rattle.html_flow_convert.specs.declared.item.Item as Item
+use Rattle.typst_html_json.proofs.ItemForms.{item_view-Text}
+use Rattle.typst_html_json.proofs.Readings.{read_clean}
+use Rattle.typst_html_json.specs.NameRefusals.{item_refusals}
+use Rattle.typst_html_json.proofs.items.text_of.Goals as goal
+
+pub returns-in-Some : goal.returns-in-Some
+unfolding item_refusals
+returns-in-Some c =
+    read_clean item_refusals (item_view (Item.Text c.in-Some.text c.here.result)) _ c.args.reader.now c.args.reader.now
+    (rw (← c.text_in.ensures, c.in-Some.is, item_view-Text, c.here.ensures) refl)
+    (rw item_view-Text refl) refl

@@ -1,3 +1,0 @@
-pub mod KeptHeads
-pub mod MadeDocuments
-pub mod SoundLinks

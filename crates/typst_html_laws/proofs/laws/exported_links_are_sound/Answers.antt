@@ -1,5 +1,0 @@
-use Rattle.typst_html_laws.proofs.SoundLinks.{exported_links_are_sound}
-use Rattle.typst_html_laws.proofs.laws.exported_links_are_sound.Goals as goal
-
-pub returns : goal.returns
-returns c = exported_links_are_sound

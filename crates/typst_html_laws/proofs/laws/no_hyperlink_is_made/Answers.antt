@@ -1,5 +1,0 @@
-use Rattle.typst_html_laws.proofs.MadeDocuments.{no_hyperlink_is_made}
-use Rattle.typst_html_laws.proofs.laws.no_hyperlink_is_made.Goals as goal
-
-pub returns : goal.returns
-returns c = no_hyperlink_is_made

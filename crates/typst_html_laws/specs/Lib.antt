@@ -1,2 +1,0 @@
-pub mod ItemHyperlinks
-pub mod SoundLinks

@@ -1,0 +1,3 @@
+pub mod ItemHyperlinks
+pub mod LinkedChecks
+pub mod SoundLinks

@@ -1,5 +1,0 @@
-use Rattle.typst_html_nest.proofs.Roots.{trees_stay}
-use Rattle.typst_html_nest.proofs.laws.trees_stay.Goals as goal
-
-pub returns : goal.returns
-returns c = trees_stay

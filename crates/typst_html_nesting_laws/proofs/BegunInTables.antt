@@ -1,0 +1,116 @@
+-- The start tag of an element that stays in a head or in a table opens it, and does nothing else.
+use Rattle.std.proofs.Common.{◌≡◌, ℕ, Bool, true, false, not, ◌&&◌, ◌||◌, List, inl, inr, map, refl, sym, ap, ◌∙◌}
+use Rattle.std.specs.Prelude.{Option, Some, None}
+use Rattle.std.proofs.lemmas.Bool.{and_parts, not-true, or_cases}
+use Rattle.html_names_core.specs.Kinds.{is_void}
+use Rattle.html_page_nesting.specs.Contents.{has_unread_end}
+use Rattle.html_page_nesting.specs.NestingRules.{has_place, is_in_tables}
+use Rattle.html_page_nesting.specs.declared.reading.Place.{Place}
+use Rattle.html_page_nesting.specs.declared.reading.Place.TheVariants as place
+use Rattle.html_page_names.specs.PageNames.{kind_names, of}
+use Rattle.html_page_names.specs.declared.kind.Kind.{Kind}
+use Rattle.html_page_names.specs.declared.kind.Kind.TheVariants as kind
+use Rattle.html_page_stack.specs.Pages.{Page, Reads, Start, StartTag, Turn, opened, taken}
+use Rattle.html_page_stack.specs.declared.modes.Mode.{Mode}
+use Rattle.html_page_stack.specs.declared.modes.Mode.TheVariants.{InHead, InHeadNoscript, InTable, InColumns, InSection, InRow}
+use Rattle.html_page_tree.specs.PageBodies.{head_element, leaf}
+use Rattle.html_page_tree.specs.PageTrees.{by_mode}
+use Rattle.typst_html_nesting_laws.proofs.Opened.{Opens, head_begun, leaf_begun, one_of}
+use Rattle.typst_html_nesting_laws.proofs.Branches.{first_true}
+use Rattle.typst_html_nesting_laws.proofs.KindFacts.{AllPass, agree_of, names, passes_of}
+use Rattle.typst_html_nesting_laws.proofs.Modes.{mode_in}
+
+-- neither `svg` nor `math`
+abbrev is_html_name : List ℕ → Bool
+is_html_name n = not (of kind.Svg n) && not (of kind.Math n)
+
+module _ (tag : StartTag) (p q : Page) (ops : Opens tag p q)
+    (plain : of kind.Template tag.name ≡ false) (ends : has_unread_end tag.name ≡ false) where
+  abbrev n : List ℕ
+  n = tag.name
+
+  -- the tag with another name
+  abbrev with_name : List ℕ → StartTag
+  with_name m = record { name = m; attrs = tag.attrs; closed = tag.closed }
+
+  abbrev result : Reads Turn
+  result = taken (one_of (is_void n) q)
+
+  abbrev read_in : Mode → List ℕ → Reads Turn
+  read_in m l = by_mode m (Start (with_name l)) p
+
+  -- a kind of elements that the rules of a mode open as they stand
+  part : (m : Mode) (k : Kind) →
+      map (read_in m) (kind_names k) ≡ map (λ l. taken (opened l tag.attrs p)) (kind_names k) →
+      AllPass (λ l. not (is_void l) && is_html_name l) (kind_names k) → of k n ≡ true →
+      by_mode m (Start tag) p ≡ result
+  part m k same whole h =
+      let test = λ (l : List ℕ). not (is_void l) && is_html_name l in
+      let a = and_parts (not (is_void n)) (is_html_name n) (passes_of test k n whole h) in
+      let b = and_parts (not (of kind.Svg n)) (not (of kind.Math n)) a.1 in
+      agree_of (read_in m) (λ l. taken (opened l tag.attrs p)) k n same h
+      ∙ ap taken (ops.plain (not-true (of kind.Svg n) b.0) (not-true (of kind.Math n) b.1)
+      ∙ ap (λ v. one_of v q) (sym (not-true (is_void n) a.0)))
+
+  -- or as elements of a head
+  content : (m : Mode) (k : Kind) →
+      map (read_in m) (kind_names k)
+      ≡ map (λ l. taken (head_element (with_name l) p)) (kind_names k) →
+      AllPass (of kind.HeadContent) (kind_names k) → of k n ≡ true →
+      by_mode m (Start tag) p ≡ result
+  content m k same head h =
+      agree_of (read_in m) (λ l. taken (head_element (with_name l) p)) k n same h
+      ∙ ap taken (head_begun tag p q ops (passes_of (of kind.HeadContent) k n head h) ends)
+
+  script : is_in_tables n ≡ true → of kind.ScriptOrStyle n ≡ true
+  script h = first_true (of kind.ScriptOrStyle n) (of kind.Template n) h plain
+
+  column : of kind.Col n ≡ true → by_mode InColumns (Start tag) p ≡ result
+  column h =
+      let test = λ (l : List ℕ). is_void l && is_html_name l in
+      let a = and_parts (is_void n) (is_html_name n)
+      (passes_of test kind.Col n (unfold names in refl) h) in
+      let b = and_parts (not (of kind.Svg n)) (not (of kind.Math n)) a.1 in
+      agree_of (read_in InColumns) (λ l. taken (leaf (with_name l) p)) kind.Col n
+      (unfold names in refl) h
+      ∙ ap taken
+      (leaf_begun tag p q ops (not-true (of kind.Svg n) b.0) (not-true (of kind.Math n) b.1)
+      ∙ ap (λ v. one_of v q) (sym a.0))
+
+  -- by the rules of the mode of that place, if it is one
+  abbrev TakenIn : Option Mode → Type 0
+  TakenIn None = Unit {0}
+  TakenIn (Some m) = by_mode m (Start tag) p ≡ result
+
+  pub place_taken : (l : Place) → has_place l n ≡ true → TakenIn (mode_in l)
+  unfolding names
+  place_taken place.Page h = tt
+  place_taken place.Head h =
+      elim (or_cases (of kind.HeadContent n) (of kind.Noscript n)
+      (first_true (of kind.HeadContent n || of kind.Noscript n) (of kind.Template n) h plain)) [
+        | inl e ↦ content InHead kind.HeadContent refl refl e
+        | inr e ↦ part InHead kind.Noscript refl refl e
+      ]
+  place_taken place.HeadNoscript h = content InHeadNoscript kind.NoscriptContent refl refl h
+  place_taken place.Table h =
+      elim (or_cases (of kind.Caption n || of kind.Colgroup n || of kind.Section n)
+      (is_in_tables n) h) [
+        | inl c ↦ elim (or_cases (of kind.Caption n || of kind.Colgroup n) (of kind.Section n) c) [
+          | inl d ↦ elim (or_cases (of kind.Caption n) (of kind.Colgroup n) d) [
+            | inl e ↦ part InTable kind.Caption refl refl e
+            | inr e ↦ part InTable kind.Colgroup refl refl e
+          ]
+          | inr e ↦ part InTable kind.Section refl refl e
+        ]
+        | inr e ↦ content InTable kind.ScriptOrStyle refl refl (script e)
+      ]
+  place_taken place.Section h = elim (or_cases (of kind.Tr n) (is_in_tables n) h) [
+    | inl e ↦ part InSection kind.Tr refl refl e
+    | inr e ↦ content InSection kind.ScriptOrStyle refl refl (script e)
+  ]
+  place_taken place.Row h = elim (or_cases (of kind.Cell n) (is_in_tables n) h) [
+    | inl e ↦ part InRow kind.Cell refl refl e
+    | inr e ↦ content InRow kind.ScriptOrStyle refl refl (script e)
+  ]
+  place_taken place.Columns h = column (first_true (of kind.Col n) (of kind.Template n) h plain)
+  place_taken place.Body h = tt

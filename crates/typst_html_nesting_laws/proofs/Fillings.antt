@@ -1,0 +1,439 @@
+-- An element is opened, filled and closed: what stands in it leads to a page with one child more.
+use Rattle.std.proofs.Common.{◌≡◌, ℕ, ◌+◌, Bool, true, false, ◌&&◌, ◌||◌, inl, inr, List, [], ◌∷◌, ◌++◌, Option, codes, refl, sym, ap, subst, ◌∙◌, arith, Ok}
+use Rattle.std.specs.List.{fold}
+use Rattle.std.specs.Prelude.{if◌then◌else◌}
+use Rattle.std.proofs.lemmas.Bool.{and_from, and_parts, and_right, both_ways, false_from_ne_true, false≢true, not_from_false, or_cases}
+use Rattle.html_names_core.specs.Characters.{IsOf, all, is_tag_char, is_text_char}
+use Rattle.html_names_core.specs.Kinds.{is_escapable_raw, is_raw}
+use Rattle.html_dom_tree.specs.PlainTree.{branch, Plains, plain, put_words, nodes_normal}
+use Rattle.html_dom_tree.specs.Tree.{Head, NodeView, tag_node, text_node, element_node, frame_node, NodesView, none, node, with_last}
+use Rattle.html_page_nesting.specs.Ancestors.{Ancestor, is_html, reading_of, space_of}
+use Rattle.html_page_nesting.specs.Contents.{begin_with_feed, is_escaped, is_listing, is_raw_when_read, state_behind}
+use Rattle.html_page_nesting.specs.WrittenTags.{begins_with_letter}
+use Rattle.html_page_nesting.specs.WrittenTexts.{has_return, is_empty}
+use Rattle.html_page_nesting.specs.declared.content.ScriptState.TheVariants as state
+use Rattle.typst_html_encode.proofs.Plainly.{shut}
+use Rattle.typst_html_encode.proofs.References.{raw_good}
+use Rattle.typst_html_encode.proofs.Runs.{left_empty, right_empty, test_fails}
+use Rattle.html_text.specs.ClosingTags.{holds_closing}
+use Rattle.typst_html_encode.specs.Content.{by_kind, content_kind}
+use Rattle.typst_html_encode.specs.ExportFaults.{closing_faults, nodes_faults, nodes_raw_faults, raw_content_faults}
+use Rattle.typst_html_encode.specs.FrameWriters.{Frames}
+use Rattle.typst_html_encode.specs.Reader.{drops_feed}
+use Rattle.typst_html_encode.specs.Text.{begins_with_feed, end_tag_text, escaped_text, escaping_of, feed_text, nodes_raw_text, nodes_text, start_tag_text}
+use Rattle.typst_html_encode.specs.declared.fault.ExportFault.{ExportFault}
+use Rattle.typst_html_encode.specs.declared.fault.ExportFault.TheVariants as fault
+use Rattle.html_page_names.specs.ForeignNames.{lowered}
+use Rattle.html_page_names.specs.PageNames.{of}
+use Rattle.html_page_names.specs.declared.kind.Kind.TheVariants as kind
+use Rattle.html_page_stack.specs.OpenElements as open_elements
+use Rattle.html_page_stack.specs.OpenElements.{OpenElement, completed, is_at, is_of, with_last_child, with_text}
+use Rattle.html_page_stack.specs.Pages.{Page, StartTag, End, Start, closed}
+use Rattle.html_page_stack.specs.declared.modes.Space.TheVariants as spaces
+use Rattle.html_page_tree.specs.PageTrees.{token_read}
+use Rattle.html_page_read.specs.PageReading.{run}
+use Rattle.html_page_read.specs.PageTokens.{PageReader}
+use Rattle.typst_html_nesting_laws.proofs.Alike.{html_is, html_space}
+use Rattle.typst_html_nesting_laws.proofs.Branches.{second_false}
+use Rattle.typst_html_nesting_laws.proofs.Closed.{closed_is}
+use Rattle.typst_html_nesting_laws.proofs.EndTags.{end_emits}
+use Rattle.typst_html_nesting_laws.proofs.Forms.{AreGathered, IsFilled, are_texts, filled_normal, on, put_last, put_nodes, put_texted, put_texts, texted_children, texts_by_faults, with_text_is}
+use Rattle.typst_html_nesting_laws.proofs.InnerTexts.{feed_is, first_feed, none_closes, plain_texts, plains_written, states_of, texts_clean, texts_good, texts_written}
+use Rattle.typst_html_nesting_laws.proofs.KindFacts.{dropped_feed, escapable_same, feed_dropped, not_escapable, raw_keeps, script_or_style}
+use Rattle.typst_html_nesting_laws.proofs.RawTexts.{escapable_emits, raw_emits}
+use Rattle.typst_html_nesting_laws.proofs.Readers.{Emits, Takes, behind, data_at, raw_at, run_on, written_tag}
+use Rattle.typst_html_nesting_laws.proofs.Rules.{ContentFits, ForeignFits}
+use Rattle.typst_html_nesting_laws.proofs.Ways.{begun, begun_element, marks}
+
+-- whether a line feed is still dropped behind a node, and behind nodes
+abbrev pub fresh_after : Bool → NodeView → Bool
+fresh_after fresh (tag_node t) = fresh
+fresh_after fresh (text_node s span) = fresh && is_empty s
+fresh_after fresh (element_node h kids) = false
+fresh_after fresh (frame_node f) = fresh
+
+abbrev pub fresh_behind : Bool → NodesView → Bool
+fresh_behind fresh none = fresh
+fresh_behind fresh (node n ns) = fresh_behind (fresh_after fresh n) ns
+
+-- behind a start tag of an element that is no element of text alone
+pub behind_data : (tag : StartTag) (place : ℕ) (p : Page) → is_at (of kind.Raw) p.stack ≡ false →
+    behind (Start tag) place p
+    ≡ data_at (of kind.DropsFeed tag.name && is_at (of kind.DropsFeed) p.stack) (place + 1) p
+behind_data tag place p h = rw h refl
+
+behind_raw : (tag : StartTag) (place : ℕ) (p : Page) → is_at (of kind.Raw) p.stack ≡ true →
+    behind (Start tag) place p
+    ≡ raw_at (of kind.DropsFeed tag.name && is_at (of kind.DropsFeed) p.stack) (place + 1) p
+behind_raw tag place p h = rw h refl
+
+module _ (above : List Ancestor) (h : Head) (p : Page) (o : OpenElement) (os : List OpenElement)
+    (c : NodesView) (t : List ℕ) (s : ℕ) where
+  -- the page behind the start tag, the element, and those around it
+  abbrev pub opened_page : Page
+  opened_page = begun h above (on p o os c t s)
+
+  abbrev pub opened : OpenElement
+  opened = begun_element h above s
+
+  abbrev pub around : List OpenElement
+  around = with_text t (record o { children = c }) ∷ os
+
+  -- as a child, once it is filled
+  abbrev pub with_child : (children : NodesView) → NodesView
+  with_child children =
+      with_last (texted_children o.head.span c t) (element_node opened.head children)
+
+  abbrev page_of : (inner outer : OpenElement) → List (Option (List ℕ)) → (start : ℕ) → Page
+  page_of x y ls start = record p {
+    text = [];
+    stack = with_last_child (completed x) y ∷ os;
+    lost = ls;
+    start = start;
+  }
+
+  pub closes : (children : NodesView) (words : List ℕ) (start : ℕ) → p.lost ≡ marks (o ∷ os) →
+      opened_page.lost ≡ marks (opened ∷ around) →
+      closed true (on opened_page opened around children words start)
+      ≡ Ok (on p o os (with_child (texted_children s children words)) [] start)
+  closes children words start lost inner_lost =
+      let y : OpenElement = with_text t (record o { children = c }) in
+      let z : OpenElement = record o { children = texted_children o.head.span c t } in
+      let x : OpenElement = record opened { children = texted_children s children words } in
+      closed_is (on opened_page opened around children words start)
+      (record opened { children = children }) around refl inner_lost
+      ∙ (ap (λ w. Ok (page_of w y (marks (y ∷ os)) start)) (with_text_is words opened children)
+      ∙ (ap (λ w. Ok (page_of x w (marks (w ∷ os)) start)) (with_text_is t o c)
+      ∙ ap (λ ls. Ok (page_of x z ls start)) (sym lost)))
+
+  pub child_normal : (children kids : NodesView) → nodes_normal children ≡ nodes_normal kids →
+      (k : Plains) → put_nodes (with_child children) k
+      ≡ put_nodes c (put_words t (plain (branch h.name h.attrs (nodes_normal kids)) k))
+  child_normal children kids e k =
+      put_last (texted_children o.head.span c t) (element_node opened.head children) k
+      ∙ (ap (λ n. put_nodes (texted_children o.head.span c t) (plain (branch h.name h.attrs n) k)) e
+      ∙ put_texted o.head.span c t (plain (branch h.name h.attrs (nodes_normal kids)) k))
+
+  -- from the start tag to the end tag
+  abbrev pub element_closed : (q behind_start : PageReader) (rest : List ℕ) (kids : NodesView) →
+      p.lost ≡ marks (o ∷ os) → opened_page.lost ≡ marks (opened ∷ around) →
+      run q (start_tag_text h) ≡ Ok behind_start →
+      IsFilled behind_start rest h.name kids opened_page opened around →
+      ((children : NodesView) (words : List ℕ) (start : ℕ) →
+      token_read (End (lowered h.name)) (on opened_page opened around children words start)
+      ≡ closed true (on opened_page opened around children words start)) →
+      AreGathered q (start_tag_text h ++ rest) false p o os c t (node (element_node h kids) none)
+  element_closed q behind_start rest kids lost inner_lost starts f ends =
+      let kept = texted_children s f.children f.words in
+      let after : Page = on p o os (with_child kept) [] f.start in
+      record {
+        children = with_child kept;
+        words = [];
+        place = f.place;
+        start = f.start;
+        is = run_on q behind_start (Ok (data_at false f.place after)) (start_tag_text h) rest starts
+            (f.is after (ends f.children f.words f.start
+            ∙ closes f.children f.words f.start lost inner_lost));
+        same = child_normal kept kids
+            (filled_normal behind_start rest h.name kids opened_page opened around s f);
+      }
+
+-- the nodes are read, whatever text stands before
+abbrev pub KidsAreGathered : Frames → (level : ℕ) → NodesView → Page → OpenElement →
+    List OpenElement → Type 0
+KidsAreGathered frames level kids p o os = (pre_span fresh : Bool) (place start : ℕ) →
+    nodes_faults frames pre_span false kids ≡ [] → (fresh ≡ true → begin_with_feed kids ≡ false) →
+    AreGathered (data_at fresh place (on p o os none [] start))
+    (nodes_text frames pre_span true (shut level) kids) (fresh_behind fresh kids) p o os none []
+    kids
+
+module _ (frames : Frames) (level : ℕ) (name : List ℕ) (kids : NodesView) (p : Page)
+    (o : OpenElement) (os : List OpenElement) where
+  -- nodes, and the end tag
+  pub nodes_filled : IsOf is_tag_char name → begins_with_letter name ≡ true →
+      KidsAreGathered frames level kids p o os → (pre_span fresh : Bool) (place start : ℕ) →
+      nodes_faults frames pre_span false kids ≡ [] →
+      (fresh ≡ true → begin_with_feed kids ≡ false) →
+      IsFilled (data_at fresh place (on p o os none [] start))
+      (nodes_text frames pre_span true (shut level) kids ++ end_tag_text name) name kids p o os
+  nodes_filled n l all pre_span fresh place start f first =
+      let g = all pre_span fresh place start f first in
+      let last = fresh_behind fresh kids in
+      let e = end_emits name n l last g.place (on p o os g.children g.words g.start) in
+      record {
+        children = g.children;
+        words = g.words;
+        start = e.start;
+        place = e.place + 1;
+        is = λ after r. run_on (data_at fresh place (on p o os none [] start))
+            (data_at last g.place (on p o os g.children g.words g.start))
+            (Ok (data_at false (e.place + 1) after))
+            (nodes_text frames pre_span true (shut level) kids) (end_tag_text name) g.is
+            (e.is after r);
+        same = g.same;
+      }
+
+  -- a line feed that is added is dropped, and no other
+  fed : (x f : Bool) (text : List ℕ) (place start : ℕ) → (x ≡ true → f ≡ true) →
+      (x ≡ false → f ≡ true → begin_with_feed kids ≡ false) →
+      ((fresh : Bool) (place start : ℕ) → (fresh ≡ true → begin_with_feed kids ≡ false) →
+      IsFilled (data_at fresh place (on p o os none [] start)) text name kids p o os) →
+      IsFilled (data_at f place (on p o os none [] start))
+      ((if x then codes "\n" else []) ++ text) name kids p o os
+  fed true true text place start h k fill =
+      let g = fill false (place + 1) place (λ e. absurd (false≢true e)) in record {
+        children = g.children;
+        words = g.words;
+        start = g.start;
+        place = g.place;
+        is = g.is;
+        same = g.same;
+      }
+  fed true false text place start h k fill = absurd (false≢true (h refl))
+  fed false f text place start h k fill = fill f place start (k refl)
+
+-- what stands between the tags, in plain writing
+abbrev pub inside : Frames → (level : ℕ) → Head → NodesView → List ℕ
+inside frames level h kids = by_kind (content_kind h.name) (nodes_raw_text kids)
+    (escaped_text (escaping_of false) (nodes_raw_text kids))
+    (nodes_text frames h.pre_span true (shut level) kids)
+
+-- and all that follows the start tag
+abbrev pub filling : Frames → (level : ℕ) → Head → NodesView → List ℕ
+filling frames level h kids =
+    feed_text h kids ++ (inside frames level h kids ++ end_tag_text h.name)
+
+abbrev pub inside_faults : Frames → Head → NodesView → List ExportFault
+inside_faults frames h kids = by_kind (content_kind h.name) (raw_content_faults h kids)
+    (nodes_raw_faults (escaping_of false) kids) (nodes_faults frames h.pre_span false kids)
+
+-- a line feed is written before one that would be dropped
+abbrev is_fed : Head → NodesView → Bool
+is_fed h kids = drops_feed h.name && begins_with_feed kids
+
+-- it drops no line feed, whatever its space and the letters of its name
+keeps_it : (low html drops : Bool) → drops ≡ false → (low && (html && drops)) ≡ false
+keeps_it low html drops e = and_right low (html && drops) (and_right html drops e)
+
+undropped_by : (n : List ℕ) → of kind.DropsFeed n ≡ false → drops_feed n ≡ false
+undropped_by n e = false_from_ne_true (drops_feed n) (λ d. false≢true (sym e ∙ dropped_feed n d))
+
+-- what raw elements hold; the escaping of their faults is found, as it has no name here
+raw_texts : (h : Head) (ns : NodesView) → raw_content_faults h ns ≡ [] → are_texts ns ≡ true
+raw_texts h ns f = let clean = left_empty _ (closing_faults h ns) f in
+    first_of (search (texts_by_faults, clean), grind (arith, texts_by_faults, clean))
+
+raw_chars : (h : Head) (ns : NodesView) → raw_content_faults h ns ≡ [] →
+    all is_text_char (nodes_raw_text ns) ≡ true
+raw_chars h ns f = let clean = left_empty _ (closing_faults h ns) f in
+    first_of (search (raw_good, clean), grind (arith, raw_good, clean))
+
+module _ (frames : Frames) (level : ℕ) (above : List Ancestor) (h : Head) (kids : NodesView)
+    (p : Page) (o : OpenElement) (os : List OpenElement) (c : NodesView) (t : List ℕ) (s : ℕ)
+    (named : IsOf is_tag_char h.name) (letter : begins_with_letter h.name ≡ true)
+    (returns : has_return (nodes_raw_text kids) ≡ false)
+    (faultless : inside_faults frames h kids ≡ []) where
+  abbrev page : Page
+  page = opened_page above h p o os c t s
+
+  abbrev it : OpenElement
+  it = opened above h p o os c t s
+
+  abbrev outer : List OpenElement
+  outer = around above h p o os c t s
+
+  -- whether a line feed is dropped
+  abbrev drops : Bool
+  drops = of kind.DropsFeed (lowered h.name) && is_of (of kind.DropsFeed) it
+
+  -- what follows the start tag
+  abbrev Filled : (place : ℕ) → Type 0
+  Filled place = IsFilled (behind (Start (written_tag h)) place page)
+      (filling frames level h kids) h.name kids page it outer
+
+  data_filled : is_of (of kind.Raw) it ≡ false →
+      KidsAreGathered frames level kids page it outer →
+      (pre_span : Bool) → nodes_faults frames pre_span false kids ≡ [] →
+      inside frames level h kids ≡ nodes_text frames pre_span true (shut level) kids →
+      (is_fed h kids ≡ true → drops ≡ true) →
+      (is_fed h kids ≡ false → drops ≡ true → begin_with_feed kids ≡ false) →
+      (place : ℕ) → Filled place
+  data_filled raw all pre_span f same x y place =
+      let nodes = nodes_text frames pre_span true (shut level) kids in
+      let feed = feed_text h kids in
+      subst (λ q. IsFilled q (filling frames level h kids) h.name kids page it outer)
+      (sym (behind_data (written_tag h) place page raw))
+      (subst (λ l. IsFilled (data_at drops (place + 1) page) (feed ++ (l ++ end_tag_text h.name))
+      h.name kids page it outer) (sym same)
+      (fed frames level h.name kids page it outer (is_fed h kids) drops
+      (nodes ++ end_tag_text h.name) (place + 1) s x y
+      (λ fresh place start first. nodes_filled frames level h.name kids page it outer named letter
+      all pre_span fresh place start f first)))
+
+  -- of an element of HTML
+  module _ (html : is_html (space_of (reading_of above) h.name) ≡ true)
+      (small : lowered h.name ≡ h.name) (fits : ContentFits h kids) where
+    html_it : open_elements.is_html it.space ≡ true
+    html_it = html_is (space_of (reading_of above) h.name) ∙ html
+
+    drops_it : of kind.DropsFeed h.name ≡ true → drops ≡ true
+    drops_it e = and_from (of kind.DropsFeed (lowered h.name)) (is_of (of kind.DropsFeed) it)
+        (ap (of kind.DropsFeed) small ∙ e)
+        (and_from (open_elements.is_html it.space) (of kind.DropsFeed h.name) html_it e)
+
+    it_drops : drops ≡ true → of kind.DropsFeed h.name ≡ true
+    it_drops e = sym (ap (of kind.DropsFeed) small)
+        ∙ (and_parts (of kind.DropsFeed (lowered h.name)) (is_of (of kind.DropsFeed) it) e).0
+
+    fed_drops : is_fed h kids ≡ true → drops ≡ true
+    fed_drops e = drops_it (dropped_feed h.name
+        (and_parts (drops_feed h.name) (begins_with_feed kids) e).0)
+
+    no_feed : is_fed h kids ≡ false → drops ≡ true → begin_with_feed kids ≡ false
+    no_feed e d = elim (or_cases (drops_feed h.name) (is_listing h.name)
+        (feed_dropped h.name (it_drops d))) [
+          | inl k ↦ sym (feed_is kids returns)
+              ∙ second_false (drops_feed h.name) (begins_with_feed kids) e k
+          | inr k ↦ fits.listing k
+        ]
+
+    pub html_filled : of kind.Raw h.name ≡ false → is_raw h.name ≡ false →
+        is_escapable_raw h.name ≡ false → KidsAreGathered frames level kids page it outer →
+        (place : ℕ) → Filled place
+    html_filled raw r e all place =
+        data_filled (and_right (open_elements.is_html it.space) (of kind.Raw h.name) raw) all
+        h.pre_span (rw (r, e) at faultless) (rw (r, e) refl) fed_drops no_feed place
+
+    -- of text alone
+    module _ (raw : of kind.Raw h.name ≡ true) (takes : Takes (λ c. true) page) where
+      in_html : it.space ≡ spaces.Html
+      in_html = html_space (space_of (reading_of above) h.name) html
+
+      raw_it : is_of (of kind.Raw) it ≡ true
+      raw_it = and_from (open_elements.is_html it.space) (of kind.Raw h.name) html_it raw
+
+      -- what follows the start tag is read as the texts, and the end tag
+      text_filled : (place : ℕ) → are_texts kids ≡ true →
+          Emits (raw_at drops (place + 1) page)
+          (filling frames level h kids) (End h.name) (record page { text = nodes_raw_text kids }) →
+          Filled place
+      text_filled place texts e = record {
+        children = none;
+        words = nodes_raw_text kids;
+        start = e.start;
+        place = e.place + 1;
+        is = λ after r. ap (λ q. run q (filling frames level h kids))
+            (behind_raw (written_tag h) place page raw_it) ∙ e.is after (sym (ap (λ n. token_read
+            (End n) (on page it outer none (nodes_raw_text kids) e.start)) small) ∙ r);
+        same = put_texts kids texts;
+      }
+
+      script_ends : of kind.Script h.name ≡ true →
+          is_escaped (fold state_behind state.Data (nodes_raw_text kids)) ≡ false
+      script_ends e = sym (ap is_escaped (states_of state.Data kids)) ∙ fits.script e
+
+      -- in which no references are read
+      pub raw_filled : is_escapable_raw h.name ≡ false →
+          inside frames level h kids ≡ nodes_raw_text kids →
+          are_texts kids ≡ true → all is_text_char (nodes_raw_text kids) ≡ true →
+          holds_closing h.name (nodes_raw_text kids) ≡ false → (place : ℕ) → Filled place
+      raw_filled escapable same texts good shuts place =
+          let keeps = raw_keeps h.name raw escapable in
+          let words = nodes_raw_text kids in
+          let ends = end_tag_text h.name in
+          let after : Page = record page { text = words } in
+          let kept : drops ≡ false = keeps_it (of kind.DropsFeed (lowered h.name))
+          (open_elements.is_html it.space) (of kind.DropsFeed h.name) keeps in
+          let is : feed_text h kids ++ (inside frames level h kids ++ ends) ≡ words ++ ends =
+          ap (λ b. (if b && begins_with_feed kids then codes "\n" else [])
+          ++ (inside frames level h kids ++ ends)) (undropped_by h.name keeps)
+          ∙ ap (λ l. l ++ ends) same in
+          text_filled place texts (subst (λ b. Emits (raw_at b (place + 1) page)
+          (feed_text h kids ++ (inside frames level h kids ++ ends)) (End h.name) after) (sym kept)
+          (subst (λ l. Emits (raw_at false (place + 1) page) l (End h.name) after) (sym is)
+          (raw_emits h.name words (place + 1) page it outer refl refl in_html raw
+          (escapable_same h.name ∙ escapable) refl takes good returns shuts script_ends)))
+
+      -- in which they are
+      pub escapable_filled : is_raw h.name ≡ false → is_escapable_raw h.name ≡ true →
+          (place : ℕ) → Filled place
+      escapable_filled r escapable place =
+          let words = nodes_raw_text kids in
+          let f : nodes_raw_faults (escaping_of false) kids ≡ [] = rw (r, escapable) at faultless in
+          let texts = texts_by_faults (escaping_of false) kids f in
+          let same : inside frames level h kids ≡ escaped_text (escaping_of false) words
+          = rw (r, escapable) refl in
+          text_filled place texts (subst (λ l. Emits (raw_at drops (place + 1) page)
+          (feed_text h kids ++ (l ++ end_tag_text h.name)) (End h.name)
+          (record page { text = words })) (sym same)
+          (escapable_emits h.name words (is_fed h kids) drops (place + 1) page it outer refl refl
+          in_html raw (escapable_same h.name ∙ escapable) refl takes
+          (raw_good (escaping_of false) kids f) returns fed_drops
+          (λ x y. first_feed kids texts (no_feed y x))))
+
+      -- each element of text alone
+      pub alone_filled : (r e : Bool) → is_raw h.name ≡ r → is_escapable_raw h.name ≡ e →
+          (place : ℕ) → Filled place
+      alone_filled true e x y place =
+          let f : raw_content_faults h kids ≡ [] = rw x at faultless in
+          raw_filled (not_escapable h.name x) (rw x refl) (raw_texts h kids f)
+          (raw_chars h kids f) (test_fails (holds_closing h.name (nodes_raw_text kids))
+          (fault.RawClosing (record { 0 = h.span }))
+          (right_empty _ (closing_faults h kids) f)) place
+      alone_filled false true x y place = escapable_filled x y place
+      alone_filled false false x y place =
+          let read : is_raw_when_read h.name ≡ true = and_from (of kind.Raw h.name) _ raw
+          (not_from_false (of kind.ScriptOrStyle h.name || of kind.EscapableRaw h.name)
+          (rw (script_or_style h.name, escapable_same h.name, x, y) refl)) in
+          let plain = fits.plain read in
+          let texts = plain_texts h.pre_span kids plain in
+          let f : nodes_faults frames h.pre_span false kids ≡ [] = rw (x, y) at faultless in
+          let good = texts_good frames h.pre_span kids texts.0 f in
+          let same : inside frames level h kids ≡ nodes_text frames h.pre_span true (shut level)
+          kids
+          = rw (x, y) refl in
+          raw_filled y (same ∙ plains_written frames h.pre_span true level kids plain good) texts.0
+          good (none_closes h.name (nodes_raw_text kids) texts.1) place
+
+  -- of an element of SVG or MathML
+  module _ (html : is_html (space_of (reading_of above) h.name) ≡ false) (fits : ForeignFits h kids)
+      (all : KidsAreGathered frames level kids page it outer) where
+    html_not : open_elements.is_html it.space ≡ false
+    html_not = html_is (space_of (reading_of above) h.name) ∙ html
+
+    drops_not : drops ≡ false
+    drops_not = and_right (of kind.DropsFeed (lowered h.name)) (is_of (of kind.DropsFeed) it)
+        (ap (λ b. b && of kind.DropsFeed h.name) html_not)
+
+    fed_not : is_fed h kids ≡ true → drops ≡ true
+    fed_not e =
+        let both = and_parts (drops_feed h.name) (begins_with_feed kids) e in
+        absurd (both_ways (begins_with_feed kids)
+        (feed_is kids returns ∙ fits.feed both.0) both.1)
+
+    -- texts alone, or nodes
+    by_nodes : (pre_span : Bool) → nodes_faults frames pre_span false kids ≡ [] →
+        inside frames level h kids ≡ nodes_text frames pre_span true (shut level) kids →
+        (place : ℕ) → Filled place
+    by_nodes pre_span f same place =
+        data_filled (ap (λ b. b && of kind.Raw h.name) html_not) all pre_span f same fed_not
+        (λ x d. absurd (false≢true (sym drops_not ∙ d))) place
+
+    pub foreign_filled : (r e : Bool) → is_raw h.name ≡ r → is_escapable_raw h.name ≡ e →
+        (place : ℕ) → Filled place
+    foreign_filled true e x y place =
+        let f : raw_content_faults h kids ≡ [] = rw x at faultless in
+        let good = raw_chars h kids f in
+        let same : inside frames level h kids ≡ nodes_raw_text kids = rw x refl in
+        by_nodes false (texts_clean frames kids (raw_texts h kids f) good)
+        (same ∙ sym (plains_written frames false true level kids (fits.plain x) good)) place
+    foreign_filled false true x y place =
+        let f : nodes_raw_faults (escaping_of false) kids ≡ [] = rw (x, y) at faultless in
+        let texts = texts_by_faults (escaping_of false) kids f in
+        let same : inside frames level h kids ≡ escaped_text (escaping_of false)
+        (nodes_raw_text kids)
+        = rw (x, y) refl in
+        by_nodes false (texts_clean frames kids texts (raw_good (escaping_of false) kids f))
+        (same ∙ sym (texts_written frames true level kids texts)) place
+    foreign_filled false false x y place =
+        by_nodes h.pre_span (rw (x, y) at faultless) (rw (x, y) refl) place

@@ -1,0 +1,94 @@
+-- Texts that are added to the current node, and nothing else is done.
+use Rattle.std.proofs.Common.{◌≡◌, ℕ, Bool, true, false, not, List, [], ◌∷◌, refl, sym, ap, ◌∙◌, Ok}
+use Rattle.std.proofs.lemmas.Bool.{and_from, false≢true, or_right}
+use Rattle.std.specs.Prelude.{Some}
+use Rattle.html_page_nesting.specs.Ancestors.{Ancestor, place_of}
+use Rattle.html_page_nesting.specs.WrittenTexts.{is_white_char}
+use Rattle.html_page_nesting.specs.declared.reading.Place.{Place}
+use Rattle.html_page_nesting.specs.declared.reading.Place.TheVariants as place
+use Rattle.html_page_names.specs.PageNames.{of}
+use Rattle.html_page_names.specs.declared.kind.Kind.TheVariants as kind
+use Rattle.html_page_stack.specs.OpenElements.{OpenElement, is_html, mode}
+use Rattle.html_page_stack.specs.Pages.{Page, Char, Taken, loses_some, with_char}
+use Rattle.html_page_stack.specs.declared.modes.Mode.{Mode}
+use Rattle.html_page_stack.specs.declared.modes.Mode.TheVariants.{InBody, InText, InCaption, InCell}
+use Rattle.html_page_stack.specs.declared.modes.Space.TheVariants as spaces
+use Rattle.html_page_tree.proofs.TakenTexts.{text_taken}
+use Rattle.html_page_tree.specs.PageTrees.{by_mode, is_foreign_token, is_unseen}
+use Rattle.html_page_tree.specs.TakenTexts.{mode_takes_text, takes_text}
+use Rattle.typst_html_nesting_laws.proofs.Alike.{html_space, mode_is, placed_html}
+use Rattle.typst_html_nesting_laws.proofs.Closed.{marks_lose_none}
+use Rattle.typst_html_nesting_laws.proofs.Modes.{mode_in, own_mode}
+use Rattle.typst_html_nesting_laws.proofs.Readers.{Takes, texted}
+use Rattle.typst_html_nesting_laws.proofs.Turns.{html_token, mode_taken}
+use Rattle.typst_html_nesting_laws.proofs.Ways.{AreAlike, IsCalm, IsSteady, is_body_mode, is_page_place}
+
+-- the modes that take any text, where no formatting element is lost
+abbrev is_text_mode : Mode → Bool
+is_text_mode InText = true
+is_text_mode m = is_body_mode m
+
+mode_takes : (m : Mode) (p : Page) → is_text_mode m ≡ true → loses_some p.lost ≡ false →
+    mode_takes_text m p ≡ true
+mode_takes InText p h l = refl
+mode_takes InBody p h l = ap not l
+mode_takes InCaption p h l = ap not l
+mode_takes InCell p h l = ap not l
+mode_takes _ p h l = absurd (false≢true h)
+
+-- in such a mode each character is taken
+mode_text : (above : List Ancestor) (p : Page) → IsCalm above p →
+    is_text_mode (mode p.stack) ≡ true → Takes (λ c. true) p
+unfolding takes_text
+mode_text above p calm h c text start passes = text_taken c (texted text start p)
+    (and_from (not (is_unseen p.tables)) _ (ap (λ r. not (is_unseen r)) calm.tables)
+    (or_right (is_foreign_token (Char 0) p.stack) _
+    (mode_takes (mode p.stack) (texted text start p) h
+    (ap loses_some calm.lost ∙ marks_lose_none p.stack))))
+
+body_text : (m : Mode) → is_body_mode m ≡ true → is_text_mode m ≡ true
+body_text InText h = refl
+body_text m h = h
+
+-- in a body
+pub body_takes : (above : List Ancestor) (p : Page) → IsCalm above p → IsSteady above p.stack →
+    place_of above ≡ place.Body → Takes (λ c. true) p
+body_takes above p calm steady e = mode_text above p calm (body_text (mode p.stack) (steady e))
+
+-- in an element of text alone
+pub raw_takes : (above : List Ancestor) (p : Page) (o : OpenElement) (os : List OpenElement) →
+    IsCalm above p → p.stack ≡ o ∷ os → o.space ≡ spaces.Html → of kind.Raw o.head.name ≡ true →
+    Takes (λ c. true) p
+raw_takes above p o os calm e html raw = mode_text above p calm
+    (ap is_text_mode (ap mode e ∙ own_mode o os InText (ap is_html html) raw))
+
+-- a place whose mode takes white space
+record IsWhite (p : Place) : Type 0 where
+  pub mode : Mode
+  pub is : mode_in p ≡ Some mode
+  pub read : (c : ℕ) (q : Page) → is_white_char c ≡ true →
+      by_mode mode (Char c) q ≡ Ok (Taken (with_char c q))
+
+white_place : (p : Place) → is_page_place p ≡ false → (p ≡ place.Body → ⊥) → IsWhite p
+white_place place.Page page body = absurd (false≢true (sym page))
+white_place place.Body page body = absurd (body refl)
+white_place p page body = record { mode = _; is = refl; read = λ c q w. rw w refl }
+
+-- it is an element of HTML
+white_html : (m : Mode) (above : List Ancestor) (os : List OpenElement) → AreAlike above os →
+    mode_in (place_of above) ≡ Some m → (c : ℕ) → is_foreign_token (Char c) os ≡ false
+white_html m [] [] alike e c = refl
+white_html m (a ∷ above) (o ∷ os) alike e c = html_token (Char c) o os
+    (alike.0.space ∙ html_space a.space (placed_html m a above e))
+white_html m above os alike e c = absurd alike
+
+-- where no text may stand
+pub white_takes : (above : List Ancestor) (p : Page) → IsCalm above p →
+    is_page_place (place_of above) ≡ false → (place_of above ≡ place.Body → ⊥) →
+    Takes is_white_char p
+white_takes above p calm page body c text start passes =
+    let w = white_place (place_of above) page body in
+    let q : Page = texted text start p in
+    mode_taken (Char c) q w.mode (Ok (with_char c q)) calm.tables
+    (white_html w.mode above p.stack calm.alike w.is c)
+    (mode_is w.mode above p.stack calm.alike w.is) (w.read c q passes)

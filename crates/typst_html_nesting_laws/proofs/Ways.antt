@@ -1,0 +1,82 @@
+-- The way from the root to a node, as its list of ancestors and as the stack of open elements.
+use Rattle.std.proofs.Common.{◌≡◌, ℕ, Bool, true, false, ◌||◌, List, [], ◌∷◌}
+use Rattle.std.specs.Prelude.{if◌then◌else◌, Option, None}
+use Rattle.html_names_core.specs.Kinds.{is_foreign_self_closing, is_void}
+use Rattle.html_dom_tree.specs.Tree.{Head, none}
+use Rattle.html_page_nesting.specs.Ancestors.{Ancestor, place_of, reading_of, space_of}
+use Rattle.html_page_nesting.specs.declared.reading.Place.{Place}
+use Rattle.html_page_nesting.specs.declared.reading.Place.TheVariants as place
+use Rattle.html_page_nesting.specs.declared.reading.Space.TheVariants as nest
+use Rattle.html_page_nesting.specs.declared.reading.Space.{Space}
+use Rattle.html_page_names.specs.PageNames.{of}
+use Rattle.html_page_names.specs.declared.kind.Kind.TheVariants as kind
+use Rattle.html_page_stack.specs.OpenElements.{OpenElement, is_of, mode}
+use Rattle.html_page_stack.specs.Pages.{Page, page_head, settled, with_element}
+use Rattle.html_page_stack.specs.declared.modes.Mode.{Mode}
+use Rattle.html_page_stack.specs.declared.modes.Mode.TheVariants.{InBody, InCaption, InCell}
+use Rattle.html_page_stack.specs.declared.modes.Space.{Space as OpenSpace}
+use Rattle.html_page_stack.specs.declared.modes.Space.TheVariants as spaces
+use Rattle.html_page_stack.specs.declared.modes.TableRule.TheVariants as rule
+
+-- a namespace, as the reader names it
+abbrev pub open_space : Space → OpenSpace
+open_space nest.Html = spaces.Html
+open_space nest.Svg = spaces.Svg
+open_space nest.MathMl = spaces.MathMl
+
+-- an ancestor, and the open element that it is
+pub record IsAlike (a : Ancestor) (o : OpenElement) : Type 0 where
+  pub name : o.head.name ≡ a.head.name
+  pub attrs : o.head.attrs ≡ a.head.attrs
+  pub space : o.space ≡ open_space a.space
+
+abbrev pub AreAlike : List Ancestor → List OpenElement → Type 0
+AreAlike [] [] = Unit {0}
+AreAlike (a ∷ above) (o ∷ os) = IsAlike a o × AreAlike above os
+AreAlike above os = ⊥
+
+-- what is lost where no formatting element is: what stands for the elements that hide others
+abbrev pub marks : List OpenElement → List (Option (List ℕ))
+marks [] = []
+marks (o ∷ os) = if is_of (of kind.Marker) o then None ∷ marks os else marks os
+
+abbrev pub HaveNoTemplate : List Ancestor → Type 0
+HaveNoTemplate [] = Unit {0}
+HaveNoTemplate (a ∷ above) = (of kind.Template a.head.name ≡ false) × HaveNoTemplate above
+
+-- a page in which these elements are open, and nothing else is out of order
+pub record IsCalm (above : List Ancestor) (p : Page) : Type 0 where
+  pub alike : AreAlike above p.stack
+  pub lost : p.lost ≡ marks p.stack
+  pub tables : p.tables ≡ rule.ClosesP
+  pub plain : HaveNoTemplate above
+
+-- the modes in which elements and texts of a body stand
+abbrev pub is_body_mode : Mode → Bool
+is_body_mode InBody = true
+is_body_mode InCaption = true
+is_body_mode InCell = true
+is_body_mode m = false
+
+-- where the place is that of a body, the mode is one of it
+abbrev pub IsSteady : List Ancestor → List OpenElement → Type 0
+IsSteady above os = place_of above ≡ place.Body → is_body_mode (mode os) ≡ true
+
+abbrev pub is_page_place : Place → Bool
+is_page_place place.Page = true
+is_page_place p = false
+
+-- an element that is its start tag alone
+abbrev pub ends_at_once : Head → Bool
+ends_at_once h = is_foreign_self_closing h.name || is_void h.name
+
+-- an element, once its start tag is read
+abbrev pub begun_element : Head → (above : List Ancestor) → (start : ℕ) → OpenElement
+begun_element h above start = record {
+  head = page_head h.name h.attrs start;
+  space = open_space (space_of (reading_of above) h.name);
+  children = none;
+}
+
+abbrev pub begun : Head → (above : List Ancestor) → Page → Page
+begun h above p = with_element (begun_element h above p.start) (settled p)

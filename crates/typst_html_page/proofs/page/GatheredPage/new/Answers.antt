@@ -1,8 +1,0 @@
-use Rattle.std.proofs.Common.{false, refl, ap}
-use Rattle.typst_html_page.specs.PageViews.{parts_view}
-use Rattle.typst_html_page.proofs.Gathering.{page_is}
-use Rattle.typst_html_page.proofs.page.GatheredPage.new.Goals as goal
-
-pub returns : goal.returns
-returns c =
-    page_is _ _ _ _ false false (ap parts_view c.new.ensures.items) c.new-2.ensures refl

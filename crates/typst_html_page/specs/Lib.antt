@@ -1,7 +1,0 @@
-pub mod Gathering
-pub mod PageLaws
-pub mod PageTexts
-pub mod PageViews
-pub mod Parts
-pub mod PlainTexts
-pub mod Unseen

@@ -1,4 +1,0 @@
-use Rattle.typst_html_parse.proofs.legacy.+longest_legacy.Given as goal
-
-abbrev pub decreases-longest_legacy : goal.decreases-longest_legacy
-decreases-longest_legacy l = l.at_most

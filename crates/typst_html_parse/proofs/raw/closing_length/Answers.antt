@@ -1,9 +1,0 @@
-use Rattle.std.proofs.Common.{◌+◌, chars, length, sym, ap, ◌∙◌}
-use Rattle.typst_html_read.proofs.Closings.{closing_long, name_is}
-use Rattle.typst_html_parse.proofs.raw.closing_length.Goals as goal
-
-pub returns : goal.returns
-returns c =
-    let name = c.args.name.now in
-    ap (λ n. length n + 2) (name_is name c.utf8.name c.requires)
-    ∙ sym (closing_long (chars name))

@@ -1,8 +1,0 @@
-use Rattle.typst_html_parse.specs.PageReaderViews.{reader_of}
-use Rattle.typst_html_parse.proofs.TagFronts.{own_end_read}
-use Rattle.typst_html_parse.proofs.reader.Reader.read_end.Goals as goal
-
-pub returns-in_ok-close_own-in-Some-clause-read : goal.returns-in_ok-close_own-in-Some-clause-read
-returns-in_ok-close_own-in-Some-clause-read c =
-    own_end_read (reader_of c.args.self.now) (reader_of c.close_own.new.self) c.args.text.now
-    c.in-Some.rest.now c.requires.open c.in-Some.ensures c.in_ok-close_own-in-Some.ensures.closed

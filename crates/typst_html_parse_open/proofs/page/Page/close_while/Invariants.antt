@@ -1,9 +1,0 @@
-use Rattle.std.proofs.Common.{◌≡◌, ◌-◌}
-use Rattle.typst_html_parse_open.specs.PageViews.{page_of, while_test}
-use Rattle.typst_html_parse_open.specs.Pages.{closed_while}
-use Rattle.typst_html_parse_open.proofs.page.Page.close_while.Given as goal
-
-abbrev pub invariant-loop-count : goal.invariant-loop-count
-invariant-loop-count l =
-    closed_while (while_test l.goes_on) (l.most - l.count) (page_of l.self)
-    ≡ closed_while (while_test l.goes_on) l.most (page_of l.fn.self)

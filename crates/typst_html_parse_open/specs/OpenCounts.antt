@@ -1,7 +1,0 @@
--- Whether an element has elements among its children.
-use Rattle.std.specs.Prelude.{Bool}
-use Rattle.html_dom_tree.specs.Tree.{ElementView}
-use Rattle.typst_html_parse_open.specs.OpenElements.{has_elements}
-
-abbrev pub has_child_elements : ElementView → Bool
-has_child_elements e = has_elements e.1

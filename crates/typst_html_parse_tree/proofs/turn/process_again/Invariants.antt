@@ -1,9 +1,0 @@
-use Rattle.std.proofs.Common.{◌≡◌, ◌-◌}
-use Rattle.typst_html_parse_tree.specs.PageTrees.{processed}
-use Rattle.typst_html_parse_open.specs.PageViews.{page_of, token_of}
-use Rattle.typst_html_parse_tree.proofs.turn.process_again.Given as goal
-
-abbrev pub invariant-loop-count : goal.invariant-loop-count
-invariant-loop-count l =
-    processed (7 - l.count) (token_of l.token) (page_of l.page)
-    ≡ processed 7 (token_of l.fn.token) (page_of l.fn.page)

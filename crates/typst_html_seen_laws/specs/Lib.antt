@@ -1,0 +1,2 @@
+pub mod AllSeen
+pub mod PageLaws
