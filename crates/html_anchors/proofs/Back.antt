@@ -1,20 +1,15 @@
 -- What was added, taken off again, gives the old tree.
 use Rattle.std.proofs.Common.{◌≡◌, ℕ, ◌-◌, Bool, true, false, List, [], ◌∷◌, ◌++◌, length, take, drop, Option, Some, None, refl, ap, ◌∙◌, append_assoc, subst}
-use Rattle.std.specs.Prelude.{if◌then◌else◌, is_some}
-use Rattle.std.proofs.lemmas.List.{append-nil, drop_at}
-use Rattle.html_dom_tree.specs.Attributes.{or_else}
-use Rattle.html_dom_tree.specs.Frames.{HtmlFrameView}
+use Rattle.std.{proofs.lemmas.List.{append-nil, drop_at}, specs.Prelude.{if◌then◌else◌, is_some}}
+use Rattle.html_dom_tree.{proofs.Basics.{or_else-none}, specs.Attributes.{or_else}, specs.Frames.{HtmlFrameView}}
 use Rattle.html_dom_tree.specs.Tree.{Head, starts, ends, tag_node, text_node, element_node, frame_node, NodesView, none, node}
-use Rattle.html_dom_tree.proofs.Basics.{or_else-none}
-use Rattle.html_names_core.specs.Names.{stands_in}
-use Rattle.html_names_core.proofs.Basics.{last_taken}
+use Rattle.html_names_core.{proofs.Basics.{last_taken}, specs.Names.{stands_in}}
 use Rattle.html_links.specs.TreeNames.{Name, first_id, element_names}
-use Rattle.html_anchors.specs.Events.{Start, Event, end_tag, element, text, html_frame, Targets, start_event, frame_starts, events}
-use Rattle.html_anchors.specs.Groups.{is_in_group, first_label, label_of}
-use Rattle.html_anchors.specs.Namings.{Naming, made_for}
-use Rattle.html_anchors.specs.Anchors.{with_id, text_in_span, span_before, named_frame, nodes_size, nodes_with_anchors, element_with_anchors}
-use Rattle.html_anchors.specs.Undone.{without_id, old_id, unnamed_frame, nodes_undone, ComesBack}
 use Rattle.html_anchors.proofs.States.{Groups, naming_at, step, finished, makes, makes_is, makes-append, drop-events, length-events}
+use Rattle.html_anchors.specs.Anchors.{with_id, text_in_span, span_before, named_frame, nodes_size, nodes_with_anchors, element_with_anchors}
+use Rattle.html_anchors.specs.Events.{Start, Event, end_tag, element, text, html_frame, Targets, start_event, frame_starts, events}
+use Rattle.html_anchors.specs.{Groups.{is_in_group, first_label, label_of}, Namings.{Naming, made_for}}
+use Rattle.html_anchors.specs.Undone.{without_id, old_id, unnamed_frame, nodes_undone, ComesBack}
 
 end_back : (made : Option Name) (es : List Event) (cs : List Naming) (rest : NodesView) →
     nodes_undone (is_some made) es cs (span_before made rest) ≡ nodes_undone false es cs rest

@@ -2,8 +2,7 @@
 use Rattle.std.proofs.Common.{◌≡◌, ℕ, zero, suc, Bool, [], refl, sym}
 use Rattle.html_dom_tree.specs.Tree.{NodesView, none, node, ElementView, new_element}
 use Rattle.html_dom_document.specs.Documents.{DocumentView, document_root, element_at_index, given_root, with_element}
-use Rattle.html_anchors.specs.Anchors.{element_with_anchors, nodes_with_anchors}
-use Rattle.html_anchors.specs.Events.{Targets}
+use Rattle.html_anchors.specs.{Anchors.{element_with_anchors, nodes_with_anchors}, Events.{Targets}}
 use Rattle.html_anchors.specs.LinkAnchors.{document_with_new_anchors, document_targets}
 use Rattle.html_anchors.specs.Links.{Hrefs, document_hrefs, document_with_links, nodes_with_links, root_with_links}
 

@@ -1,19 +1,15 @@
 -- What follows for trees without frames, and for locations that are no targets.
 use Rattle.std.proofs.Common.{◌≡◌, ℕ, Bool, true, false, List, [], ◌∷◌, ◌++◌, drop, Option, Some, None, refl, ap, sym, ◌∙◌, subst}
 use Rattle.std.proofs.lemmas.List.{append-nil}
-use Rattle.html_dom_tree.specs.FrameFree.{NodeIsFrameFree, NodesAreFrameFree}
+use Rattle.html_dom_tree.{proofs.Basics.{or_else-none}, specs.FrameFree.{NodeIsFrameFree, NodesAreFrameFree}}
 use Rattle.html_dom_tree.specs.Frames.{PointView, FrameView, frame, FrameItemsView, no_frame_items, placed_item, tag_item, group_item, link_item, other_item}
 use Rattle.html_dom_tree.specs.Tree.{starts, ends, tag_node, text_node, element_node, frame_node, NodesView, none, node}
-use Rattle.html_dom_tree.proofs.Basics.{or_else-none}
 use Rattle.html_names_core.specs.Names.{stands_in}
 use Rattle.html_links.specs.TreeNames.{Name, element_names, gathered_names, shown_names, first_ids}
-use Rattle.html_anchors.specs.Events.{Targets, with_frame_start, items_starts, frame_starts}
-use Rattle.html_anchors.specs.Namings.{Naming}
+use Rattle.html_anchors.{proofs.Showing.{answers_are_shown}, proofs.Walks.{one_walk_serves}, specs.AnchorWalk.{walk, at_first}}
 use Rattle.html_anchors.specs.Anchors.{text_in_span, span_before, nodes_size, nodes_with_anchors, element_namings, element_with_anchors}
 use Rattle.html_anchors.specs.Answered.{AnswersAreFirstIds, StaysFrameFree, NoTargetNoChange}
-use Rattle.html_anchors.specs.AnchorWalk.{walk, at_first}
-use Rattle.html_anchors.proofs.Showing.{answers_are_shown}
-use Rattle.html_anchors.proofs.Walks.{one_walk_serves}
+use Rattle.html_anchors.specs.{Events.{Targets, with_frame_start, items_starts, frame_starts}, Namings.{Naming}}
 
 free-anchored : (ns : NodesView) (cs : List Naming) → NodesAreFrameFree ns →
     NodesAreFrameFree (nodes_with_anchors cs ns)

@@ -1,23 +1,19 @@
 -- How often a name comes in a tree with anchors: as often as before, and as often as it was made.
 use Rattle.std.proofs.Common.{◌≡◌, ℕ, ◌+◌, ◌≤◌, Bool, true, false, ◌||◌, cond, List, [], ◌∷◌, ◌++◌, Option, Some, None, bytes_eq, refl, ap, sym, ◌∙◌, append_assoc, subst, arith}
-use Rattle.std.specs.Prelude.{if◌then◌else◌, option_to_list}
-use Rattle.std.proofs.lemmas.List.{append-nil, map-append}
-use Rattle.html_names_core.specs.Names.{stands_in}
-use Rattle.html_names_core.proofs.Basics.{bytes_eq-same}
-use Rattle.html_dom_tree.specs.Attributes.{or_else}
-use Rattle.html_dom_tree.specs.Frames.{PointView}
+use Rattle.std.{proofs.lemmas.List.{append-nil, map-append}, specs.Prelude.{if◌then◌else◌, option_to_list}}
+use Rattle.html_names_core.{proofs.Basics.{bytes_eq-same}, specs.Names.{stands_in}}
+use Rattle.html_dom_tree.specs.{Attributes.{or_else}, Frames.{PointView}}
 use Rattle.html_dom_tree.specs.Tree.{Head, NodeView, starts, ends, tag_node, text_node, element_node, frame_node, NodesView, none, node, ElementView}
+use Rattle.html_anchors.proofs.States.{Groups, naming_at, step, finished, makes, makes_is, makes-append, drop-events}
 use Rattle.html_anchors.specs.Anchors.{with_id, text_in_span, span_before, nodes_with_anchors, element_namings, element_with_anchors}
-use Rattle.html_links.specs.TreeNames.{Name, all_ids, anchor_names, element_names, first_id, frame_names, nodes_names, gathered_names, with_used_name}
-use Rattle.html_links.specs.Distinct.{occurrences}
 use Rattle.html_anchors.specs.DistinctIds.{AnchorsStayDistinct, AllNamesStay}
 use Rattle.html_anchors.specs.Events.{Start, Targets, start_event, end_tag, text, element, html_frame, frame_starts, events}
-use Rattle.html_anchors.specs.Fresh.{AreNew, all_made, names_made}
-use Rattle.html_anchors.specs.Groups.{is_in_group, first_label, label_of}
+use Rattle.html_anchors.specs.{Fresh.{AreNew, all_made, names_made}, Groups.{is_in_group, first_label, label_of}}
 use Rattle.html_anchors.specs.Links.{Hrefs, attrs_with_href, dest_before, head_with_link, href_of, node_with_links, nodes_with_links, open_dest}
 use Rattle.html_anchors.specs.Namings.{Naming, made_for, start_pairs, with_made}
 use Rattle.html_links.proofs.Differing.{at_most_one, distinct_once, occurrences-append, occurrences-cons, occurrences-none, once_distinct, one_if}
-use Rattle.html_anchors.proofs.States.{Groups, naming_at, step, finished, makes, makes_is, makes-append, drop-events}
+use Rattle.html_links.specs.Distinct.{occurrences}
+use Rattle.html_links.specs.TreeNames.{Name, all_ids, anchor_names, element_names, first_id, frame_names, nodes_names, gathered_names, with_used_name}
 
 made-append : (as' bs : List Naming) → all_made (as' ++ bs) ≡ all_made as' ++ all_made bs
 made-append [] bs = refl

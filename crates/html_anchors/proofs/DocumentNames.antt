@@ -3,19 +3,13 @@ use Rattle.std.proofs.Common.{◌≡◌, ℕ, Bool, true, Option, ap, sym, ◌�
 use Rattle.html_dom_tree.specs.Tree.{ElementView}
 use Rattle.html_names_core.specs.Names.{stands_in}
 use Rattle.html_dom_document.specs.Documents.{DocumentView, document_root}
-use Rattle.html_links.specs.TreeNames.{Name, element_names, shown_names}
-use Rattle.html_anchors.specs.NumberedNames.{IsBounded}
-use Rattle.html_anchors.specs.DistinctIds.{IdsAreDistinct}
-use Rattle.html_links.specs.Distinct.{are_distinct}
+use Rattle.html_links.specs.{Distinct.{are_distinct}, TreeNames.{Name, element_names, shown_names}}
+use Rattle.html_anchors.proofs.{ChangedRoots.{root_has_anchors}, Counting.{anchors_stay_distinct}, Freshes.{made_in_walk}}
+use Rattle.html_anchors.proofs.{Serving.{anchors_serve}, Showing.{answers_are_shown}}
+use Rattle.html_anchors.specs.{AnchorWalk.{Walked, element_walk}, DistinctIds.{IdsAreDistinct}}
 use Rattle.html_anchors.specs.DocumentNames.{AnchorsAreNew, AnchorsAreShown}
-use Rattle.html_anchors.specs.LinkAnchors.{document_targets, document_with_new_anchors, document_anchor}
+use Rattle.html_anchors.specs.{LinkAnchors.{document_targets, document_with_new_anchors, document_anchor}, NumberedNames.{IsBounded}}
 use Rattle.html_anchors.specs.Serving.{AreServing, serving_name}
-use Rattle.html_anchors.specs.AnchorWalk.{Walked, element_walk}
-use Rattle.html_anchors.proofs.Counting.{anchors_stay_distinct}
-use Rattle.html_anchors.proofs.Freshes.{made_in_walk}
-use Rattle.html_anchors.proofs.ChangedRoots.{root_has_anchors}
-use Rattle.html_anchors.proofs.Serving.{anchors_serve}
-use Rattle.html_anchors.proofs.Showing.{answers_are_shown}
 
 pub anchors_are_new : (is_target : ℕ → Bool) (d : DocumentView) (w : Walked) →
     w ≡ element_walk (document_targets is_target d) (document_root d) → IsBounded w.1.used →

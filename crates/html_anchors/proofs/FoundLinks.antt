@@ -1,35 +1,24 @@
 -- Links that a browser follows: those to anchors that it finds.
 use Rattle.std.proofs.Common.{◌≡◌, ℕ, Bool, true, false, List, [], ◌∷◌, ◌++◌, All, Option, Some, None, refl, sym, ap, subst, ◌∙◌, arith}
-use Rattle.std.specs.List.{Contains}
-use Rattle.std.specs.Option.{option_and_then}
-use Rattle.std.specs.Prelude.{codes, if◌then◌else◌, is_some}
 use Rattle.std.proofs.Math.Path.{fun_ext}
 use Rattle.std.proofs.lemmas.List.Elements.{All-append, All-cons, All-contains_itself, All-head, All-nil, All-weaker, Contains-append_left, Contains-append_right}
+use Rattle.std.specs.{List.{Contains}, Option.{option_and_then}, Prelude.{codes, if◌then◌else◌, is_some}}
 use Rattle.html_names_core.specs.Names.{stands_in}
 use Rattle.html_dom_tree.specs.Attributes.{first}
 use Rattle.html_dom_tree.specs.Tree.{Head, NodeView, tag_node, text_node, element_node, frame_node, NodesView, none, node, ElementView}
-use Rattle.html_dom_document.specs.Documents.{DocumentView, document_root}
-use Rattle.html_dom_document.specs.Views.{document_view}
+use Rattle.html_dom_document.specs.{Documents.{DocumentView, document_root}, Views.{document_view}}
 use Rattle.html_dom_document.specs.declared.document.HtmlDocument.{HtmlDocument}
-use Rattle.html_links.specs.Bases.{base_is_elsewhere}
+use Rattle.html_links.proofs.{InDocument.{place_in_tree}, Narrowed.{leads_within}, SpelledNames.{leading_hrefs_lead}}
+use Rattle.html_links.specs.{Bases.{base_is_elsewhere}, InDocument.{document_places, in_document}}
+use Rattle.html_links.specs.{Indicated.{element_places, if_place, place_names}, Spellings.{some_name, leading_href}, TreeNames.{Name}}
+use Rattle.html_anchors.proofs.{ChangedRoots.{root_has_links}, GivenLinks.{all_given, document_links_lead, left_in_document, texts_in}}
+use Rattle.html_anchors.proofs.{KeptBases.{base_stays_elsewhere}, LeadingLinks.{names_stay}, LinkedParts.{document_links}}
 use Rattle.html_anchors.specs.DeadLinks.{dead_links_view}
 use Rattle.html_anchors.specs.FoundAnchors.{EveryLinkLeads, LeadsToFound, LiveLinksLead, anchors_found, document_dead_links, is_found, live_hrefs}
 use Rattle.html_anchors.specs.GivenLinks.{AnchorsAreTexts, GivenLink, KnownAnchorsArePlaces, document_given_links, given_by, given_link, node_given_links, nodes_given_links}
-use Rattle.html_links.specs.InDocument.{document_places, in_document}
-use Rattle.html_links.specs.Indicated.{element_places, if_place, place_names}
 use Rattle.html_anchors.specs.LinkLaws.{DeadAreLeft, LeftLinksAreDead}
 use Rattle.html_anchors.specs.Links.{Anchors, DeadLinkView, Hrefs, anchor_hrefs, dead_link, dead_without, dest_before, document_hrefs, document_links_left, document_with_links, head_with_link, is_open, node_dead_links, node_with_links, nodes_dead_links, nodes_with_links, open_dest, root_with_links}
-use Rattle.html_links.specs.Spellings.{some_name, leading_href}
-use Rattle.html_links.specs.TreeNames.{Name}
 use Rattle.html_anchors.specs.declared.dead.DeadLink.{DeadLink}
-use Rattle.html_anchors.proofs.ChangedRoots.{root_has_links}
-use Rattle.html_anchors.proofs.GivenLinks.{all_given, document_links_lead, left_in_document, texts_in}
-use Rattle.html_anchors.proofs.LinkedParts.{document_links}
-use Rattle.html_links.proofs.InDocument.{place_in_tree}
-use Rattle.html_anchors.proofs.KeptBases.{base_stays_elsewhere}
-use Rattle.html_anchors.proofs.LeadingLinks.{names_stay}
-use Rattle.html_links.proofs.Narrowed.{leads_within}
-use Rattle.html_links.proofs.SpelledNames.{leading_hrefs_lead}
 
 -- a name that is found is one of the tree
 pub found_in_tree : (e : ElementView) (name : Name) → is_found e name ≡ true →

@@ -1,22 +1,15 @@
 -- All names that are made are new.
-use Rattle.std.proofs.Common.{◌≡◌, Bool, ◌||◌, List, [], ◌∷◌, ◌++◌, Option, Some, None, refl, ap, sym, ◌∙◌, subst}
+use Rattle.std.proofs.{Common.{◌≡◌, Bool, ◌||◌, List, [], ◌∷◌, ◌++◌, Option, Some, None, refl, ap, sym, ◌∙◌, subst}, Math.Bool.{or-true}}
 use Rattle.std.specs.Prelude.{option_to_list}
-use Rattle.std.proofs.Math.Bool.{or-true}
 use Rattle.html_dom_tree.specs.Tree.{ElementView}
 use Rattle.html_names_core.specs.Names.{stands_in}
-use Rattle.html_links.specs.TreeNames.{Name, with_used_name, anchor_names, element_names}
-use Rattle.html_anchors.specs.NewNames.{new_name}
-use Rattle.html_links.specs.UsedNames.{with_names}
-use Rattle.html_anchors.specs.NumberedNames.{IsBounded}
-use Rattle.html_anchors.specs.Events.{Start, FrameStart, Event, Targets, events}
-use Rattle.html_anchors.specs.Groups.{Cut, own_name, label_for, cuts}
-use Rattle.html_anchors.specs.Namings.{made_for, starts_in, start_pairs, used_after_starts, with_made, made_at, naming, used_after, namings}
-use Rattle.html_anchors.specs.Fresh.{AreNew, names_made, all_made, MadeAreNew, NamesAreNew}
-use Rattle.html_anchors.specs.AnchorWalk.{element_walk}
 use Rattle.html_links.proofs.Gathering.{with-none, with-one, with-append, with-more}
-use Rattle.html_anchors.proofs.Numbers.{new_is_new}
-use Rattle.html_anchors.proofs.States.{Groups, step, finished}
-use Rattle.html_anchors.proofs.Walks.{walk_is}
+use Rattle.html_links.specs.{TreeNames.{Name, with_used_name, anchor_names, element_names}, UsedNames.{with_names}}
+use Rattle.html_anchors.proofs.{Numbers.{new_is_new}, States.{Groups, step, finished}, Walks.{walk_is}}
+use Rattle.html_anchors.specs.{AnchorWalk.{element_walk}, Events.{Start, FrameStart, Event, Targets, events}}
+use Rattle.html_anchors.specs.{Fresh.{AreNew, names_made, all_made, MadeAreNew, NamesAreNew}, Groups.{Cut, own_name, label_for, cuts}}
+use Rattle.html_anchors.specs.Namings.{made_for, starts_in, start_pairs, used_after_starts, with_made, made_at, naming, used_after, namings}
+use Rattle.html_anchors.specs.{NewNames.{new_name}, NumberedNames.{IsBounded}}
 
 -- before more were put in use there were no more
 bounded_before : (names : List Name) (used : Name → Bool) → IsBounded (with_names names used) →

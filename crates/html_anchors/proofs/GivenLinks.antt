@@ -1,34 +1,23 @@
 -- Each link that was given an `href` leads to a name of the tree.
 use Rattle.std.proofs.Common.{◌≡◌, ℕ, List, [], ◌∷◌, ◌++◌, All, Bool, true, false, not, ◌&&◌, ◌||◌, Option, None, Some, chars, codes, refl, sym, ap, subst, ◌∙◌, String, Global}
-use Rattle.std.specs.BTreeMap.{BTreeMap, get}
-use Rattle.std.specs.Prelude.{if◌then◌else◌, is_some, option_map, option_to_list}
-use Rattle.std.proofs.lemmas.Bool.{and_parts}
-use Rattle.std.proofs.Math.Bool.{or-true}
+use Rattle.std.proofs.{Math.Bool.{or-true}, lemmas.Bool.{and_parts}, lemmas.Str.{IsUtf8-string_bytes, chars-encodes}}
 use Rattle.std.proofs.lemmas.List.Elements.{All-nil, All-cons, All-append, All-weaker}
-use Rattle.std.proofs.lemmas.Str.{IsUtf8-string_bytes, chars-encodes}
+use Rattle.std.specs.{BTreeMap.{BTreeMap, get}, Prelude.{if◌then◌else◌, is_some, option_map, option_to_list}}
 use lib.Utf8.{scalars}
-use Rattle.html_names_core.specs.Names.{stands_in}
-use Rattle.html_names_core.specs.Texts.{text_view}
+use Rattle.html_names_core.specs.{Names.{stands_in}, Texts.{text_view}}
 use Rattle.html_dom_tree.specs.Attributes.{first, has_name}
 use Rattle.html_dom_tree.specs.Tree.{TextPair, Head, NodeView, tag_node, text_node, element_node, frame_node, NodesView, none, node, ElementView}
 use Rattle.html_dom_tree.specs.declared.introspection.Location.{Location}
-use Rattle.html_dom_document.specs.Introspectors.{location_cmp, location_text}
-use Rattle.html_dom_document.specs.Documents.{DocumentView, document_root}
-use Rattle.html_dom_document.specs.Views.{document_view}
-use Rattle.html_dom_document.specs.declared.document.HtmlDocument.{HtmlDocument}
-use Rattle.html_links.specs.TreeNames.{shown_names, Name, element_names, first_id, frame_names, gathered_names}
-use Rattle.html_anchors.specs.DistinctIds.{IdsAreDistinct, GivenLinksLeadToOne, LeadsToOne}
-use Rattle.html_links.specs.Distinct.{are_distinct}
-use Rattle.html_anchors.specs.GivenLinks.{KnownAnchorsAreShown, AnchorsAreTexts, GivenLink, GivenLinksLead, LeadsAmong, given_by, given_link, links_without, node_given_links, nodes_given_links}
-use Rattle.html_links.specs.Indicated.{element_places, link_name, nodes_places, place_names}
-use Rattle.html_anchors.specs.Links.{Anchors, Hrefs, anchor_hrefs, attrs_with_href, dest_before, document_hrefs, document_links_left, document_with_links, head_with_link, href_of, is_open, node_with_links, nodes_with_links}
+use Rattle.html_dom_document.specs.{Documents.{DocumentView, document_root}, Introspectors.{location_cmp, location_text}}
+use Rattle.html_dom_document.specs.{Views.{document_view}, declared.document.HtmlDocument.{HtmlDocument}}
+use Rattle.html_links.proofs.{Gathering.{stands-append}, ShownNames.{shown_once}, SpelledNames.{leading_hrefs_lead}}
+use Rattle.html_links.specs.{Distinct.{are_distinct}, Indicated.{element_places, link_name, nodes_places, place_names}}
 use Rattle.html_links.specs.Spellings.{some_name, leading_href}
-use Rattle.html_anchors.proofs.ChangedRoots.{root_has_links}
-use Rattle.html_anchors.proofs.Counting.{all_names_stay}
-use Rattle.html_links.proofs.ShownNames.{shown_once}
-use Rattle.html_links.proofs.Gathering.{stands-append}
-use Rattle.html_anchors.proofs.LeadingLinks.{left_are_dead, names_stay}
-use Rattle.html_links.proofs.SpelledNames.{leading_hrefs_lead}
+use Rattle.html_links.specs.TreeNames.{shown_names, Name, element_names, first_id, frame_names, gathered_names}
+use Rattle.html_anchors.proofs.{ChangedRoots.{root_has_links}, Counting.{all_names_stay}, LeadingLinks.{left_are_dead, names_stay}}
+use Rattle.html_anchors.specs.DistinctIds.{IdsAreDistinct, GivenLinksLeadToOne, LeadsToOne}
+use Rattle.html_anchors.specs.GivenLinks.{KnownAnchorsAreShown, AnchorsAreTexts, GivenLink, GivenLinksLead, LeadsAmong, given_by, given_link, links_without, node_given_links, nodes_given_links}
+use Rattle.html_anchors.specs.Links.{Anchors, Hrefs, anchor_hrefs, attrs_with_href, dest_before, document_hrefs, document_links_left, document_with_links, head_with_link, href_of, is_open, node_with_links, nodes_with_links}
 
 pub known_name : (known : Option Name) (name : Name) → some_name known ≡ Some name → known ≡ Some name
 known_name None name e = e

@@ -1,18 +1,13 @@
 -- Start tags of a frame, one item after the other.
 use Rattle.std.proofs.Common.{◌≡◌, ℕ, suc, ◌+◌, ◌<◌, ◌≤◌, Bool, true, false, List, [], ◌∷◌, ◌++◌, length, get_or, drop, refl, ap, sym, ◌∙◌, append_assoc, add-one, drop-cons, Option, Some, None}
 use Rattle.std.proofs.lemmas.List.{append-nil, drop_all}
-use Rattle.html_dom_tree.specs.Frames.{PointView, frame, FrameItemsView, no_frame_items, placed_item, FrameItemView, tag_item, group_item, link_item, other_item}
-use Rattle.html_dom_tree.specs.Tags.{starts, ends}
 use Rattle.html_dom_tree.specs.FrameViews.{point_view, frame_item_view, frame_items_view}
-use Rattle.html_dom_tree.specs.declared.frame.Point.{Point}
-use Rattle.html_dom_tree.specs.declared.frame.FrameItem.{FrameItem}
+use Rattle.html_dom_tree.specs.Frames.{PointView, frame, FrameItemsView, no_frame_items, placed_item, FrameItemView, tag_item, group_item, link_item, other_item}
+use Rattle.html_dom_tree.specs.{Tags.{starts, ends}, declared.frame.FrameItem.{FrameItem}, declared.frame.Point.{Point}}
 use Rattle.html_links.specs.TreeNames.{Name}
-use Rattle.html_anchors.specs.NewNames.{new_name}
-use Rattle.html_anchors.specs.Events.{Targets, FrameStart, with_frame_start, items_starts}
-use Rattle.html_anchors.specs.Namings.{start_pairs, used_after_starts}
-use Rattle.html_anchors.specs.AnchorWalk.{WalkState, after_start, after_starts}
-use Rattle.html_anchors.specs.Joined.{named_at, InFrame, with_starts}
-use Rattle.html_anchors.proofs.Steps.{after_starts-append, start_pairs-append}
+use Rattle.html_anchors.{proofs.Steps.{after_starts-append, start_pairs-append}, specs.AnchorWalk.{WalkState, after_start, after_starts}}
+use Rattle.html_anchors.specs.{Events.{Targets, FrameStart, with_frame_start, items_starts}, Joined.{named_at, InFrame, with_starts}}
+use Rattle.html_anchors.specs.{Namings.{start_pairs, used_after_starts}, NewNames.{new_name}}
 
 starts_used : (ss : List FrameStart) (st : WalkState) →
     (after_starts ss st).used ≡ used_after_starts st.used ss

@@ -1,7 +1,6 @@
 -- The base of a tree whose links are given an `href`.
 use Rattle.std.proofs.Common.{◌≡◌, ◌&&◌, ℕ, Bool, true, false, not, List, [], ◌∷◌, Option, None, codes, bytes_eq, refl, ap}
-use Rattle.std.specs.Prelude.{if◌then◌else◌}
-use Rattle.std.proofs.lemmas.Slice.Eq.{bytes_eq-Decides}
+use Rattle.std.{proofs.lemmas.Slice.Eq.{bytes_eq-Decides}, specs.Prelude.{if◌then◌else◌}}
 use Rattle.html_dom_tree.specs.Attributes.{first, has_name}
 use Rattle.html_dom_tree.specs.Tree.{Head, NodeView, tag_node, text_node, element_node, frame_node, NodesView, none, node, ElementView}
 use Rattle.html_links.specs.Bases.{base_is_elsewhere, node_base, nodes_base, own_base}

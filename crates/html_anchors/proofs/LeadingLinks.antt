@@ -3,8 +3,7 @@ use Rattle.std.proofs.Common.{◌≡◌, ◌&&◌, ℕ, List, [], ◌∷◌, ◌
 use Rattle.std.specs.Prelude.{if◌then◌else◌, option_to_list}
 use Rattle.html_dom_tree.specs.Tags.{starts, ends}
 use Rattle.html_dom_tree.specs.Tree.{Head, NodeView, tag_node, text_node, element_node, frame_node, NodesView, none, node}
-use Rattle.html_links.specs.TreeNames.{first_id, frame_names, gathered_names}
-use Rattle.html_links.specs.Indicated.{place_names}
+use Rattle.html_links.specs.{Indicated.{place_names}, TreeNames.{first_id, frame_names, gathered_names}}
 use Rattle.html_anchors.specs.LinkLaws.{LeftAreDead, NamesStay}
 use Rattle.html_anchors.specs.Links.{Hrefs, dest_before, open_dest, href_of, attrs_with_href, head_with_link, node_with_links, nodes_with_links, dead_without, dead_link, node_dead_links, nodes_dead_links}
 

@@ -1,10 +1,8 @@
 -- Links in a list of nodes, one after the other, and names of destinations.
 use Rattle.std.proofs.Common.{◌≡◌, ◌<◌, ℕ, List, [], ◌∷◌, ◌++◌, Option, None, Some, length, chars, IsUtf8, refl, sym, ap, ◌∙◌, append_assoc, arith}
-use Rattle.std.proofs.lemmas.List.{append-nil}
-use Rattle.std.proofs.lemmas.Str.{chars-nil, encodes-chars}
+use Rattle.std.proofs.lemmas.{List.{append-nil}, Str.{chars-nil, encodes-chars}}
 use lib.Utf8.{encodes}
-use Rattle.html_dom_tree.specs.Tree.{TextPair, Head, NodeView, element_node, NodesView, none, node}
-use Rattle.html_dom_tree.specs.Views.{nodes_of}
+use Rattle.html_dom_tree.specs.{Tree.{TextPair, Head, NodeView, element_node, NodesView, none, node}, Views.{nodes_of}}
 use Rattle.html_anchors.specs.Links.{Anchors, DeadLinkView, Hrefs, attrs_with_href, dead_link, dest_before, href_of, name_of, node_dead_links, node_with_links, nodes_dead_links, nodes_with_links, open_dest}
 use Rattle.html_links.specs.Spellings.{some_name}
 

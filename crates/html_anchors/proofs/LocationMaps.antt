@@ -1,19 +1,13 @@
 -- Labels and names by location.
 use Rattle.std.proofs.Common.{◌≡◌, ◌==◌, ℕ, Bool, true, false, cond, Option, Some, None, refl, ap, sym, ◌∙◌, subst, String, Global}
-use Rattle.std.specs.Prelude.{if◌then◌else◌, option_map, is_some}
-use Rattle.std.specs.BTreeMap.{BTreeMap, Updates, get}
-use Rattle.std.proofs.Math.Path.{fun_ext}
-use Rattle.std.proofs.lemmas.Bool.{eqb-true}
-use Rattle.html_dom_tree.specs.Attributes.{or_else}
-use Rattle.html_dom_tree.specs.FrameViews.{optional_text_view}
+use Rattle.std.proofs.{Math.Path.{fun_ext}, lemmas.Bool.{eqb-true}}
+use Rattle.std.specs.{BTreeMap.{BTreeMap, Updates, get}, Prelude.{if◌then◌else◌, option_map, is_some}}
+use Rattle.html_dom_tree.{proofs.Basics.{or_else-none}, specs.Attributes.{or_else}, specs.FrameViews.{optional_text_view}}
 use Rattle.html_dom_tree.specs.declared.introspection.Location.{Location}
-use Rattle.html_dom_tree.proofs.Basics.{or_else-none}
 use Rattle.html_names_core.specs.Texts.{text_view}
 use Rattle.html_links.specs.TreeNames.{Name}
-use Rattle.html_dom_document.specs.Introspectors.{location_cmp}
-use Rattle.html_dom_document.proofs.Locations.{is_eq-nat_cmp}
-use Rattle.html_anchors.specs.LocationMaps.{labels_in, names_in}
-use Rattle.html_anchors.specs.AnchorWalk.{with_entry}
+use Rattle.html_dom_document.{proofs.Locations.{is_eq-nat_cmp}, specs.Introspectors.{location_cmp}}
+use Rattle.html_anchors.specs.{AnchorWalk.{with_entry}, LocationMaps.{labels_in, names_in}}
 
 -- a value more, by what is shown of it
 module _ {X Y : Type 0} (view : X → Y) where

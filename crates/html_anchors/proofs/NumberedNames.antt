@@ -1,25 +1,15 @@
 -- The numbers of names, and names that are put in use one after the other.
 use Rattle.std.proofs.Common.{◌≡◌, ◌==◌, cond, length, Some, subst, ℕ, ◌<◌, ◌^◌, Bool, true, false, List, [], ◌∷◌, ◌++◌, chars, codes, bytes_eq, refl, ap, sym, ◌∙◌, string_bytes, String, Global, IsUtf8, arith, suc, ◌+◌, ◌≤◌, get_or, drop, add-one, drop-cons, Bor}
-use Rattle.std.specs.Prelude.{decimal}
-use Rattle.std.specs.BTreeMap.{BTreeMap, get_by_text, Updates}
-use Rattle.std.specs.Str.{IsAscii}
-use Rattle.std.specs.String.{string_cmp}
-use Rattle.std.proofs.lemmas.Bool.{ne_eqb}
-use Rattle.std.proofs.lemmas.Fmt.{IsAscii-decimal}
-use Rattle.std.proofs.lemmas.Map.Text.{btree_map_updates_text}
-use Rattle.std.proofs.lemmas.Slice.Eq.{bytes_eq-Decides}
+use Rattle.std.proofs.lemmas.{Bool.{ne_eqb}, Fmt.{IsAscii-decimal}}
 use Rattle.std.proofs.lemmas.Str.{encodes-chars, chars-append, chars-IsAscii, IsUtf8-string_bytes, IsUtf8-from_ascii}
-use Rattle.std.proofs.lemmas.Str.Ascii.{IsAscii-nil, IsAscii-cons}
-use Rattle.html_names_core.specs.Texts.{text_view}
-use Rattle.html_names_core.proofs.Lists.{chars_ascii}
+use Rattle.std.proofs.lemmas.{Map.Text.{btree_map_updates_text}, Slice.Eq.{bytes_eq-Decides}, Str.Ascii.{IsAscii-nil, IsAscii-cons}}
+use Rattle.std.specs.{BTreeMap.{BTreeMap, get_by_text, Updates}, Prelude.{decimal}, Str.{IsAscii}, String.{string_cmp}}
+use Rattle.html_names_core.{proofs.Lists.{chars_ascii}, specs.Texts.{text_view}}
 use lib.Utf8.{encodes}
-use Rattle.html_links.specs.TreeNames.{Name, with_used_name}
-use Rattle.html_anchors.specs.NewNames.{name_with_number, stem_of}
-use Rattle.html_anchors.specs.NumberedNames.{is_nothing, AreUsedBelow, IsCounted}
-use Rattle.std.proofs.lemmas.List.{drop_all}
-use Rattle.html_links.specs.Distinct.{names_view}
-use Rattle.html_links.specs.UsedNames.{with_names}
 use Rattle.html_links.proofs.Gathering.{with-more, with-none}
+use Rattle.html_links.specs.{Distinct.{names_view}, TreeNames.{Name, with_used_name}, UsedNames.{with_names}}
+use Rattle.html_anchors.specs.{NewNames.{name_with_number, stem_of}, NumberedNames.{is_nothing, AreUsedBelow, IsCounted}}
+use Rattle.std.proofs.lemmas.List.{drop_all}
 
 dash : IsAscii (codes "-")
 dash = IsAscii-cons 45 [] (omega arith) IsAscii-nil

@@ -1,14 +1,10 @@
 -- The first free number, and that its name is free.
 use Rattle.std.proofs.Common.{◌≡◌, ℕ, zero, suc, ◌+◌, ◌-◌, ◌<◌, ◌≤◌, ◌^◌, Bool, true, false, ◌||◌, List, [], ◌∷◌, ◌++◌, length, Option, Some, None, codes, bytes_eq, refl, ap, sym, ◌∙◌, subst, ⊎_elim, arith}
+use Rattle.std.proofs.lemmas.{Bool.{cases_eq, cases_lt}, Fmt.{decimal_injective}, List.{append_cancel_left}}
 use Rattle.std.specs.Prelude.{if◌then◌else◌, decimal}
-use Rattle.std.proofs.lemmas.Bool.{cases_eq, cases_lt}
-use Rattle.std.proofs.lemmas.List.{append_cancel_left}
-use Rattle.std.proofs.lemmas.Fmt.{decimal_injective}
-use Rattle.html_names_core.specs.Names.{stands_in}
-use Rattle.html_names_core.proofs.Basics.{bytes_eq-same}
+use Rattle.html_names_core.{proofs.Basics.{bytes_eq-same}, specs.Names.{stands_in}}
 use Rattle.html_links.specs.TreeNames.{Name}
-use Rattle.html_anchors.specs.NewNames.{name_with_number, stem_of, first_number, first_free, free_name, new_name}
-use Rattle.html_anchors.specs.Fresh.{IsFirstFree}
+use Rattle.html_anchors.specs.{Fresh.{IsFirstFree}, NewNames.{name_with_number, stem_of, first_number, first_free, free_name, new_name}}
 use Rattle.html_anchors.specs.NumberedNames.{AreUsedBelow, IsBounded}
 
 -- the names without the first that is this one

@@ -1,13 +1,11 @@
 -- Anchors keep what is seen.
 use Rattle.std.proofs.Common.{◌≡◌, ℕ, Bool, ◌||◌, List, [], ◌∷◌, ◌++◌, codes, Option, Some, None, drop, refl, ap, sym, ◌∙◌, append_assoc}
-use Rattle.std.proofs.lemmas.List.{append-nil}
-use Rattle.std.proofs.Math.Bool.{or-false}
+use Rattle.std.proofs.{Math.Bool.{or-false}, lemmas.List.{append-nil}}
 use Rattle.html_dom_tree.specs.PlainTree.{words, branch, Plains, no_plains, plain, put_words, nodes_normal}
 use Rattle.html_dom_tree.specs.Tree.{Head, tag_node, text_node, element_node, frame_node, NodesView, none, node}
 use Rattle.html_links.specs.TreeNames.{Name}
-use Rattle.html_anchors.specs.Namings.{Naming}
 use Rattle.html_anchors.specs.Anchors.{with_id, span_head, text_in_span, span_before, nodes_size, nodes_with_anchors, element_with_anchors, element_namings}
-use Rattle.html_anchors.specs.Seen.{Sight, text_sights, plains_sights, SeesNoAnchors, StaysSeen}
+use Rattle.html_anchors.specs.{Namings.{Naming}, Seen.{Sight, text_sights, plains_sights, SeesNoAnchors, StaysSeen}}
 
 module _ {A : Type 0} (s : Sight A) where
   -- what is seen, node by node

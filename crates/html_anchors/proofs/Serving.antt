@@ -1,26 +1,20 @@
 -- The names that locations get are those of what serves them in the new tree.
 use Rattle.std.proofs.Common.{◌≡◌, ℕ, suc, Bool, true, false, List, [], ◌∷◌, ◌++◌, length, Option, Some, None, refl, ap, sym, subst, ◌∙◌, append_assoc}
-use Rattle.std.specs.Prelude.{if◌then◌else◌}
-use Rattle.std.proofs.lemmas.List.{append-nil}
-use Rattle.html_dom_tree.specs.Attributes.{or_else}
-use Rattle.html_dom_tree.specs.Frames.{PointView}
+use Rattle.std.{proofs.lemmas.List.{append-nil}, specs.Prelude.{if◌then◌else◌}}
+use Rattle.html_dom_tree.specs.{Attributes.{or_else}, Frames.{PointView}}
 use Rattle.html_dom_tree.specs.Tree.{Head, NodeView, starts, ends, tag_node, text_node, element_node, frame_node, NodesView, none, node, ElementView}
-use Rattle.html_names_core.specs.Names.{stands_in}
-use Rattle.html_names_core.proofs.Basics.{last_dropped}
+use Rattle.html_names_core.{proofs.Basics.{last_dropped}, specs.Names.{stands_in}}
 use Rattle.html_dom_document.specs.Documents.{DocumentView, document_root}
+use Rattle.html_anchors.proofs.{ChangedRoots.{root_has_links}, LeadingLinks.{id_stays}, Showing.{answers-append}}
+use Rattle.html_anchors.proofs.States.{Groups, naming_at, step, finished, finished-append, makes, makes_is, makes-append, drop-events}
 use Rattle.html_anchors.specs.Anchors.{with_id, text_in_span, span_before, nodes_with_anchors, element_namings, element_with_anchors, anchor_of}
 use Rattle.html_anchors.specs.Events.{Start, FrameStart, end_tag, element, text, html_frame, Targets, start_event, frame_starts, events}
-use Rattle.html_anchors.specs.Groups.{is_in_group, first_label, label_of}
-use Rattle.html_anchors.specs.LinkAnchors.{document_targets}
+use Rattle.html_anchors.specs.{Groups.{is_in_group, first_label, label_of}, LinkAnchors.{document_targets}}
 use Rattle.html_anchors.specs.Links.{Hrefs, dest_before, document_hrefs, document_with_links, nodes_with_links, node_with_links}
 use Rattle.html_anchors.specs.Namings.{Naming, made_for, group_answers, start_pairs, start_answers, with_made, all_answers, last_name}
-use Rattle.html_links.specs.TreeNames.{Name, with_used_name, first_id, element_names}
 use Rattle.html_anchors.specs.NewNames.{new_name}
 use Rattle.html_anchors.specs.Serving.{AnchorsServe, KnownAnchorsServe, Mark, start_mark, place_mark, inner_marks, marks, name_entries, next_name, paired_marks, served_names, start_marks}
-use Rattle.html_anchors.proofs.ChangedRoots.{root_has_links}
-use Rattle.html_anchors.proofs.LeadingLinks.{id_stays}
-use Rattle.html_anchors.proofs.Showing.{answers-append}
-use Rattle.html_anchors.proofs.States.{Groups, naming_at, step, finished, finished-append, makes, makes_is, makes-append, drop-events}
+use Rattle.html_links.specs.TreeNames.{Name, with_used_name, first_id, element_names}
 
 -- the start tags that wait get the next name
 abbrev waiting_names : List Start → Option Name → List (ℕ × Name)

@@ -1,22 +1,18 @@
 -- Each name that is answered stands in the new tree.
 use Rattle.std.proofs.Common.{◌≡◌, ℕ, Bool, true, false, ◌||◌, ◌==◌, List, [], ◌∷◌, ◌++◌, Option, Some, None, refl, ap, sym, ◌∙◌, append_assoc, bytes_eq, subst}
+use Rattle.std.proofs.{Math.Bool.{or-true}, lemmas.List.{append-nil}, lemmas.Slice.Eq.{bytes_eq-Decides}}
 use Rattle.std.specs.Prelude.{if◌then◌else◌, option_to_list}
-use Rattle.std.proofs.lemmas.List.{append-nil}
-use Rattle.std.proofs.lemmas.Slice.Eq.{bytes_eq-Decides}
-use Rattle.std.proofs.Math.Bool.{or-true}
-use Rattle.html_dom_tree.specs.Attributes.{or_else}
-use Rattle.html_dom_tree.specs.Frames.{PointView}
+use Rattle.html_dom_tree.specs.{Attributes.{or_else}, Frames.{PointView}}
 use Rattle.html_dom_tree.specs.Tree.{Head, starts, ends, tag_node, text_node, element_node, frame_node, NodesView, none, node}
-use Rattle.html_names_core.specs.Names.{stands_in}
-use Rattle.html_names_core.proofs.Ascending.{stands_in-append}
+use Rattle.html_names_core.{proofs.Ascending.{stands_in-append}, specs.Names.{stands_in}}
 use Rattle.html_links.specs.TreeNames.{Name, with_used_name, anchor_names, first_id, element_names, gathered_names, shown_names}
-use Rattle.html_anchors.specs.NewNames.{new_name}
+use Rattle.html_anchors.proofs.States.{Groups, naming_at, step, finished, makes, makes_is, makes-append, drop-events}
+use Rattle.html_anchors.specs.Anchors.{with_id, text_in_span, span_before, nodes_with_anchors, element_namings, element_with_anchors, anchor_of}
+use Rattle.html_anchors.specs.Answered.{AnswersAreShown}
 use Rattle.html_anchors.specs.Events.{Start, FrameStart, end_tag, element, text, html_frame, Targets, start_event, frame_starts, events}
 use Rattle.html_anchors.specs.Groups.{is_in_group, first_label, label_of}
 use Rattle.html_anchors.specs.Namings.{Naming, made_for, group_answers, start_pairs, start_answers, with_made, all_answers, last_name}
-use Rattle.html_anchors.specs.Anchors.{with_id, text_in_span, span_before, nodes_with_anchors, element_namings, element_with_anchors, anchor_of}
-use Rattle.html_anchors.specs.Answered.{AnswersAreShown}
-use Rattle.html_anchors.proofs.States.{Groups, naming_at, step, finished, makes, makes_is, makes-append, drop-events}
+use Rattle.html_anchors.specs.NewNames.{new_name}
 
 -- the names of the answers are among these
 abbrev AreAmong : List (ℕ × Name) → List Name → Type 0

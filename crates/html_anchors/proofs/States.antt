@@ -1,15 +1,12 @@
 -- The cuts and namings of events, with the state of groups between two events.
 use Rattle.std.proofs.Common.{◌≡◌, ℕ, suc, Bool, true, false, ◌||◌, ◌==◌, List, [], ◌∷◌, ◌++◌, length, drop, Option, Some, None, refl, ap, sym, ◌∙◌, length-append}
-use Rattle.std.specs.Prelude.{if◌then◌else◌}
-use Rattle.std.proofs.lemmas.List.{drop_at}
-use Rattle.html_dom_tree.specs.Attributes.{or_else}
+use Rattle.std.{proofs.lemmas.List.{drop_at}, specs.Prelude.{if◌then◌else◌}}
+use Rattle.html_dom_tree.{proofs.Basics.{or_else-assoc, or_else-none}, specs.Attributes.{or_else}}
 use Rattle.html_dom_tree.specs.Tree.{starts, ends, tag_node, text_node, element_node, frame_node, NodesView, none, node}
-use Rattle.html_dom_tree.proofs.Basics.{or_else-assoc, or_else-none}
 use Rattle.html_links.specs.TreeNames.{Name}
-use Rattle.html_anchors.specs.Events.{Start, Event, Targets, events}
+use Rattle.html_anchors.specs.{Anchors.{nodes_size}, Events.{Start, Event, Targets, events}}
 use Rattle.html_anchors.specs.Groups.{is_in_group, waiting_after, cut_at, cuts}
 use Rattle.html_anchors.specs.Namings.{Naming, group_answers, naming, used_after, namings, all_answers, last_name}
-use Rattle.html_anchors.specs.Anchors.{nodes_size}
 
 -- the group that waits, the names in use, and the last name of each location
 pub record Groups : Type 0 where

@@ -1,24 +1,15 @@
 -- The walk goes on where it stopped, as a loop over nodes does.
 use Rattle.std.proofs.Common.{◌≡◌, ℕ, Bool, List, [], ◌∷◌, ◌++◌, Option, Some, None, String, Global, Bor, refl, sym, subst, ap, ◌∙◌}
-use Rattle.std.specs.Option.{option_copied}
-use Rattle.std.specs.Prelude.{option_map}
-use Rattle.html_dom_tree.specs.Attributes.{or_else}
-use Rattle.html_dom_tree.specs.Frames.{PointView, HtmlFrameView}
-use Rattle.html_dom_tree.specs.FrameViews.{optional_text_view}
-use Rattle.html_dom_tree.specs.Tree.{starts, ends, tag_node, text_node, element_node, frame_node, NodeView, NodesView, none, node}
-use Rattle.html_dom_tree.specs.Views.{text_view, node_view, nodes_view}
-use Rattle.html_dom_tree.specs.declared.node.HtmlNode.{HtmlNode}
-use Rattle.html_dom_tree.specs.declared.span.Span.{Span}
+use Rattle.std.specs.{Option.{option_copied}, Prelude.{option_map}}
 use Rattle.html_dom_tree.proofs.Basics.{node_view-Text}
+use Rattle.html_dom_tree.specs.{Attributes.{or_else}, FrameViews.{optional_text_view}, Frames.{PointView, HtmlFrameView}}
+use Rattle.html_dom_tree.specs.Tree.{starts, ends, tag_node, text_node, element_node, frame_node, NodeView, NodesView, none, node}
+use Rattle.html_dom_tree.specs.{Views.{text_view, node_view, nodes_view}, declared.node.HtmlNode.{HtmlNode}, declared.span.Span.{Span}}
 use Rattle.html_links.specs.TreeNames.{Name, with_used_name}
-use Rattle.html_anchors.specs.NewNames.{new_name}
-use Rattle.html_anchors.specs.Events.{Targets, FrameStart, frame_starts}
-use Rattle.html_anchors.specs.Namings.{start_pairs, used_after_starts}
-use Rattle.html_anchors.specs.Anchors.{span_before, text_in_span}
 use Rattle.html_anchors.specs.AnchorWalk.{WalkState, after_tag_start, first_waiting, Serves, made_now, after_server, after_start, after_starts, walk}
-use Rattle.html_dom_document.specs.DomIndices.{◌then◌}
-use Rattle.html_dom_document.proofs.Leading.{then_assoc}
-use Rattle.html_anchors.specs.Joined.{walked_behind, with_starts}
+use Rattle.html_anchors.specs.{Anchors.{span_before, text_in_span}, Events.{Targets, FrameStart, frame_starts}}
+use Rattle.html_anchors.specs.{Joined.{walked_behind, with_starts}, Namings.{start_pairs, used_after_starts}, NewNames.{new_name}}
+use Rattle.html_dom_document.{proofs.Leading.{then_assoc}, specs.DomIndices.{◌then◌}}
 
 pub then-none : (ns : NodesView) → (ns then none) ≡ ns
 then-none none = refl

@@ -1,21 +1,17 @@
 -- One walk gives the tree and the names that the groups give.
 use Rattle.std.proofs.Common.{◌≡◌, ℕ, Bool, true, false, ◌||◌, ◌==◌, List, [], ◌∷◌, ◌++◌, Option, Some, None, refl, ap, sym, ◌∙◌, append_assoc}
-use Rattle.std.specs.Prelude.{if◌then◌else◌}
-use Rattle.std.proofs.Math.Path.{fun_ext}
-use Rattle.std.proofs.lemmas.Bool.{eq-eqb}
-use Rattle.std.proofs.lemmas.List.{append-nil}
-use Rattle.html_dom_tree.specs.Attributes.{or_else}
+use Rattle.std.{proofs.Math.Path.{fun_ext}, proofs.lemmas.Bool.{eq-eqb}, proofs.lemmas.List.{append-nil}, specs.Prelude.{if◌then◌else◌}}
+use Rattle.html_dom_tree.{proofs.Basics.{or_else-assoc, or_else-none}, specs.Attributes.{or_else}}
 use Rattle.html_dom_tree.specs.Tree.{starts, ends, NodeView, tag_node, text_node, element_node, frame_node, NodesView, none, node}
-use Rattle.html_dom_tree.proofs.Basics.{or_else-assoc, or_else-none}
 use Rattle.html_names_core.specs.Names.{stands_in}
 use Rattle.html_links.specs.TreeNames.{Name, with_used_name, first_id, element_names}
-use Rattle.html_anchors.specs.NewNames.{new_name}
+use Rattle.html_anchors.proofs.States.{Groups, named_if, naming_at, step, finished, makes, makes_is, makes-append, finished-append, drop-events, last_name-append, finished_answers, answered_is}
+use Rattle.html_anchors.specs.AnchorWalk.{WalkState, after_tag_start, first_waiting, put_each, with_answers, made_now, after_server, after_starts, Walked, node_before, walk, OneWalkServes}
+use Rattle.html_anchors.specs.Anchors.{with_id, text_in_span, span_before, named_frame, nodes_with_anchors, element_with_anchors, anchor_of}
 use Rattle.html_anchors.specs.Events.{Start, FrameStart, end_tag, element, text, html_frame, Targets, start_event, frame_starts, events}
 use Rattle.html_anchors.specs.Groups.{is_in_group, Cut, first_label, label_of}
 use Rattle.html_anchors.specs.Namings.{made_for, group_answers, start_pairs, start_answers, used_after_starts, with_made, Naming, naming, used_after, all_answers, last_name}
-use Rattle.html_anchors.specs.Anchors.{with_id, text_in_span, span_before, named_frame, nodes_with_anchors, element_with_anchors, anchor_of}
-use Rattle.html_anchors.specs.AnchorWalk.{WalkState, after_tag_start, first_waiting, put_each, with_answers, made_now, after_server, after_starts, Walked, node_before, walk, OneWalkServes}
-use Rattle.html_anchors.proofs.States.{Groups, named_if, naming_at, step, finished, makes, makes_is, makes-append, finished-append, drop-events, last_name-append, finished_answers, answered_is}
+use Rattle.html_anchors.specs.NewNames.{new_name}
 
 -- the group that waits, as the walk carries it
 abbrev pub locations_of : List Start → List ℕ

@@ -1,25 +1,19 @@
 -- Elements and lists of nodes in the walk, as the program makes them, and the walk over a document.
 use Rattle.std.proofs.Common.{◌≡◌, ℕ, ◌+◌, ◌<◌, ◌≤◌, Bool, true, false, ◌||◌, List, [], ◌∷◌, length, get_or, set, take, drop, Option, refl, ap, sym, ◌∙◌, true≢false, arith}
-use Rattle.std.proofs.lemmas.List.{drop_all, drop_more, drop-set-lt, take_all, take_more_set}
-use Rattle.std.proofs.Math.Path.{fun_ext}
+use Rattle.std.proofs.{Math.Path.{fun_ext}, lemmas.List.{drop_all, drop_more, drop-set-lt, take_all, take_more_set}}
 use Rattle.std.specs.List.{list_any}
 use Rattle.html_dom_tree.specs.Tree.{starts, ends, Head, NodeView, tag_node, text_node, element_node, frame_node, NodesView, none, node}
-use Rattle.html_dom_tree.specs.Views.{node_view, nodes_view}
-use Rattle.html_dom_tree.specs.declared.node.HtmlNode.{HtmlNode}
+use Rattle.html_dom_tree.specs.{Views.{node_view, nodes_view}, declared.node.HtmlNode.{HtmlNode}}
 use Rattle.html_names_core.specs.Names.{stands_in}
+use Rattle.html_dom_document.proofs.Leading.{then_assoc}
+use Rattle.html_dom_document.specs.{Documents.{DocumentView, with_root, document_root}, DomIndices.{◌then◌}}
 use Rattle.html_dom_document.specs.Introspectors.{IntrospectorView}
-use Rattle.html_dom_document.specs.Documents.{DocumentView, with_root, document_root}
 use Rattle.html_links.specs.TreeNames.{Name, first_id, element_names}
-use Rattle.html_anchors.specs.Events.{Targets}
-use Rattle.html_anchors.specs.Anchors.{with_id}
+use Rattle.html_anchors.proofs.{Steps.{then-none, walks_on, nodes_view-push}, Walks.{one_walk_serves}}
+use Rattle.html_anchors.specs.AnchorWalk.{WalkState, first_waiting, Serves, after_server, at_first, Walked, walk, element_walk}
+use Rattle.html_anchors.specs.{Anchors.{with_id}, Events.{Targets}, Joined.{walked_behind, is_end}}
 use Rattle.html_anchors.specs.LinkAnchors.{targets_in, document_targets, document_with_new_anchors, document_anchor}
 use Rattle.html_anchors.specs.MadeDocuments.{with_children}
-use Rattle.html_anchors.specs.AnchorWalk.{WalkState, first_waiting, Serves, after_server, at_first, Walked, walk, element_walk}
-use Rattle.html_dom_document.specs.DomIndices.{◌then◌}
-use Rattle.html_dom_document.proofs.Leading.{then_assoc}
-use Rattle.html_anchors.specs.Joined.{walked_behind, is_end}
-use Rattle.html_anchors.proofs.Steps.{then-none, walks_on, nodes_view-push}
-use Rattle.html_anchors.proofs.Walks.{one_walk_serves}
 
 -- an element, which serves all that wait, and what stands in it
 pub element_served : (x : Targets) (h head : Head) (kids inside : NodesView)

@@ -6,10 +6,8 @@ use Rattle.html_dom_tree.specs.Attributes.{or_else}
 use Rattle.html_dom_tree.specs.Tree.{starts, ends, NodeView, tag_node, text_node, element_node, frame_node, NodesView, none, node, ElementView}
 use Rattle.html_names_core.specs.Names.{stands_in}
 use Rattle.html_links.specs.TreeNames.{Name, with_used_name, first_id, element_names}
-use Rattle.html_anchors.specs.NewNames.{new_name}
-use Rattle.html_anchors.specs.Events.{Targets, FrameStart, frame_starts}
-use Rattle.html_anchors.specs.Namings.{start_pairs}
 use Rattle.html_anchors.specs.Anchors.{with_id, named_frame, text_in_span, span_before, element_with_anchors, anchor_of}
+use Rattle.html_anchors.specs.{Events.{Targets, FrameStart, frame_starts}, Namings.{start_pairs}, NewNames.{new_name}}
 
 pub record WalkState : Type 0 where
   -- the locations of the start tags that wait, in order

@@ -1,14 +1,11 @@
 -- The tree with anchors, and the names of the locations (this project's rule): the old tree with
 -- only these changes.
 use Rattle.std.specs.Prelude.{ℕ, suc, ◌+◌, List, [], ◌∷◌, ◌++◌, drop, codes, Option, Some, None}
-use Rattle.html_dom_tree.specs.Attributes.{or_else}
-use Rattle.html_dom_tree.specs.Frames.{PointView, HtmlFrameView}
+use Rattle.html_dom_tree.specs.{Attributes.{or_else}, Frames.{PointView, HtmlFrameView}}
 use Rattle.html_dom_tree.specs.Tree.{TextPair, Head, NodeView, tag_node, text_node, element_node, frame_node, NodesView, none, node, ElementView, new_element}
 use Rattle.html_names_core.specs.Names.{stands_in}
 use Rattle.html_links.specs.TreeNames.{Name, element_names}
-use Rattle.html_anchors.specs.Events.{Targets, events}
-use Rattle.html_anchors.specs.Groups.{cuts}
-use Rattle.html_anchors.specs.Namings.{Naming, namings, all_answers, last_name}
+use Rattle.html_anchors.specs.{Events.{Targets, events}, Groups.{cuts}, Namings.{Naming, namings, all_answers, last_name}}
 
 -- the attributes with a new `id` in front, if there is one
 abbrev pub attrs_with_id : Option Name → List TextPair → List TextPair

@@ -1,12 +1,10 @@
 -- Returned names stand in the new tree.
 use Rattle.std.specs.Prelude.{◌≡◌, ℕ, false, true, Some, None}
-use Rattle.html_dom_tree.specs.FrameFree.{ElementIsFrameFree}
-use Rattle.html_dom_tree.specs.Tree.{ElementView}
+use Rattle.html_dom_tree.specs.{FrameFree.{ElementIsFrameFree}, Tree.{ElementView}}
 use Rattle.html_names_core.specs.Names.{stands_in}
 use Rattle.html_links.specs.TreeNames.{Name}
 pub use Rattle.html_links.specs.TreeNames.{id_names, shown_names, first_ids}
-use Rattle.html_anchors.specs.Events.{Targets}
-use Rattle.html_anchors.specs.Anchors.{element_with_anchors, anchor_of}
+use Rattle.html_anchors.specs.{Anchors.{element_with_anchors, anchor_of}, Events.{Targets}}
 
 -- each returned name is the first `id` of an element below the root, or a frame's `id`, or one of a
 -- frame's anchors

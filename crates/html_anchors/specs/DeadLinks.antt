@@ -1,7 +1,6 @@
 -- Dead links as pure values.
 use Rattle.std.specs.Prelude.{List, map}
-use Rattle.html_anchors.specs.Links.{DeadLinkView}
-use Rattle.html_anchors.specs.declared.dead.DeadLink.{DeadLink}
+use Rattle.html_anchors.specs.{Links.{DeadLinkView}, declared.dead.DeadLink.{DeadLink}}
 
 -- the span and the destination of a dead link
 abbrev pub dead_link_view : DeadLink → DeadLinkView

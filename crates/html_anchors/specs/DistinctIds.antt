@@ -3,14 +3,9 @@
 use Rattle.std.specs.Prelude.{◌≡◌, true, List, All}
 use Rattle.html_dom_tree.specs.Tree.{ElementView}
 use Rattle.html_dom_document.specs.Documents.{DocumentView, document_root}
-use Rattle.html_anchors.specs.Anchors.{element_with_anchors}
-use Rattle.html_links.specs.TreeNames.{shown_names, Name, element_names}
-use Rattle.html_anchors.specs.Events.{Targets}
-use Rattle.html_anchors.specs.Fresh.{MadeAreNew}
-use Rattle.html_anchors.specs.GivenLinks.{GivenLink, LeadsAmong, document_given_links}
-use Rattle.html_links.specs.Indicated.{element_places}
-use Rattle.html_anchors.specs.Links.{Anchors, Hrefs, root_with_links}
-use Rattle.html_links.specs.Distinct.{are_distinct, occurrences}
+use Rattle.html_anchors.specs.{Anchors.{element_with_anchors}, Events.{Targets}, Fresh.{MadeAreNew}}
+use Rattle.html_anchors.specs.{GivenLinks.{GivenLink, LeadsAmong, document_given_links}, Links.{Anchors, Hrefs, root_with_links}}
+use Rattle.html_links.specs.{Distinct.{are_distinct, occurrences}, Indicated.{element_places}, TreeNames.{shown_names, Name, element_names}}
 
 -- no two of the values of `id`, the ids of frames and the anchors of frames are the same
 abbrev pub IdsAreDistinct : DocumentView → Type 0

@@ -4,8 +4,7 @@ use Rattle.std.specs.Prelude.{◌≡◌, ℕ, Bool, true, Option, Some}
 use Rattle.html_names_core.specs.Names.{stands_in}
 use Rattle.html_dom_document.specs.Documents.{DocumentView, document_root}
 use Rattle.html_links.specs.TreeNames.{Name, shown_names}
-use Rattle.html_anchors.specs.Fresh.{MadeAreNew}
-use Rattle.html_anchors.specs.LinkAnchors.{document_targets}
+use Rattle.html_anchors.specs.{Fresh.{MadeAreNew}, LinkAnchors.{document_targets}}
 
 -- each name made for an anchor differs from those in use in the tree, and from those made before it
 abbrev pub AnchorsAreNew : (is_target : ℕ → Bool) → DocumentView → Type 0

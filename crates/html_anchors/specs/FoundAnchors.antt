@@ -1,17 +1,14 @@
 -- The places that a browser finds from links to their names, and the links that are dead without
 -- them: a `base` elsewhere leads each fragment away (HTML Standard 4.2.3), and what a `template`
 -- contains is not in the document (4.12.3).
-use Rattle.std.specs.Prelude.{◌≡◌, Bool, true, false, List, [], All, Some, is_some, if◌then◌else◌}
-use Rattle.std.specs.Option.{option_and_then}
+use Rattle.std.specs.{Option.{option_and_then}, Prelude.{◌≡◌, Bool, true, false, List, [], All, Some, is_some, if◌then◌else◌}}
 use Rattle.html_names_core.specs.Names.{stands_in}
 use Rattle.html_dom_tree.specs.Tree.{ElementView}
 use Rattle.html_dom_document.specs.Documents.{DocumentView, document_root}
-use Rattle.html_links.specs.Bases.{base_is_elsewhere}
-use Rattle.html_anchors.specs.GivenLinks.{GivenLink, KnownAnchorsAreShown, GivenLinksLead, document_given_links, links_without}
-use Rattle.html_links.specs.Indicated.{LeadsTo, element_places, if_place}
-use Rattle.html_links.specs.InDocument.{document_places}
-use Rattle.html_anchors.specs.Links.{Anchors, DeadLinkView, Hrefs, anchor_hrefs, document_with_links, nodes_dead_links}
+use Rattle.html_links.specs.{Bases.{base_is_elsewhere}, InDocument.{document_places}, Indicated.{LeadsTo, element_places, if_place}}
 use Rattle.html_links.specs.TreeNames.{Name}
+use Rattle.html_anchors.specs.GivenLinks.{GivenLink, KnownAnchorsAreShown, GivenLinksLead, document_given_links, links_without}
+use Rattle.html_anchors.specs.Links.{Anchors, DeadLinkView, Hrefs, anchor_hrefs, document_with_links, nodes_dead_links}
 
 -- whether a browser finds a place of that name from a link to the name on the same page
 abbrev pub is_found : ElementView → Name → Bool

@@ -2,13 +2,9 @@
 use Rattle.std.specs.Prelude.{◌≡◌, ℕ, ◌≤◌, ◌<◌, ◌^◌, Bool, true, false, List, [], ◌∷◌, ◌++◌, option_to_list}
 use Rattle.html_dom_tree.specs.Tree.{ElementView}
 use Rattle.html_names_core.specs.Names.{stands_in}
-use Rattle.html_links.specs.TreeNames.{Name, with_used_name, anchor_names, element_names}
-use Rattle.html_anchors.specs.NewNames.{name_with_number, stem_of, first_number, first_free}
-use Rattle.html_anchors.specs.Events.{Targets}
-use Rattle.html_anchors.specs.Namings.{Naming}
-use Rattle.html_links.specs.UsedNames.{with_names}
-use Rattle.html_anchors.specs.NumberedNames.{IsBounded}
-use Rattle.html_anchors.specs.Anchors.{element_namings}
+use Rattle.html_links.specs.{TreeNames.{Name, with_used_name, anchor_names, element_names}, UsedNames.{with_names}}
+use Rattle.html_anchors.specs.{Anchors.{element_namings}, Events.{Targets}, Namings.{Naming}}
+use Rattle.html_anchors.specs.{NewNames.{name_with_number, stem_of, first_number, first_free}, NumberedNames.{IsBounded}}
 
 -- each name differs from those in use, and from those made before it
 abbrev pub AreNew : (used : Name → Bool) → List Name → Type 0

@@ -5,11 +5,8 @@ use Rattle.html_names_core.specs.Names.{stands_in}
 use Rattle.html_dom_tree.specs.Attributes.{first}
 use Rattle.html_dom_tree.specs.Tree.{Head, NodeView, tag_node, text_node, element_node, frame_node, NodesView, none, node}
 use Rattle.html_dom_document.specs.Documents.{DocumentView, document_root}
-use Rattle.html_links.specs.TreeNames.{shown_names, Name}
-use Rattle.html_anchors.specs.DocumentNames.{AnchorsAreShown}
-use Rattle.html_links.specs.InDocument.{document_places}
-use Rattle.html_links.specs.Indicated.{LeadsTo, element_places}
-use Rattle.html_anchors.specs.Links.{Anchors, DeadLinkView, dest_before, is_open, nodes_dead_links}
+use Rattle.html_links.specs.{InDocument.{document_places}, Indicated.{LeadsTo, element_places}, TreeNames.{shown_names, Name}}
+use Rattle.html_anchors.specs.{DocumentNames.{AnchorsAreShown}, Links.{Anchors, DeadLinkView, dest_before, is_open, nodes_dead_links}}
 
 -- a link that got an `href`: its destination, and that `href`
 abbrev pub GivenLink : Type 0

@@ -1,12 +1,9 @@
 -- Parts of the walk: one list of nodes after another, one start tag of a frame, and several.
-use Rattle.html_dom_tree.specs.Frames.{PointView}
-use Rattle.html_dom_tree.specs.Tree.{starts, ends, NodeView, tag_node, text_node, element_node, frame_node, NodesView}
+use Rattle.html_dom_tree.specs.{Frames.{PointView}, Tree.{starts, ends, NodeView, tag_node, text_node, element_node, frame_node, NodesView}}
 use Rattle.std.specs.Prelude.{ℕ, Bool, true, false, List, ◌++◌}
 use Rattle.html_dom_document.specs.DomIndices.{◌then◌}
-use Rattle.html_anchors.specs.Events.{FrameStart}
-use Rattle.html_anchors.specs.Namings.{start_pairs}
+use Rattle.html_anchors.specs.{AnchorWalk.{with_entry, WalkState, after_starts, Walked}, Events.{FrameStart}, Namings.{start_pairs}}
 use Rattle.html_links.specs.TreeNames.{Name, with_used_name}
-use Rattle.html_anchors.specs.AnchorWalk.{with_entry, WalkState, after_starts, Walked}
 
 -- nodes that are already made, before those of a walk
 abbrev pub walked_behind : NodesView → Walked → Walked

@@ -1,11 +1,9 @@
 -- The anchors of a document: those of its root for the requested locations, by the recorded points.
 use Rattle.std.specs.Prelude.{ℕ, List, Bool, Option, Some, None}
 use Rattle.html_dom_tree.specs.Frames.{PointView}
+use Rattle.html_dom_document.specs.{Documents.{DocumentView, document_root, with_root}, Introspectors.{IntrospectorView}}
 use Rattle.html_dom_document.specs.Places.{PositionView}
-use Rattle.html_dom_document.specs.Introspectors.{IntrospectorView}
-use Rattle.html_dom_document.specs.Documents.{DocumentView, document_root, with_root}
-use Rattle.html_anchors.specs.Anchors.{element_with_anchors, anchor_of}
-use Rattle.html_anchors.specs.Events.{Targets}
+use Rattle.html_anchors.specs.{Anchors.{element_with_anchors, anchor_of}, Events.{Targets}}
 
 -- the point at which a location was recorded, if it was in a frame
 abbrev pub recorded_point : Option PositionView → Option PointView

@@ -1,13 +1,9 @@
 -- Laws of links that lead.
-use Rattle.std.specs.List.{All, Contains}
-use Rattle.std.specs.Prelude.{◌≡◌, false, List, [], None}
+use Rattle.std.specs.{List.{All, Contains}, Prelude.{◌≡◌, false, List, [], None}}
 use Rattle.html_dom_tree.specs.Tree.{NodeView, NodesView}
 use Rattle.html_dom_document.specs.Documents.{DocumentView, document_root}
-use Rattle.html_links.specs.TreeNames.{shown_names, first_ids}
-use Rattle.html_links.specs.Bases.{base_is_elsewhere}
-use Rattle.html_anchors.specs.FoundAnchors.{document_dead_links}
-use Rattle.html_anchors.specs.GivenLinks.{KnownAnchorsArePlaces}
-use Rattle.html_links.specs.Indicated.{nodes_places}
+use Rattle.html_links.specs.{Bases.{base_is_elsewhere}, Indicated.{nodes_places}, TreeNames.{shown_names, first_ids}}
+use Rattle.html_anchors.specs.{FoundAnchors.{document_dead_links}, GivenLinks.{KnownAnchorsArePlaces}}
 use Rattle.html_anchors.specs.Links.{Hrefs, document_links_left, nodes_dead_links, nodes_with_links}
 pub use Rattle.html_links.specs.HrefLaws.{LeadingHrefsLead, PlainHrefsLead}
 

@@ -1,10 +1,8 @@
 -- The `href` of each location, and of each whose anchor is found, from the data of a walk.
 use Rattle.html_dom_document.specs.Introspectors.{introspector_view}
-use Rattle.html_anchors.specs.FoundAnchors.{anchors_found}
-use Rattle.html_anchors.specs.Links.{Hrefs, anchor_hrefs}
-use Rattle.html_links.specs.UsedNames.{used_in}
-use Rattle.html_anchors.specs.declared.dead.FoundTargets.{FoundTargets}
+use Rattle.html_anchors.specs.{FoundAnchors.{anchors_found}, Links.{Hrefs, anchor_hrefs}, declared.dead.FoundTargets.{FoundTargets}}
 use Rattle.html_anchors.specs.declared.links.LinkTargets.{LinkTargets}
+use Rattle.html_links.specs.UsedNames.{used_in}
 
 abbrev pub hrefs_view : LinkTargets → Hrefs
 hrefs_view targets =

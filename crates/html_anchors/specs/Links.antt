@@ -1,13 +1,11 @@
 -- Links that lead: an `a` without an `href` directly behind a start tag with a destination gets the
 -- `href` that leads to that destination's anchor, if one does (this project's rule).
 use Rattle.std.specs.Prelude.{ℕ, List, [], ◌∷◌, ◌++◌, Bool, not, ◌&&◌, Option, Some, None, bytes_eq, codes, if◌then◌else◌}
-use Rattle.html_dom_tree.specs.Attributes.{has_name}
-use Rattle.html_dom_tree.specs.Tags.{starts, ends}
+use Rattle.html_dom_tree.specs.{Attributes.{has_name}, Tags.{starts, ends}}
 use Rattle.html_dom_tree.specs.Tree.{TextPair, Head, NodeView, tag_node, text_node, element_node, frame_node, NodesView, none, node, ElementView}
 use Rattle.html_dom_document.specs.Documents.{DocumentView, document_root, with_root}
 use Rattle.html_names_core.specs.Names.{stands_in}
-use Rattle.html_links.specs.Indicated.{element_places}
-use Rattle.html_links.specs.Spellings.{leading_href}
+use Rattle.html_links.specs.{Indicated.{element_places}, Spellings.{leading_href}}
 pub use Rattle.html_links.specs.Spellings.{some_name}
 
 -- the name of a location's anchor, if it has one

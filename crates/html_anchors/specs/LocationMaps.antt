@@ -1,9 +1,6 @@
 -- Maps by location as functions.
-use Rattle.std.specs.Prelude.{ℕ, List, map, Option, option_map, String}
-use Rattle.std.specs.declared.alloc.Global.{Global}
-use Rattle.std.specs.BTreeMap.{BTreeMap, get}
-use Rattle.html_dom_tree.specs.FrameViews.{optional_text_view}
-use Rattle.html_dom_tree.specs.declared.introspection.Location.{Location}
+use Rattle.std.specs.{BTreeMap.{BTreeMap, get}, Prelude.{ℕ, List, map, Option, option_map, String}, declared.alloc.Global.{Global}}
+use Rattle.html_dom_tree.specs.{FrameViews.{optional_text_view}, declared.introspection.Location.{Location}}
 use Rattle.html_dom_document.specs.Introspectors.{location_cmp}
 use Rattle.html_names_core.specs.Texts.{text_view}
 use Rattle.html_links.specs.TreeNames.{Name}

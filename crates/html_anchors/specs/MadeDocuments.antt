@@ -2,13 +2,10 @@
 use Rattle.std.specs.Prelude.{◌≡◌, ℕ, Bool}
 use Rattle.html_dom_document.specs.Documents.{DocumentView, document_root, with_root}
 use Rattle.html_dom_tree.specs.Tree.{NodesView}
-use Rattle.html_anchors.specs.DistinctIds.{GivenLinksLeadToOne, IdsAreDistinct}
-use Rattle.html_anchors.specs.DocumentNames.{AnchorsAreNew, AnchorsAreShown}
-use Rattle.html_anchors.specs.FoundAnchors.{LiveLinksLead}
-use Rattle.html_anchors.specs.GivenLinks.{GivenLinksLead, KnownAnchorsAreShown, links_without}
+use Rattle.html_anchors.specs.{DistinctIds.{GivenLinksLeadToOne, IdsAreDistinct}, DocumentNames.{AnchorsAreNew, AnchorsAreShown}}
+use Rattle.html_anchors.specs.{FoundAnchors.{LiveLinksLead}, GivenLinks.{GivenLinksLead, KnownAnchorsAreShown, links_without}}
 use Rattle.html_anchors.specs.LinkAnchors.{document_anchor, document_with_new_anchors}
-use Rattle.html_anchors.specs.Links.{Anchors, document_links_left, document_with_links}
-use Rattle.html_anchors.specs.Serving.{AreServing, KnownAnchorsServe}
+use Rattle.html_anchors.specs.{Links.{Anchors, document_links_left, document_with_links}, Serving.{AreServing, KnownAnchorsServe}}
 
 -- a document whose root has these children
 abbrev pub with_children : NodesView → DocumentView → DocumentView

@@ -1,11 +1,8 @@
 -- The names made at each event, given the names in use: those of the tree, and all made before.
 use Rattle.std.specs.Prelude.{ℕ, Bool, List, [], ◌∷◌, ◌++◌, ◌==◌, if◌then◌else◌, Option, Some, None}
-use Rattle.html_dom_tree.specs.Attributes.{or_else}
-use Rattle.html_dom_tree.specs.Frames.{PointView}
+use Rattle.html_dom_tree.specs.{Attributes.{or_else}, Frames.{PointView}}
 use Rattle.html_links.specs.TreeNames.{Name, with_used_name}
-use Rattle.html_anchors.specs.NewNames.{new_name}
-use Rattle.html_anchors.specs.Events.{Start, FrameStart, Event, html_frame}
-use Rattle.html_anchors.specs.Groups.{Cut, own_name, label_for}
+use Rattle.html_anchors.specs.{Events.{Start, FrameStart, Event, html_frame}, Groups.{Cut, own_name, label_for}, NewNames.{new_name}}
 
 pub record Naming : Type 0 where
   -- the new name of a server that has none

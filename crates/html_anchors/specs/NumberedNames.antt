@@ -1,7 +1,7 @@
 -- The next number to try for each label, as it is stored beside the names in use.
+use Rattle.std.specs.BTreeMap.{BTreeMap, get_by_text}
 use Rattle.std.specs.Prelude.{◌≡◌, ℕ, ◌+◌, ◌≤◌, ◌<◌, ◌^◌, Bool, true, false, List, [], ◌∷◌, length, chars, String, Some}
 use Rattle.std.specs.declared.alloc.Global.{Global}
-use Rattle.std.specs.BTreeMap.{BTreeMap, get_by_text}
 use Rattle.html_names_core.specs.Names.{stands_in}
 use Rattle.html_links.specs.TreeNames.{Name}
 use Rattle.html_anchors.specs.NewNames.{name_with_number, stem_of, first_number}

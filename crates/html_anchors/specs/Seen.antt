@@ -1,10 +1,8 @@
 -- Anchors are invisible to any view of a tree that shows neither an `id` nor a `span` as such.
 use Rattle.std.specs.Prelude.{◌≡◌, ℕ, Bool, false, ◌||◌, List, [], ◌∷◌, ◌++◌, codes}
-use Rattle.html_dom_tree.specs.PlainTree.{words, branch, Plains, no_plains, plain, nodes_normal}
-use Rattle.html_dom_tree.specs.Tree.{TextPair, ElementView}
+use Rattle.html_dom_tree.specs.{PlainTree.{words, branch, Plains, no_plains, plain, nodes_normal}, Tree.{TextPair, ElementView}}
 use Rattle.html_links.specs.TreeNames.{Name}
-use Rattle.html_anchors.specs.Events.{Targets}
-use Rattle.html_anchors.specs.Anchors.{element_with_anchors}
+use Rattle.html_anchors.specs.{Anchors.{element_with_anchors}, Events.{Targets}}
 
 -- a view of plain trees as lists: characters one by one, by whether blanks are preserved there;
 -- which elements preserve the blanks in them; elements, by the view of their children

@@ -5,10 +5,8 @@ use Rattle.std.specs.Prelude.{◌≡◌, ℕ, ◌-◌, Bool, List, [], ◌∷◌
 use Rattle.html_dom_tree.specs.Frames.{PointView}
 use Rattle.html_dom_tree.specs.Tree.{starts, ends, tag_node, text_node, element_node, frame_node, NodesView, none, node, ElementView}
 use Rattle.html_dom_document.specs.Documents.{DocumentView, document_root}
-use Rattle.html_anchors.specs.Anchors.{element_with_anchors, anchor_of}
-use Rattle.html_anchors.specs.Events.{FrameStart, Targets, frame_starts}
-use Rattle.html_anchors.specs.LinkAnchors.{document_targets}
-use Rattle.html_anchors.specs.Namings.{last_name}
+use Rattle.html_anchors.specs.{Anchors.{element_with_anchors, anchor_of}, Events.{FrameStart, Targets, frame_starts}}
+use Rattle.html_anchors.specs.{LinkAnchors.{document_targets}, Namings.{last_name}}
 use Rattle.html_links.specs.TreeNames.{Name, first_id}
 
 pub data Mark : Type 0 where

@@ -3,9 +3,8 @@ use Rattle.std.specs.Prelude.{◌≡◌, List, [], ◌∷◌, ◌-◌, Bool, tru
 use Rattle.html_dom_tree.specs.Frames.{HtmlFrameView}
 use Rattle.html_dom_tree.specs.Tree.{Head, NodeView, tag_node, text_node, element_node, frame_node, NodesView, none, node, ElementView}
 use Rattle.html_links.specs.TreeNames.{Name}
-use Rattle.html_anchors.specs.Events.{Targets, Event, text, events}
+use Rattle.html_anchors.specs.{Anchors.{nodes_size, element_namings, element_with_anchors}, Events.{Targets, Event, text, events}}
 use Rattle.html_anchors.specs.Namings.{Naming}
-use Rattle.html_anchors.specs.Anchors.{nodes_size, element_namings, element_with_anchors}
 
 -- the attributes of an element without the `id` that was added in front
 abbrev pub without_id : (made : Option Name) → Head → Head

@@ -2,13 +2,10 @@
 
 ghost use Rattle.std.specs.Prelude.{◌≡◌, IfOk, OnErr};
 ghost use Rattle.html_dom_tree.specs.Views.{nodes_view};
-ghost use Rattle.html_dom_document.specs.Views.{document_view};
-ghost use Rattle.html_dom_document.specs.Introspectors.{has_location, location_text};
-ghost use Rattle.html_anchors.specs.MadeDocuments.{HasNewAnchors};
-ghost use Rattle.html_links.specs.UsedNames.{used_in};
-ghost use Rattle.html_anchors.specs.NumberedNames.{IsBounded};
-ghost use Rattle.html_anchors.specs.AnchorWalk.{at_first, walk};
+ghost use Rattle.html_dom_document.specs.{Introspectors.{has_location, location_text}, Views.{document_view}};
+ghost use Rattle.html_anchors.specs.{AnchorWalk.{at_first, walk}, MadeDocuments.{HasNewAnchors}, NumberedNames.{IsBounded}};
 ghost use Rattle.html_anchors.specs.WalkViews.{state_view, targets_view};
+ghost use Rattle.html_links.specs.UsedNames.{used_in};
 
 use crate::elements::anchor_nodes;
 use crate::names::{AnchorNames, element_names};

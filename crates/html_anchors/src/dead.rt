@@ -1,13 +1,10 @@
 //! Links that lead nowhere.
 
 ghost use Rattle.std.specs.Prelude.{◌≡◌, ◌++◌, [], map, option_map, IfOk, OnOk};
-ghost use Rattle.html_dom_tree.specs.Tree.{element_node};
-ghost use Rattle.html_dom_tree.specs.Views.{element_view, node_view, nodes_view, text_view};
+ghost use Rattle.html_dom_tree.specs.{Tree.{element_node}, Views.{element_view, node_view, nodes_view, text_view}};
 ghost use Rattle.html_dom_document.specs.Views.{document_view};
-ghost use Rattle.html_anchors.specs.DeadLinks.{dead_links_view};
-ghost use Rattle.html_anchors.specs.FoundAnchors.{EveryLinkLeads, document_dead_links, is_found};
-ghost use Rattle.html_anchors.specs.LinkTargets.{live_hrefs_view};
-ghost use Rattle.html_anchors.specs.Links.{dead_link, href_of, node_dead_links, nodes_dead_links};
+ghost use Rattle.html_anchors.specs.{DeadLinks.{dead_links_view}, FoundAnchors.{EveryLinkLeads, document_dead_links, is_found}};
+ghost use Rattle.html_anchors.specs.{LinkTargets.{live_hrefs_view}, Links.{dead_link, href_of, node_dead_links, nodes_dead_links}};
 ghost use Rattle.html_links.specs.UsedNames.{used_in};
 
 use crate::links::{LinkTargets, dest_past, name_of, open_dest};

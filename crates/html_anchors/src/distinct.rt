@@ -1,10 +1,8 @@
 //! The check that the names of a document differ.
 
 ghost use Rattle.std.specs.Prelude.{◌≡◌, IfOk};
-ghost use Rattle.html_dom_document.specs.Documents.{document_root};
-ghost use Rattle.html_dom_document.specs.Views.{document_view};
-ghost use Rattle.html_links.specs.Distinct.{are_distinct, names_view};
-ghost use Rattle.html_links.specs.TreeNames.{element_names};
+ghost use Rattle.html_dom_document.specs.{Documents.{document_root}, Views.{document_view}};
+ghost use Rattle.html_links.specs.{Distinct.{are_distinct, names_view}, TreeNames.{element_names}};
 
 use html_dom_document::HtmlDocument;
 use html_links::{is_used, listed_names, put_in_use};

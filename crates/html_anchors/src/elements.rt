@@ -1,13 +1,8 @@
 //! Anchors in elements and in lists of nodes.
 
-ghost use Rattle.std.specs.Prelude.{◌≡◌, false, OnOk, IfOk};
-ghost use Rattle.std.specs.List.{list_any};
-ghost use Rattle.html_dom_tree.specs.Tree.{node, none, element_node};
-ghost use Rattle.html_dom_tree.specs.Views.{optional_text_view, node_view, nodes_view, element_view};
-ghost use Rattle.html_anchors.specs.Anchors.{span_before};
-ghost use Rattle.html_anchors.specs.Joined.{is_end};
-ghost use Rattle.html_anchors.specs.AnchorWalk.{walk};
-ghost use Rattle.html_anchors.specs.WalkViews.{state_view, targets_view};
+ghost use Rattle.std.specs.{List.{list_any}, Prelude.{◌≡◌, false, OnOk, IfOk}};
+ghost use Rattle.html_dom_tree.specs.{Tree.{node, none, element_node}, Views.{optional_text_view, node_view, nodes_view, element_view}};
+ghost use Rattle.html_anchors.specs.{AnchorWalk.{walk}, Anchors.{span_before}, Joined.{is_end}, WalkViews.{state_view, targets_view}};
 
 use crate::changes::name_attrs;
 use crate::nodes::{anchor_frame, anchor_tag, anchor_text, has_end, push_span};

@@ -1,11 +1,9 @@
 //! Anchors in frames.
 
 ghost use Rattle.std.specs.Prelude.{◌≡◌, OnOk};
-ghost use Rattle.html_dom_tree.specs.Frames.{PointView, no_frame_items, placed_item, tag_item};
 ghost use Rattle.html_dom_tree.specs.FrameViews.{tag_view, anchors_view, frame_view, frame_item_view};
-ghost use Rattle.html_anchors.specs.Events.{items_starts, frame_starts};
-ghost use Rattle.html_anchors.specs.Joined.{with_starts};
-ghost use Rattle.html_anchors.specs.WalkViews.{state_view, targets_view};
+ghost use Rattle.html_dom_tree.specs.Frames.{PointView, no_frame_items, placed_item, tag_item};
+ghost use Rattle.html_anchors.specs.{Events.{items_starts, frame_starts}, Joined.{with_starts}, WalkViews.{state_view, targets_view}};
 
 use crate::sought::Sought;
 use crate::state::AnchorState;

@@ -1,13 +1,10 @@
 //! Laws of anchors. The contract of each function is a law; the functions do nothing.
 
-ghost use Rattle.html_anchors.specs.Answered.{AnswersAreShown, AnswersAreFirstIds, StaysFrameFree, NoTargetNoChange};
-ghost use Rattle.html_anchors.specs.DistinctIds.{AnchorsStayDistinct, AllNamesStay};
-ghost use Rattle.html_anchors.specs.Fresh.{NamesAreNew, IsFirstFree};
-ghost use Rattle.html_anchors.specs.LinkLaws.{DeadAreLeft, LeftAreDead, LeftLinksAreDead, NamesStay};
-ghost use Rattle.html_anchors.specs.Seen.{StaysSeen};
-ghost use Rattle.html_anchors.specs.Serving.{AnchorsServe};
-ghost use Rattle.html_anchors.specs.Undone.{ComesBack};
 ghost use Rattle.html_anchors.specs.AnchorWalk.{OneWalkServes};
+ghost use Rattle.html_anchors.specs.Answered.{AnswersAreShown, AnswersAreFirstIds, StaysFrameFree, NoTargetNoChange};
+ghost use Rattle.html_anchors.specs.{DistinctIds.{AnchorsStayDistinct, AllNamesStay}, Fresh.{NamesAreNew, IsFirstFree}};
+ghost use Rattle.html_anchors.specs.{LinkLaws.{DeadAreLeft, LeftAreDead, LeftLinksAreDead, NamesStay}, Seen.{StaysSeen}};
+ghost use Rattle.html_anchors.specs.{Serving.{AnchorsServe}, Undone.{ComesBack}};
 
 pub use html_links::laws::hrefs_lead;
 

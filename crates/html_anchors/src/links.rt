@@ -1,10 +1,8 @@
 //! The `href` of links that have none.
 
 ghost use Rattle.std.specs.Prelude.{◌≡◌, ◌∷◌, [], List, option_map, IfErr, IfOk, OnErr, OnOk};
-ghost use Rattle.html_dom_document.specs.Views.{document_view};
-ghost use Rattle.html_dom_tree.specs.Tree.{NodeView, element_node};
-ghost use Rattle.html_dom_tree.specs.Views.{attrs_view, element_view, node_view, nodes_view, text_view};
-ghost use Rattle.html_dom_document.specs.Introspectors.{introspector_view};
+ghost use Rattle.html_dom_document.specs.{Introspectors.{introspector_view}, Views.{document_view}};
+ghost use Rattle.html_dom_tree.specs.{Tree.{NodeView, element_node}, Views.{attrs_view, element_view, node_view, nodes_view, text_view}};
 ghost use Rattle.html_anchors.specs.LinkTargets.{hrefs_view};
 ghost use Rattle.html_anchors.specs.Links.{attrs_with_href, dest_before, href_of, is_open, name_of, node_with_links, nodes_with_links, open_dest};
 ghost use Rattle.html_anchors.specs.MadeDocuments.{HasItsLinks};

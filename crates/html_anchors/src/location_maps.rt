@@ -1,10 +1,8 @@
 //! Labels and names by location.
 
 ghost use Rattle.std.specs.Prelude.{◌≡◌, ◌==◌, ℕ, Some, None, if◌then◌else◌, IfOk, OnOk, option_map};
-ghost use Rattle.html_dom_tree.specs.Attributes.{or_else};
-ghost use Rattle.html_dom_tree.specs.Views.{text_view, optional_text_view};
-ghost use Rattle.html_anchors.specs.AnchorWalk.{with_entry, put_each};
-ghost use Rattle.html_anchors.specs.LocationMaps.{labels_in, names_in, locations_in};
+ghost use Rattle.html_dom_tree.specs.{Attributes.{or_else}, Views.{text_view, optional_text_view}};
+ghost use Rattle.html_anchors.specs.{AnchorWalk.{with_entry, put_each}, LocationMaps.{labels_in, names_in, locations_in}};
 
 use html_dom_tree::Location;
 use std::alloc::AllocError;

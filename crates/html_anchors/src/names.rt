@@ -3,9 +3,8 @@
 ghost use Rattle.std.specs.Prelude.{Bool, [], ◌≡◌, ◌-◌, ◌≤◌, ◌<◌, ◌^◌, ◌+◌, chars, IfOk, OnOk};
 ghost use Rattle.html_names_core.specs.Names.{stands_in};
 ghost use Rattle.html_dom_tree.specs.Views.{element_view, text_view, optional_text_view};
-ghost use Rattle.html_links.specs.TreeNames.{Name, element_names, with_used_name};
+ghost use Rattle.html_links.specs.{TreeNames.{Name, element_names, with_used_name}, UsedNames.{used_in}};
 ghost use Rattle.html_anchors.specs.NewNames.{name_with_number, stem_of, first_number, first_free, free_name, text_of_label, name_for, new_name};
-ghost use Rattle.html_links.specs.UsedNames.{used_in};
 ghost use Rattle.html_anchors.specs.NumberedNames.{is_nothing, AreUsedBelow, IsCounted, IsBounded};
 
 use html_dom_tree::HtmlElement;

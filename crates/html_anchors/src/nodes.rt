@@ -1,17 +1,12 @@
 //! Anchors in nodes, which are changed in place.
 
-ghost use Rattle.std.specs.Prelude.{◌≡◌, ℕ, List, OnOk, IfOk};
-ghost use Rattle.std.specs.List.{list_any};
-ghost use Rattle.html_dom_tree.specs.Attributes.{or_else};
-ghost use Rattle.html_dom_tree.specs.FrameViews.{tag_view, html_frame_view};
+ghost use Rattle.std.specs.{List.{list_any}, Prelude.{◌≡◌, ℕ, List, OnOk, IfOk}};
+ghost use Rattle.html_dom_tree.specs.{Attributes.{or_else}, FrameViews.{tag_view, html_frame_view}};
 ghost use Rattle.html_dom_tree.specs.Tree.{node, none, tag_node, text_node, frame_node};
 ghost use Rattle.html_dom_tree.specs.Views.{node_view, nodes_view, optional_text_view};
-ghost use Rattle.html_anchors.specs.Anchors.{span_before};
-ghost use Rattle.html_anchors.specs.Events.{Targets};
-ghost use Rattle.html_dom_document.specs.DomIndices.{◌then◌};
-ghost use Rattle.html_anchors.specs.Joined.{is_end};
-ghost use Rattle.html_anchors.specs.AnchorWalk.{walk};
+ghost use Rattle.html_anchors.specs.{AnchorWalk.{walk}, Anchors.{span_before}, Events.{Targets}, Joined.{is_end}};
 ghost use Rattle.html_anchors.specs.WalkViews.{state_view, targets_view};
+ghost use Rattle.html_dom_document.specs.DomIndices.{◌then◌};
 
 use crate::changes::{named_span, put_in_span};
 use crate::frames::name_frame;

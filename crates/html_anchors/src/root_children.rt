@@ -1,11 +1,9 @@
 //! The children of a document's root, which are taken out and put in again.
 
 ghost use Rattle.std.specs.Prelude.{◌≡◌};
-ghost use Rattle.html_dom_document.specs.Documents.{document_root};
-ghost use Rattle.html_dom_document.specs.Views.{document_view};
+ghost use Rattle.html_dom_document.specs.{Documents.{document_root}, Views.{document_view}};
 ghost use Rattle.html_anchors.specs.MadeDocuments.{with_children};
-ghost use Rattle.html_dom_tree.specs.Tree.{none};
-ghost use Rattle.html_dom_tree.specs.Views.{nodes_view};
+ghost use Rattle.html_dom_tree.specs.{Tree.{none}, Views.{nodes_view}};
 
 use html_dom_document::HtmlDocument;
 use html_dom_tree::HtmlNode;

@@ -19,17 +19,12 @@ pub(crate) struct AnchorState {
 }
 
 impl AnchorState {
-    ghost use Rattle.std.specs.Prelude.{◌≡◌, Some, None, IfOk, IsTrue, OnOk, option_map};
-    ghost use Rattle.html_dom_tree.specs.Tree.{node, none};
-    ghost use Rattle.html_dom_tree.specs.Views.{node_view, text_view, optional_text_view};
-    ghost use Rattle.std.specs.BTreeSet.{contains};
+    ghost use Rattle.std.specs.{BTreeSet.{contains}, Prelude.{◌≡◌, Some, None, IfOk, IsTrue, OnOk, option_map}};
+    ghost use Rattle.html_dom_tree.specs.{Tree.{node, none}, Views.{node_view, text_view, optional_text_view}};
     ghost use Rattle.html_dom_document.specs.Introspectors.{location_cmp};
     ghost use Rattle.html_anchors.specs.AnchorWalk.{with_waiting, after_tag_start, with_answers, first_waiting, at_first, walk, Serves};
-    ghost use Rattle.html_anchors.specs.Events.{Targets};
-    ghost use Rattle.html_anchors.specs.Joined.{named_at};
-    ghost use Rattle.html_anchors.specs.NewNames.{new_name};
+    ghost use Rattle.html_anchors.specs.{Events.{Targets}, Joined.{named_at}, NewNames.{new_name}, WalkViews.{state_view}};
     ghost use Rattle.html_links.specs.UsedNames.{used_in};
-    ghost use Rattle.html_anchors.specs.WalkViews.{state_view};
 
     pub(crate) fn queue(
         &mut self,

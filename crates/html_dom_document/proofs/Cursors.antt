@@ -2,10 +2,9 @@
 use Rattle.std.proofs.Common.{◌≡◌, ℕ, suc, ◌+◌, List, [], ◌∷◌, Bool, true, false, if◌then◌else◌, length, refl, sym, ap, ◌∙◌, arith}
 use Rattle.std.specs.List.{zip}
 use Rattle.html_dom_tree.specs.Tree.{NodeView, tag_node, text_node, element_node, frame_node, NodesView, none, node}
-use Rattle.html_dom_tree.specs.Views.{node_view, nodes_view}
-use Rattle.html_dom_tree.specs.declared.node.HtmlNode.{HtmlNode}
-use Rattle.html_dom_document.specs.DomIndices.{◌then◌, element_count, run_count, ended_run_count, dom_index, dom_indices_after}
+use Rattle.html_dom_tree.specs.{Views.{node_view, nodes_view}, declared.node.HtmlNode.{HtmlNode}}
 use Rattle.html_dom_document.specs.Cursor.{element_index, index_at, past_element, cursor_after, nodes_with_indices}
+use Rattle.html_dom_document.specs.DomIndices.{◌then◌, element_count, run_count, ended_run_count, dom_index, dom_indices_after}
 use Rattle.html_dom_document.specs.declared.cursor.Cursor.{Cursor}
 
 -- whether a text stands since the last element or frame

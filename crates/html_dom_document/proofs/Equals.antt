@@ -1,15 +1,10 @@
 -- Locales are equal where both texts are, and information where all its parts are.
 use Rattle.std.proofs.Common.{◌≡◌, ◌&&◌, Bool, List, String, Global, Option, ap}
-use Rattle.std.specs.Bool.{Decides}
-use Rattle.std.specs.Cmp.Lexicographic.{pointwise}
-use Rattle.std.specs.Option.{option_eq}
-use Rattle.std.specs.String.{string_eq}
+use Rattle.std.specs.{Bool.{Decides}, Option.{option_eq}, String.{string_eq}, Cmp.Lexicographic.{pointwise}}
 use Rattle.html_dom_tree.specs.Views.{text_view, optional_text_view}
-use Rattle.html_dom_document.specs.Documents.{LocaleView, InfoView}
+use Rattle.html_dom_document.specs.{Documents.{LocaleView, InfoView}, Views.{locale_view, info_view}}
+use Rattle.html_dom_document.specs.declared.info.{DocumentInfo.{DocumentInfo}, Locale.{Locale}}
 use Rattle.html_names_core.specs.Texts.{texts_view}
-use Rattle.html_dom_document.specs.Views.{locale_view, info_view}
-use Rattle.html_dom_document.specs.declared.info.Locale.{Locale}
-use Rattle.html_dom_document.specs.declared.info.DocumentInfo.{DocumentInfo}
 use Rattle.html_values_css.proofs.Equals.{lists_decide, options_decide, pairs_decide, text_decides}
 
 optional_text_decides : (a b : Option (String Global)) →

@@ -1,14 +1,8 @@
 -- One more place in a map of positions, one more location in a set, and copies of both.
 use Rattle.std.proofs.Common.{rules, ◌≡◌, ℕ, ◌==◌, ◌||◌, Bool, true, false, cond, if◌then◌else◌, List, [], ◌∷◌, Option, Some, None, option_map, nat_cmp, is_eq, is_some, true≢false, refl, sym, ap, ◌∙◌}
-use Rattle.std.proofs.lemmas.Grind.{common_steps}
-use Rattle.std.specs.BTreeMap.{is_at}
-use Rattle.std.specs.Map.{lookup}
-use Rattle.std.specs.List.{list_any, AllZip}
-use Rattle.html_dom_tree.specs.Attributes.{or_else}
-use Rattle.html_dom_tree.specs.declared.introspection.Location.{Location}
-use Rattle.html_dom_document.specs.Introspectors.{position_view, location_cmp}
-use Rattle.html_dom_document.specs.Places.{is_among}
-use Rattle.html_dom_document.specs.Records.{locations_view}
+use Rattle.std.{proofs.lemmas.Grind.{common_steps}, specs.BTreeMap.{is_at}, specs.List.{list_any, AllZip}, specs.Map.{lookup}}
+use Rattle.html_dom_tree.specs.{Attributes.{or_else}, declared.introspection.Location.{Location}}
+use Rattle.html_dom_document.specs.{Introspectors.{position_view, location_cmp}, Places.{is_among}, Records.{locations_view}}
 use Rattle.html_dom_document.specs.declared.position.HtmlPosition.{HtmlPosition}
 
 pub is_eq-nat_cmp : (m n : ℕ) → is_eq (nat_cmp m n) ≡ (m == n)

@@ -2,13 +2,9 @@
 use Rattle.std.proofs.Common.{◌≡◌, ap, true}
 use mathlib.Core.HLevel.{hedberg}
 use mathlib.Core.Bool.{Bool-discrete}
-use Rattle.html_dom_tree.specs.Views.{nodes_view, element_view}
-use Rattle.html_dom_tree.specs.declared.node.HtmlElement.{HtmlElement}
-use Rattle.html_dom_document.specs.Documents.{with_root, is_element_at}
-use Rattle.html_dom_document.specs.Lending.{with_root_element}
-use Rattle.html_dom_document.specs.RootPlaces.{set_is_seen}
-use Rattle.html_dom_document.specs.Views.{output_view}
-use Rattle.html_dom_document.specs.declared.output.HtmlOutput.{HtmlOutput}
+use Rattle.html_dom_tree.specs.{Views.{nodes_view, element_view}, declared.node.HtmlElement.{HtmlElement}}
+use Rattle.html_dom_document.specs.{Documents.{with_root, is_element_at}, Lending.{with_root_element}, RootPlaces.{set_is_seen}}
+use Rattle.html_dom_document.specs.{Views.{output_view}, declared.output.HtmlOutput.{HtmlOutput}}
 
 module _ (output : HtmlOutput) (last : HtmlElement) where
   abbrev made : HtmlOutput

@@ -2,11 +2,8 @@
 use Rattle.std.proofs.Common.{◌≡◌, ℕ, zero, suc, ◌<◌, ◌≤◌, true, false, List, [], ◌∷◌, length, get_or, Some, refl, sym, ap, ◌∙◌, arith, true≢false}
 use Rattle.std.specs.Prelude.{is_some}
 use Rattle.html_dom_tree.specs.Views.{node_view, nodes_view, element_view}
-use Rattle.html_dom_tree.specs.declared.node.HtmlElement.{HtmlElement}
-use Rattle.html_dom_tree.specs.declared.node.HtmlNode.{HtmlNode}
-use Rattle.html_dom_tree.specs.declared.node.HtmlNode.TheVariants.{Element}
-use Rattle.html_dom_document.specs.Documents.{node_at, as_element, element_at_index, is_element_at}
-use Rattle.html_dom_document.specs.RootPlaces.{view-Element}
+use Rattle.html_dom_tree.specs.declared.node.{HtmlElement.{HtmlElement}, HtmlNode.{HtmlNode}, HtmlNode.TheVariants.{Element}}
+use Rattle.html_dom_document.specs.{Documents.{node_at, as_element, element_at_index, is_element_at}, RootPlaces.{view-Element}}
 
 pub within : (ns : List HtmlNode) (i : ℕ) → is_element_at (nodes_view ns) i ≡ true → i < length ns
 within [] i stands = absurd (true≢false (sym stands))

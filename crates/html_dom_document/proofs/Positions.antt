@@ -3,12 +3,10 @@ use Rattle.std.proofs.Common.{◌≡◌, ℕ, zero, suc, List, [], ◌∷◌, �
 use Rattle.std.proofs.lemmas.Option.{none-some, same_Some}
 use Rattle.html_dom_tree.specs.PlainTree.{Plain, element_normal}
 use Rattle.html_dom_tree.specs.Tree.{Head, tag_node, text_node, element_node, frame_node, NodesView, none, node, ElementView}
-use Rattle.html_dom_document.specs.DomIndices.{◌then◌, dom_index}
-use Rattle.html_dom_document.specs.Places.{PositionView, PlacedTagView, is_named_html, children_path, node_places, nodes_places, document_places, first_position}
-use Rattle.html_dom_document.specs.Introspectors.{IntrospectorView, recorded_view}
-use Rattle.html_dom_document.specs.Paths.{holders, Lead}
 use Rattle.html_dom_document.proofs.Leading.{paths_lead}
-use Rattle.html_dom_document.specs.Documents.{DocumentView, nodes_before, element_at_index}
+use Rattle.html_dom_document.specs.{Documents.{DocumentView, nodes_before, element_at_index}, DomIndices.{◌then◌, dom_index}}
+use Rattle.html_dom_document.specs.{Introspectors.{IntrospectorView, recorded_view}, Paths.{holders, Lead}}
+use Rattle.html_dom_document.specs.Places.{PositionView, PlacedTagView, is_named_html, children_path, node_places, nodes_places, document_places, first_position}
 use Rattle.html_dom_document.specs.Positions.{first_holder, led_to, PositionsLead}
 
 found_after : (ps qs : List PlacedTagView) (l : ℕ) → first_position ps l ≡ None →

@@ -1,18 +1,14 @@
 -- Calls that record, one after another, and with a number more on the path.
 use Rattle.std.proofs.Common.{◌≡◌, ℕ, suc, ◌+◌, ◌-◌, ◌<◌, ◌≤◌, List, [], ◌∷◌, ◌++◌, Bool, true, false, if◌then◌else◌, take, drop, get_or, length, drop-cons, add-one, append-nil, Ok, refl, sym, ap, ◌∙◌, arith, append_assoc}
 use Rattle.std.proofs.lemmas.List.{drop_all}
-use Rattle.html_dom_tree.specs.Tree.{NodeView, tag_node, text_node, element_node, frame_node, NodesView, none, node}
-use Rattle.html_dom_tree.specs.Views.{node_view, nodes_view}
 use Rattle.html_dom_tree.proofs.Nodes.{nodes_view-drop}
-use Rattle.html_dom_tree.specs.declared.node.HtmlNode.{HtmlNode}
-use Rattle.html_dom_document.specs.DomIndices.{◌then◌, dom_index}
-use Rattle.html_dom_document.specs.Cursor.{element_index, index_at, cursor_after}
-use Rattle.html_dom_document.specs.Places.{PlacedTagView, node_places, nodes_places, node_links, nodes_links}
-use Rattle.html_dom_document.specs.Paths.{without_last}
-use Rattle.html_dom_document.specs.Records.{Records, places_view, locations_view}
-use Rattle.html_dom_document.specs.declared.cursor.Cursor.{Cursor}
-use Rattle.html_dom_document.specs.declared.recorder.Recorder.{Recorder}
+use Rattle.html_dom_tree.specs.Tree.{NodeView, tag_node, text_node, element_node, frame_node, NodesView, none, node}
+use Rattle.html_dom_tree.specs.{Views.{node_view, nodes_view}, declared.node.HtmlNode.{HtmlNode}}
 use Rattle.html_dom_document.proofs.Cursors.{reached, index_is, moved_is}
+use Rattle.html_dom_document.specs.{Cursor.{element_index, index_at, cursor_after}, DomIndices.{◌then◌, dom_index}, Paths.{without_last}}
+use Rattle.html_dom_document.specs.Places.{PlacedTagView, node_places, nodes_places, node_links, nodes_links}
+use Rattle.html_dom_document.specs.{Records.{Records, places_view, locations_view}, declared.cursor.Cursor.{Cursor}}
+use Rattle.html_dom_document.specs.declared.recorder.Recorder.{Recorder}
 
 pub last_off : (path : List ℕ) (i : ℕ) → without_last (path ++ i ∷ []) ≡ path
 last_off [] i = refl

@@ -1,8 +1,7 @@
 -- DOM indices by one walk along a list: a cursor counts the elements and the ended runs so far, and
 -- holds whether there is a text after the last element.
 use Rattle.std.specs.Prelude.{ℕ, suc, List, [], ◌∷◌, true, false, if◌then◌else◌}
-use Rattle.html_dom_tree.specs.Tree.{NodeView, tag_node, text_node, element_node, frame_node}
-use Rattle.html_dom_tree.specs.Views.{node_view}
+use Rattle.html_dom_tree.specs.{Tree.{NodeView, tag_node, text_node, element_node, frame_node}, Views.{node_view}}
 use Rattle.html_dom_tree.specs.declared.node.HtmlNode.{HtmlNode}
 use Rattle.html_dom_document.specs.declared.cursor.Cursor.{Cursor}
 

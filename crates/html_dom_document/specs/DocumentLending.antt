@@ -4,9 +4,8 @@ use Rattle.html_dom_tree.specs.declared.node.HtmlElement.{HtmlElement}
 use Rattle.html_dom_tree.specs.contracts.node.HtmlElement as element
 use Rattle.html_dom_document.specs.declared.introspect.HtmlIntrospector.{HtmlIntrospector}
 use Rattle.html_dom_document.specs.contracts.introspect.HtmlIntrospector as introspector
-use Rattle.html_dom_document.specs.Lending.{with_root_element}
+use Rattle.html_dom_document.specs.{Lending.{with_root_element}, declared.document.HtmlDocument.{HtmlDocument}}
 use Rattle.html_dom_document.specs.declared.info.DocumentInfo.{DocumentInfo}
-use Rattle.html_dom_document.specs.declared.document.HtmlDocument.{HtmlDocument}
 use Rattle.html_dom_document.specs.contracts.info.DocumentInfo as info
 use Rattle.html_dom_document.specs.contracts.document.HtmlDocument.{the_row}
 

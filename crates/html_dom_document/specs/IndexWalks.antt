@@ -1,8 +1,7 @@
 -- The rest of a walk along a list of nodes.
 use Rattle.std.specs.Prelude.{ℕ, List}
 use Rattle.html_dom_tree.specs.declared.node.HtmlNode.{HtmlNode}
-use Rattle.html_dom_document.specs.Cursor.{nodes_with_indices}
-use Rattle.html_dom_document.specs.declared.dom_indices.DomIndices.{DomIndices}
+use Rattle.html_dom_document.specs.{Cursor.{nodes_with_indices}, declared.dom_indices.DomIndices.{DomIndices}}
 
 -- the nodes that are left, with their indices
 abbrev pub pairs_left : DomIndices → List (HtmlNode × ℕ)

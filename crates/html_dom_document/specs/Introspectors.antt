@@ -1,17 +1,10 @@
 -- The data of a document's locations, as functions of a location.
-use Rattle.std.specs.Prelude.{ℕ, List, Bool, ◌||◌, Option, None, option_map, String}
-use Rattle.std.specs.Ordering.{nat_cmp}
-use Rattle.std.specs.declared.cmp.Ordering.{Ordering}
-use Rattle.std.specs.declared.alloc.Global.{Global}
-use Rattle.std.specs.BTreeMap.{BTreeMap, get}
+use Rattle.std.specs.{BTreeMap.{BTreeMap, get}, Ordering.{nat_cmp}, Prelude.{ℕ, List, Bool, ◌||◌, Option, None, option_map, String}}
+use Rattle.std.specs.declared.{alloc.Global.{Global}, cmp.Ordering.{Ordering}}
 use Rattle.std.specs.BTreeSet as bag
-use Rattle.html_dom_tree.specs.Tree.{NodesView}
-use Rattle.html_dom_tree.specs.Views.{text_view}
-use Rattle.html_dom_tree.specs.FrameViews.{point_view}
-use Rattle.html_dom_tree.specs.declared.introspection.Location.{Location}
+use Rattle.html_dom_tree.specs.{FrameViews.{point_view}, Tree.{NodesView}, Views.{text_view}, declared.introspection.Location.{Location}}
 use Rattle.html_dom_document.specs.Places.{PositionView, document_places, first_position, is_frame_target, is_link_target}
-use Rattle.html_dom_document.specs.declared.position.HtmlPosition.{HtmlPosition}
-use Rattle.html_dom_document.specs.declared.introspect.HtmlIntrospector.{HtmlIntrospector}
+use Rattle.html_dom_document.specs.declared.{introspect.HtmlIntrospector.{HtmlIntrospector}, position.HtmlPosition.{HtmlPosition}}
 
 -- for each location its position, whether links lead to it, whether links in frames do, and its
 -- anchor

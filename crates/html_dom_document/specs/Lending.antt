@@ -1,12 +1,8 @@
 -- An output after a mutable borrow of its root.
-use Rattle.std.specs.Borrow.{Lends, MutBor, Fml}
-use Rattle.std.specs.Vec.{with_item}
-use Rattle.html_dom_tree.specs.declared.node.HtmlElement.{HtmlElement}
-use Rattle.html_dom_tree.specs.declared.node.HtmlNode.TheVariants.{Element}
+use Rattle.std.specs.{Borrow.{Lends, MutBor, Fml}, Vec.{with_item}}
+use Rattle.html_dom_tree.specs.declared.node.{HtmlElement.{HtmlElement}, HtmlNode.TheVariants.{Element}}
 use Rattle.html_dom_tree.specs.contracts.node.HtmlElement as element
-use Rattle.html_dom_document.specs.RootPlaces.{put_stands}
-use Rattle.html_dom_document.specs.declared.output.HtmlOutput.{HtmlOutput}
-use Rattle.html_dom_document.specs.contracts.output.HtmlOutput.{the_row}
+use Rattle.html_dom_document.specs.{RootPlaces.{put_stands}, contracts.output.HtmlOutput.{the_row}, declared.output.HtmlOutput.{HtmlOutput}}
 
 -- the output with that element as its root
 abbrev pub with_root_element : HtmlOutput → HtmlElement → HtmlOutput

@@ -1,6 +1,6 @@
 -- Positions of start tags, and destinations of links (this project's rules, after typst-html).
-use Rattle.std.specs.Prelude.{ℕ, List, [], ◌∷◌, ◌++◌, Bool, false, ◌==◌, ◌||◌, if◌then◌else◌, codes, bytes_eq, Option, Some, None}
 use Rattle.std.specs.List.{list_any}
+use Rattle.std.specs.Prelude.{ℕ, List, [], ◌∷◌, ◌++◌, Bool, false, ◌==◌, ◌||◌, if◌then◌else◌, codes, bytes_eq, Option, Some, None}
 use Rattle.html_dom_tree.specs.Frames.{PointView, FrameView, frame, FrameItemsView, no_frame_items, placed_item, FrameItemView, tag_item, group_item, link_item, other_item}
 use Rattle.html_dom_tree.specs.Tree.{TagView, starts, ends, Head, NodeView, tag_node, text_node, element_node, frame_node, NodesView, none, node}
 use Rattle.html_dom_document.specs.DomIndices.{◌then◌, dom_index}

@@ -1,10 +1,9 @@
 -- The positions of a document, which lead to the elements that hold the tags.
 use Rattle.std.specs.Prelude.{◌≡◌, ℕ, List, [], ◌∷◌, true, ◌==◌, if◌then◌else◌, Option, Some, None, option_and_then}
-use Rattle.html_dom_tree.specs.PlainTree.{Plain, element_normal}
-use Rattle.html_dom_tree.specs.Tree.{ElementView}
-use Rattle.html_dom_document.specs.Places.{PositionView, PlacedTagView, is_named_html, document_places, first_position}
-use Rattle.html_dom_document.specs.Paths.{follow, ArePlain, without_last, holders}
+use Rattle.html_dom_tree.specs.{PlainTree.{Plain, element_normal}, Tree.{ElementView}}
 use Rattle.html_dom_document.specs.Documents.{OutputView, DocumentView, nodes_before, root_of}
+use Rattle.html_dom_document.specs.Paths.{follow, ArePlain, without_last, holders}
+use Rattle.html_dom_document.specs.Places.{PositionView, PlacedTagView, is_named_html, document_places, first_position}
 
 -- the element that holds a location's first start tag, from tags and their elements
 abbrev pub first_holder : List PlacedTagView → List ElementView → (location : ℕ) → Option ElementView

@@ -1,10 +1,7 @@
 -- The state of a walk over a tree, and the effect of a call that records.
-use Rattle.std.specs.Prelude.{◌≡◌, ℕ, List, ◌++◌, map, option_map, Result, OnOk}
-use Rattle.std.specs.declared.alloc.AllocError.{AllocError}
+use Rattle.std.specs.{Prelude.{◌≡◌, ℕ, List, ◌++◌, map, option_map, Result, OnOk}, declared.alloc.AllocError.{AllocError}}
 use Rattle.html_dom_tree.specs.declared.introspection.Location.{Location}
-use Rattle.html_dom_document.specs.Places.{PlacedTagView}
-use Rattle.html_dom_document.specs.Introspectors.{position_view}
-use Rattle.html_dom_document.specs.declared.placed_tag.PlacedTag.{PlacedTag}
+use Rattle.html_dom_document.specs.{Introspectors.{position_view}, Places.{PlacedTagView}, declared.placed_tag.PlacedTag.{PlacedTag}}
 use Rattle.html_dom_document.specs.declared.recorder.Recorder.{Recorder}
 
 abbrev pub place_view : PlacedTag → PlacedTagView

@@ -1,10 +1,7 @@
 -- An element that replaces another at an index of a list of nodes.
 use Rattle.std.proofs.Common.{◌≡◌, ℕ, zero, suc, true, List, [], ◌∷◌, set, refl, sym, ap, ◌∙◌, true≢false, rules}
-use Rattle.html_dom_tree.specs.Tree.{NodesView, none, node, ElementView}
-use Rattle.html_dom_tree.specs.Views.{node_view, nodes_view, element_view}
-use Rattle.html_dom_tree.specs.declared.node.HtmlElement.{HtmlElement}
-use Rattle.html_dom_tree.specs.declared.node.HtmlNode.{HtmlNode, the_lemmas}
-use Rattle.html_dom_tree.specs.declared.node.HtmlNode.TheVariants.{Element}
+use Rattle.html_dom_tree.specs.{Tree.{NodesView, none, node, ElementView}, Views.{node_view, nodes_view, element_view}}
+use Rattle.html_dom_tree.specs.declared.node.{HtmlElement.{HtmlElement}, HtmlNode.{HtmlNode, the_lemmas}, HtmlNode.TheVariants.{Element}}
 use Rattle.html_dom_document.specs.Documents.{node_of, is_element_at, with_element}
 
 pub view-Element : (e : HtmlElement) → node_view (Element e) ≡ node_of (element_view e)

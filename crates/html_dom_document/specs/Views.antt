@@ -1,14 +1,10 @@
 -- The pure values of outputs, of information and of documents.
-use Rattle.std.specs.Prelude.{ℕ, List, map, option_map, String}
-use Rattle.std.specs.declared.alloc.Global.{Global}
+use Rattle.std.specs.{Prelude.{ℕ, List, map, option_map, String}, declared.alloc.Global.{Global}}
 use Rattle.html_names_core.specs.Texts.{texts_view}
 use Rattle.html_dom_tree.specs.Views.{text_view, optional_text_view, nodes_view}
-use Rattle.html_dom_document.specs.Introspectors.{introspector_view}
-use Rattle.html_dom_document.specs.Documents.{LocaleView, InfoView, OutputView, DocumentView}
-use Rattle.html_dom_document.specs.declared.info.Locale.{Locale}
-use Rattle.html_dom_document.specs.declared.info.DocumentInfo.{DocumentInfo}
+use Rattle.html_dom_document.specs.{Documents.{LocaleView, InfoView, OutputView, DocumentView}, Introspectors.{introspector_view}}
+use Rattle.html_dom_document.specs.declared.{document.HtmlDocument.{HtmlDocument}, info.DocumentInfo.{DocumentInfo}, info.Locale.{Locale}}
 use Rattle.html_dom_document.specs.declared.output.HtmlOutput.{HtmlOutput}
-use Rattle.html_dom_document.specs.declared.document.HtmlDocument.{HtmlDocument}
 
 abbrev pub locale_view : Locale → LocaleView
 locale_view l = record { lang = text_view l.lang; region = optional_text_view l.region }

@@ -17,15 +17,11 @@ pub struct HtmlDocument {
 }
 
 impl HtmlDocument {
-    ghost use Rattle.std.specs.Prelude.{◌≡◌, Some, IfOk, IfErr};
-    ghost use Rattle.html_dom_tree.specs.declared.node.HtmlElement.{HtmlElement};
-    ghost use Rattle.html_dom_tree.specs.Views.{node_view, nodes_view, element_view};
-    ghost use Rattle.html_dom_document.specs.Introspectors.{introspector_view};
-    ghost use Rattle.html_dom_document.specs.Documents.{node_at, root_of, with_root, new_document};
-    ghost use Rattle.html_dom_document.specs.Positions.{PositionsLead};
-    ghost use Rattle.html_dom_document.specs.Views.{output_view, info_view, document_view};
+    ghost use Rattle.std.specs.{Borrow.{sem}, Prelude.{◌≡◌, Some, IfOk, IfErr}};
+    ghost use Rattle.html_dom_tree.specs.{Views.{node_view, nodes_view, element_view}, declared.node.HtmlElement.{HtmlElement}};
     ghost use Rattle.html_dom_document.specs.DocumentLending.{LendsInfo, LendsIntrospector, with_document_root, LendsDocumentRoot};
-    ghost use Rattle.std.specs.Borrow.{sem};
+    ghost use Rattle.html_dom_document.specs.{Documents.{node_at, root_of, with_root, new_document}, Introspectors.{introspector_view}};
+    ghost use Rattle.html_dom_document.specs.{Positions.{PositionsLead}, Views.{output_view, info_view, document_view}};
 
     /// Creates a document from this output and information. Records the positions of all start tags
     /// and the destinations of links; there are no anchors yet. If an allocation fails, the error

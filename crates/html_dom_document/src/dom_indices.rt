@@ -10,12 +10,9 @@ use html_dom_tree::HtmlNode;
 /// siblings in a browser's tree (DOM), where neighbouring texts are one node and tags are none. An
 /// empty text counts as a text here, but not in a browser.
 pub trait HtmlSliceExt<'a> {
-    ghost use Rattle.std.specs.Prelude.{◌≡◌, List};
-    ghost use Rattle.std.specs.List.{zip};
-    ghost use Rattle.html_dom_tree.specs.Views.{nodes_view};
-    ghost use Rattle.html_dom_tree.specs.declared.node.HtmlNode.{HtmlNode};
-    ghost use Rattle.html_dom_document.specs.DomIndices.{dom_indices};
-    ghost use Rattle.html_dom_document.specs.IndexWalks.{pairs_left};
+    ghost use Rattle.std.specs.{List.{zip}, Prelude.{◌≡◌, List}};
+    ghost use Rattle.html_dom_tree.specs.{Views.{nodes_view}, declared.node.HtmlNode.{HtmlNode}};
+    ghost use Rattle.html_dom_document.specs.{DomIndices.{dom_indices}, IndexWalks.{pairs_left}};
 
     /// The list whose nodes are numbered.
     ghost listed: { Self → List HtmlNode };

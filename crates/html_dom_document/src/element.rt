@@ -1,13 +1,10 @@
 //! Nodes that are elements, and elements that are named `html`.
 
-ghost use Rattle.std.specs.Prelude.{◌≡◌, true, Some, is_some};
-ghost use Rattle.std.specs.Borrow.{Lends, sem};
-ghost use Rattle.html_dom_tree.specs.Views.{node_view, element_view};
-ghost use Rattle.html_dom_tree.specs.declared.node.HtmlNode.TheVariants.{Element};
+ghost use Rattle.std.specs.{Borrow.{Lends, sem}, Prelude.{◌≡◌, true, Some, is_some}};
+ghost use Rattle.html_dom_tree.specs.{Views.{node_view, element_view}, declared.node.HtmlNode.TheVariants.{Element}};
 ghost use Rattle.html_dom_tree.specs.contracts.node.HtmlNode as node_type;
 ghost use Rattle.html_dom_tree.specs.contracts.node.HtmlElement as element_type;
-ghost use Rattle.html_dom_document.specs.Documents.{as_element};
-ghost use Rattle.html_dom_document.specs.Places.{is_named_html};
+ghost use Rattle.html_dom_document.specs.{Documents.{as_element}, Places.{is_named_html}};
 
 use html_dom_tree::{HtmlElement, HtmlNode};
 use html_names_core::tag;

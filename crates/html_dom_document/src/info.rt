@@ -2,9 +2,8 @@
 
 ghost use Rattle.std.specs.Prelude.{◌≡◌, IfOk};
 ghost use Rattle.html_dom_tree.specs.Views.{text_view};
-ghost use Rattle.html_dom_document.specs.Documents.{locale_of, no_info};
+ghost use Rattle.html_dom_document.specs.{Documents.{locale_of, no_info}, Views.{locale_view, info_view}};
 ghost use Rattle.html_names_core.specs.Texts.{texts_view};
-ghost use Rattle.html_dom_document.specs.Views.{locale_view, info_view};
 
 use html_dom_tree::text::copy_optional_text;
 use std::alloc::{AllocError, Global};

@@ -17,13 +17,10 @@ pub struct HtmlOutput {
 }
 
 impl HtmlOutput {
-    ghost use Rattle.std.specs.Prelude.{◌<◌, Some, IfOk, length, slice_index_or};
-    ghost use Rattle.html_dom_tree.specs.Views.{node_view, element_view};
-    ghost use Rattle.html_dom_tree.specs.declared.node.HtmlElement.{HtmlElement};
-    ghost use Rattle.html_dom_document.specs.Documents.{node_at, root_of, with_root};
+    ghost use Rattle.std.specs.{Borrow.{sem}, Prelude.{◌<◌, Some, IfOk, length, slice_index_or}};
+    ghost use Rattle.html_dom_tree.specs.{Views.{node_view, element_view}, declared.node.HtmlElement.{HtmlElement}};
+    ghost use Rattle.html_dom_document.specs.{Documents.{node_at, root_of, with_root}, Lending.{with_root_element, LendsRoot}};
     ghost use Rattle.html_dom_document.specs.Views.{output_view};
-    ghost use Rattle.html_dom_document.specs.Lending.{with_root_element, LendsRoot};
-    ghost use Rattle.std.specs.Borrow.{sem};
 
     /// Creates an output with the root at that index. The node there must be an element.
     pub fn new(nodes: Vec<HtmlNode>, root_index: usize) -> HtmlOutput

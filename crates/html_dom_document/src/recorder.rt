@@ -1,11 +1,10 @@
 //! The walk over a tree that records its start tags and links.
 
 ghost use Rattle.std.specs.Prelude.{◌≡◌, ◌++◌, [], ◌∷◌, option_map, None};
-ghost use Rattle.html_dom_tree.specs.FrameViews.{point_view, tag_view, frame_view, frame_item_view};
+ghost use Rattle.html_dom_tree.specs.{FrameViews.{point_view, tag_view, frame_view, frame_item_view}, Tree.{none}};
 ghost use Rattle.html_dom_tree.specs.Views.{node_view, nodes_view, element_view};
-ghost use Rattle.html_dom_tree.specs.Tree.{none};
-ghost use Rattle.html_dom_document.specs.Places.{children_path, link_targets, tag_places, frame_places, item_places, node_places, nodes_places, frame_links, item_links, node_links, nodes_links};
 ghost use Rattle.html_dom_document.specs.Paths.{without_last};
+ghost use Rattle.html_dom_document.specs.Places.{children_path, link_targets, tag_places, frame_places, item_places, node_places, nodes_places, frame_links, item_links, node_links, nodes_links};
 ghost use Rattle.html_dom_document.specs.Records.{Records, location_view};
 
 use crate::cursor::Cursor;

@@ -1,15 +1,12 @@
 -- An element that was opened, filled and closed.
 use Rattle.std.proofs.Common.{◌≡◌, ℕ, zero, suc, ◌+◌, ◌<◌, true, List, [], ◌∷◌, ◌++◌, refl, ap, ◌∙◌, arith, length, get_or}
-use Rattle.std.proofs.Math.ListN.{set}
-use Rattle.std.proofs.lemmas.Bool.{and_parts, and_from}
+use Rattle.std.proofs.{Math.ListN.{set}, lemmas.Bool.{and_parts, and_from}}
 use Rattle.html_names_table.specs.NameTables.{NamesView}
 use Rattle.html_dom_tree.specs.Tree.{Head, NodesView}
-use Rattle.html_dom_flat.specs.Flat.{FlatNodeView, flat_element, nodes_count, nodes_flat, element_flat}
-use Rattle.html_dom_flat.specs.FlatViews.{flat_node_view, flat_nodes_view, is_node_given, are_given}
 use Rattle.html_dom_flat.specs.ClosedElements.{with_past, closed_at}
-use Rattle.html_dom_flat.specs.Numbering.{node_with_past}
-use Rattle.html_dom_flat.specs.declared.flat_node.FlatNode.{FlatNode}
-use Rattle.html_dom_flat.specs.declared.flat_node.FlatNode.TheVariants.{Tag, Text, Frame, Element}
+use Rattle.html_dom_flat.specs.Flat.{FlatNodeView, flat_element, nodes_count, nodes_flat, element_flat}
+use Rattle.html_dom_flat.specs.{FlatViews.{flat_node_view, flat_nodes_view, is_node_given, are_given}, Numbering.{node_with_past}}
+use Rattle.html_dom_flat.specs.declared.flat_node.{FlatNode.{FlatNode}, FlatNode.TheVariants.{Tag, Text, Frame, Element}}
 
 view_ended : (names : NamesView) (past : ℕ) (n : FlatNode) →
     flat_node_view names (node_with_past past n) ≡ with_past past (flat_node_view names n)

@@ -1,12 +1,9 @@
 -- Elements in the list of a tree.
-use Rattle.std.proofs.Common.{◌≡◌, ℕ, ◌<◌, true, List, length, get_or, drop, take}
-use Rattle.std.proofs.lemmas.Bool.{ltb-true}
-use Rattle.std.proofs.lemmas.List.Elements.{All-drop, All-take}
-use Rattle.std.proofs.lemmas.List.Sums.{AllPass-from_list_all, list_all-from_AllPass}
+use Rattle.std.proofs.{Common.{◌≡◌, ℕ, ◌<◌, true, List, length, get_or, drop, take}, lemmas.Bool.{ltb-true}}
+use Rattle.std.proofs.lemmas.List.{Elements.{All-drop, All-take}, Sums.{AllPass-from_list_all, list_all-from_AllPass}}
 use Rattle.std.specs.List.{list_all, AllPass}
 use Rattle.html_names_table.specs.NameTables.{NamesView}
-use Rattle.html_dom_flat.specs.FlatViews.{FlatPair, is_pair_given, is_node_given, are_given}
-use Rattle.html_dom_flat.specs.declared.flat_node.FlatNode.{FlatNode}
+use Rattle.html_dom_flat.specs.{FlatViews.{FlatPair, is_pair_given, is_node_given, are_given}, declared.flat_node.FlatNode.{FlatNode}}
 
 module _ (names : NamesView) (nodes : List FlatNode) (i : ℕ)
     (given : are_given names nodes ≡ true) where

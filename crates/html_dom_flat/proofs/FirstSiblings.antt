@@ -1,15 +1,13 @@
 -- The first of some siblings in a flat list, and those after it.
 use Rattle.std.proofs.Common.{◌≡◌, ℕ, ◌+◌, ◌-◌, ◌<◌, ◌≤◌, ◌&&◌, true, List, [], ◌∷◌, ◌++◌, take, drop, length, refl, sym, ap, ◌∙◌, arith, add-zero}
-use Rattle.std.proofs.lemmas.Bool.{and_parts}
-use Rattle.std.proofs.lemmas.List.{take-map, drop-map, length-append, length-map}
 use Rattle.std.proofs.Math.Seq.{take-append_seam, drop-append_seam}
+use Rattle.std.proofs.lemmas.{Bool.{and_parts}, List.{take-map, drop-map, length-append, length-map}}
 use Rattle.html_names_table.specs.NameTables.{NamesView}
 use Rattle.html_dom_tree.specs.Tree.{NodeView, tag_node, text_node, element_node, frame_node, NodesView, none, node}
-use Rattle.html_dom_flat.specs.Flat.{FlatNodeView, flat_tag, flat_text, flat_frame, flat_element, nodes_count, nodes_flat, spelled_nodes, IsSpelling, past_of}
-use Rattle.html_dom_flat.specs.FlatViews.{flat_node_view, flat_nodes_view, is_node_given, are_given}
-use Rattle.html_dom_flat.specs.Siblings.{node_with}
-use Rattle.html_dom_flat.specs.declared.flat_node.FlatNode.{FlatNode}
 use Rattle.html_dom_flat.proofs.Flats.{count_some, length_all, spelled_flat}
+use Rattle.html_dom_flat.specs.Flat.{FlatNodeView, flat_tag, flat_text, flat_frame, flat_element, nodes_count, nodes_flat, spelled_nodes, IsSpelling, past_of}
+use Rattle.html_dom_flat.specs.{FlatViews.{flat_node_view, flat_nodes_view, is_node_given, are_given}, Siblings.{node_with}}
+use Rattle.html_dom_flat.specs.declared.flat_node.FlatNode.{FlatNode}
 
 -- there are fewer nodes after the first
 pub fewer_after : {all ns : NodesView} {n : NodeView} → all ≡ node n ns →

@@ -1,20 +1,14 @@
 -- A table that gives more numbers leaves what was made with its numbers as it is.
 use Rattle.std.proofs.Common.{◌≡◌, ℕ, ◌<◌, true, List, [], ◌∷◌, ◌++◌, refl, ap, subst, sym, ◌∙◌, arith, map, length, Result, Ok, Err, String}
-use Rattle.std.proofs.lemmas.Bool.{ltb-true, lt-ltb, and_parts, and_from}
-use Rattle.std.proofs.lemmas.List.{map-append}
-use Rattle.std.proofs.lemmas.List.Folds.{list_all-append}
-use Rattle.std.specs.List.{list_all}
-use Rattle.std.specs.declared.alloc.Global.{Global}
-use Rattle.html_names_core.specs.Texts.{text_view, TextPair}
-use Rattle.html_names_table.specs.NameTables.{NamesView, Numbers, name_at, with_name, with_tag, with_attr}
-use Rattle.html_names_core.specs.declared.html_attr.HtmlAttr.{HtmlAttr}
+use Rattle.std.proofs.lemmas.{Bool.{ltb-true, lt-ltb, and_parts, and_from}, List.{map-append}, List.Folds.{list_all-append}}
+use Rattle.std.specs.{List.{list_all}, declared.alloc.Global.{Global}}
+use Rattle.html_names_core.specs.{Texts.{text_view, TextPair}, declared.html_attr.HtmlAttr.{HtmlAttr}}
 use Rattle.html_names_table.proofs.NameTables.{with_name-long, name_at-with_name, name_at-added}
+use Rattle.html_names_table.specs.NameTables.{NamesView, Numbers, name_at, with_name, with_tag, with_attr}
 use Rattle.html_dom_tree.specs.Views.{pair_view}
 use Rattle.html_dom_flat.specs.FlatViews.{FlatPair, flat_pair, flat_head, flat_node_view, flat_nodes_view, is_pair_given, is_given, is_node_given, are_given}
 use Rattle.html_dom_flat.specs.Numbering.{AreKept, Grows, ArePairsOf}
-use Rattle.html_dom_flat.specs.declared.flat_node.FlatElement.{FlatElement}
-use Rattle.html_dom_flat.specs.declared.flat_node.FlatNode.{FlatNode}
-use Rattle.html_dom_flat.specs.declared.flat_node.FlatNode.TheVariants.{Element}
+use Rattle.html_dom_flat.specs.declared.flat_node.{FlatElement.{FlatElement}, FlatNode.{FlatNode}, FlatNode.TheVariants.{Element}}
 
 kept_all : (names : List (List ℕ)) → AreKept names names
 kept_all names = λ number below. (below, refl)

@@ -1,11 +1,8 @@
 -- The stack at the start of a list holds the nodes that the list spells.
 use Rattle.std.proofs.Common.{◌≡◌, ℕ, zero, suc, ◌+◌, ◌-◌, ◌<◌, Bool, true, false, if◌then◌else◌, nat_lt, List, [], ◌∷◌, ◌++◌, refl, ap, subst, sym, ◌∙◌, arith, length, drop, get_or, None}
-use Rattle.std.proofs.lemmas.Bool.{ltb-true, lt-ltb}
-use Rattle.std.proofs.lemmas.List.{map-append, reverse-append}
+use Rattle.std.proofs.lemmas.{Bool.{ltb-true, lt-ltb}, List.{map-append, reverse-append}}
 use Rattle.html_names_table.specs.NameTables.{NamesView}
-use Rattle.html_dom_tree.specs.Tree.{NodeView, NodesView, none, node}
-use Rattle.html_dom_tree.specs.Views.{nodes_of}
-use Rattle.html_dom_tree.specs.declared.node.HtmlNode.{HtmlNode}
+use Rattle.html_dom_tree.specs.{Tree.{NodeView, NodesView, none, node}, Views.{nodes_of}, declared.node.HtmlNode.{HtmlNode}}
 use Rattle.html_dom_flat.specs.Flat.{FlatNodeView, flat_tag, flat_text, flat_frame, flat_element, node_count, nodes_count, front, back, spelled_nodes}
 use Rattle.html_dom_flat.specs.FlatViews.{flat_node_view, flat_nodes_view}
 use Rattle.html_dom_flat.specs.Stacks.{IndexedView, indexed_view, stack_view, stack_nodes, is_top_before, stacked_before, IsPopped, rest_after, made_of, list_stack}

@@ -1,8 +1,6 @@
 -- The list of a flat tree while it is built.
 use Rattle.std.specs.Prelude.{ℕ, List, vec_len}
-use Rattle.html_dom_flat.specs.Flat.{FlatNodeView}
-use Rattle.html_dom_flat.specs.FlatViews.{flat_nodes_view}
-use Rattle.html_dom_flat.specs.declared.builder.Builder.{Builder}
+use Rattle.html_dom_flat.specs.{Flat.{FlatNodeView}, FlatViews.{flat_nodes_view}, declared.builder.Builder.{Builder}}
 
 abbrev pub builder_view : Builder → List FlatNodeView
 builder_view builder = flat_nodes_view builder.names builder.nodes.items

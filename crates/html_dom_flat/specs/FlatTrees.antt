@@ -1,10 +1,8 @@
 -- The nodes that a flat tree spells.
 use Rattle.std.specs.Prelude.{◌≡◌, true, List, length}
 use Rattle.html_dom_tree.specs.Tree.{NodesView}
-use Rattle.html_dom_flat.specs.Flat.{FlatNodeView, nodes_count, nodes_flat, spelled_nodes}
-use Rattle.html_dom_flat.specs.FlatViews.{flat_nodes_view, are_given}
-use Rattle.html_dom_flat.specs.declared.flat_node.FlatNode.{FlatNode}
-use Rattle.html_dom_flat.specs.declared.flat_tree.FlatTree.{FlatTree}
+use Rattle.html_dom_flat.specs.{Flat.{FlatNodeView, nodes_count, nodes_flat, spelled_nodes}, FlatViews.{flat_nodes_view, are_given}}
+use Rattle.html_dom_flat.specs.declared.{flat_node.FlatNode.{FlatNode}, flat_tree.FlatTree.{FlatTree}}
 
 abbrev pub tree_view : FlatTree → List FlatNodeView
 tree_view tree = flat_nodes_view tree.names tree.nodes.items

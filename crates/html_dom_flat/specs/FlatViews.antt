@@ -1,15 +1,11 @@
 -- The pure values of nodes in a list, given the name table to which their numbers refer.
-use Rattle.std.specs.Prelude.{ℕ, Bool, true, ◌&&◌, nat_lt, List, map, length, option_map, String}
-use Rattle.std.specs.List.{list_all}
+use Rattle.std.specs.{List.{list_all}, Prelude.{ℕ, Bool, true, ◌&&◌, nat_lt, List, map, length, option_map, String}}
 use Rattle.std.specs.declared.alloc.Global.{Global}
 use Rattle.html_names_core.specs.Texts.{text_view, TextPair}
 use Rattle.html_names_table.specs.NameTables.{NamesView, name_at}
-use Rattle.html_dom_tree.specs.FrameViews.{html_frame_view}
-use Rattle.html_dom_tree.specs.Views.{tag_view}
-use Rattle.html_dom_tree.specs.Tree.{Head}
+use Rattle.html_dom_tree.specs.{FrameViews.{html_frame_view}, Tree.{Head}, Views.{tag_view}}
 use Rattle.html_dom_flat.specs.Flat.{FlatNodeView, flat_tag, flat_text, flat_frame, flat_element}
-use Rattle.html_dom_flat.specs.declared.flat_node.FlatElement.{FlatElement}
-use Rattle.html_dom_flat.specs.declared.flat_node.FlatNode.{FlatNode}
+use Rattle.html_dom_flat.specs.declared.flat_node.{FlatElement.{FlatElement}, FlatNode.{FlatNode}}
 use Rattle.html_dom_flat.specs.declared.flat_node.FlatNode.TheVariants.{Tag, Text, Frame, Element}
 
 -- the number of an attribute's name, and its value

@@ -1,10 +1,8 @@
 -- Names that keep their numbers when a table grows, and values with its numbers.
-use Rattle.std.specs.Prelude.{◌≡◌, ℕ, true, ◌<◌, List, map, length}
-use Rattle.std.specs.List.{list_all}
+use Rattle.std.specs.{List.{list_all}, Prelude.{◌≡◌, ℕ, true, ◌<◌, List, map, length}}
 use Rattle.html_names_table.specs.NameTables.{NamesView, name_at}
 use Rattle.html_dom_tree.specs.Tree.{TextPair}
-use Rattle.html_dom_flat.specs.FlatViews.{FlatPair, flat_pair, is_pair_given}
-use Rattle.html_dom_flat.specs.declared.flat_node.FlatNode.{FlatNode}
+use Rattle.html_dom_flat.specs.{FlatViews.{FlatPair, flat_pair, is_pair_given}, declared.flat_node.FlatNode.{FlatNode}}
 use Rattle.html_dom_flat.specs.declared.flat_node.FlatNode.TheVariants.{Tag, Text, Frame, Element}
 
 -- each number keeps its name

@@ -1,9 +1,7 @@
 -- Equal nodes of a list are equal in one way.
 use Rattle.std.proofs.Props.{props}
 use mathlib.Core.HLevel.{hedberg}
-use Rattle.html_dom_tree.specs.FrameEqual.{tag_discrete, html_frame_discrete}
-use Rattle.html_dom_tree.specs.Tree.{TagView, Head}
-use Rattle.html_dom_tree.specs.Frames.{HtmlFrameView}
+use Rattle.html_dom_tree.specs.{FrameEqual.{tag_discrete, html_frame_discrete}, Frames.{HtmlFrameView}, Tree.{TagView, Head}}
 use Rattle.html_dom_flat.specs.Flat.{FlatNodeView, FlatNodeView-set}
 
 tag_is_set : IsSet TagView

@@ -5,9 +5,7 @@ use Rattle.html_dom_tree.specs.FrameViews.{html_frame_view}
 use Rattle.html_dom_tree.specs.Tree.{Head, NodeView, tag_node, text_node, element_node, frame_node, NodesView, none, node, ElementView}
 use Rattle.html_dom_tree.specs.Views.{tag_view}
 use Rattle.html_dom_flat.specs.Flat.{FlatNodeView, flat_tag, flat_text, flat_frame, flat_element, spelled_nodes}
-use Rattle.html_dom_flat.specs.FlatViews.{flat_head, flat_nodes_view}
-use Rattle.html_dom_flat.specs.declared.siblings.Element.{Element}
-use Rattle.html_dom_flat.specs.declared.siblings.Node.{Node}
+use Rattle.html_dom_flat.specs.{FlatViews.{flat_head, flat_nodes_view}, declared.siblings.Element.{Element}, declared.siblings.Node.{Node}}
 use Rattle.html_dom_flat.specs.declared.siblings.Node.TheVariants as kind
 use Rattle.html_dom_flat.specs.declared.siblings.Siblings.{Siblings}
 

@@ -1,8 +1,7 @@
 -- A walk through a list from its end: the nodes that are made and belong to no element yet are on a
 -- stack, each with its index, the first of them on top.
 use Rattle.std.specs.Prelude.{◌≡◌, ℕ, ◌+◌, Bool, true, false, nat_lt, if◌then◌else◌, List, [], ◌∷◌, map, reverse, Option, Some, None}
-use Rattle.html_dom_tree.specs.Tree.{NodeView, tag_node, text_node, element_node, frame_node, NodesView}
-use Rattle.html_dom_tree.specs.Views.{node_view, nodes_of}
+use Rattle.html_dom_tree.specs.{Tree.{NodeView, tag_node, text_node, element_node, frame_node, NodesView}, Views.{node_view, nodes_of}}
 use Rattle.html_dom_tree.specs.declared.node.HtmlNode.{HtmlNode}
 use Rattle.html_dom_flat.specs.Flat.{FlatNodeView, flat_tag, flat_text, flat_frame, flat_element}
 

@@ -24,17 +24,11 @@ pub struct Builder {
 
 impl Builder {
     ghost use Rattle.std.specs.Prelude.{◌+◌, ◌<◌, [], ◌∷◌, ◌++◌, IfOk, OnOk, vec_len};
-    ghost use Rattle.html_dom_tree.specs.FrameViews.{html_frame_view};
-    ghost use Rattle.html_dom_tree.specs.Tree.{plain_head};
+    ghost use Rattle.html_dom_tree.specs.{FrameViews.{html_frame_view}, Tree.{plain_head}};
     ghost use Rattle.html_dom_tree.specs.Views.{attrs_view, node_view, element_view, nodes_view, tag_view, text_view};
-    ghost use Rattle.html_dom_flat.specs.Flat.{node_count, nodes_count, node_flat, nodes_flat, element_flat};
-    ghost use Rattle.html_dom_flat.specs.Flat.{flat_tag, flat_text, flat_frame, flat_element};
-    ghost use Rattle.html_dom_flat.specs.FlatViews.{flat_node_view, is_node_given};
-    ghost use Rattle.html_dom_flat.specs.Flat.{IsSpelling, spelled_nodes};
-    ghost use Rattle.html_dom_flat.specs.FlatTrees.{tree_nodes};
-    ghost use Rattle.html_dom_flat.specs.Builders.{builder_view};
-    ghost use Rattle.html_dom_flat.specs.ClosedElements.{closed_at};
-    ghost use Rattle.html_dom_flat.specs.Numbering.{AreNumbersOf};
+    ghost use Rattle.html_dom_flat.specs.{Builders.{builder_view}, ClosedElements.{closed_at}};
+    ghost use Rattle.html_dom_flat.specs.Flat.{node_count, nodes_count, node_flat, nodes_flat, element_flat, flat_tag, flat_text, flat_frame, flat_element, IsSpelling, spelled_nodes};
+    ghost use Rattle.html_dom_flat.specs.{FlatTrees.{tree_nodes}, FlatViews.{flat_node_view, is_node_given}, Numbering.{AreNumbersOf}};
 
     /// Creates an empty list.
     pub fn new(alloc: Global) -> Builder

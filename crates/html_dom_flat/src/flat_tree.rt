@@ -1,10 +1,7 @@
 //! The flat tree: its list of nodes and its name table, made from nodes that are copied.
 
-ghost use Rattle.std.specs.Prelude.{◌≡◌, true};
-ghost use Rattle.std.proofs.Props.{props};
-ghost use Rattle.html_dom_flat.specs.Flat.{IsSpelling};
-ghost use Rattle.html_dom_flat.specs.FlatViews.{flat_nodes_view, are_given};
-ghost use Rattle.html_dom_flat.specs.Sets.{flat_node_is_set};
+ghost use Rattle.std.{proofs.Props.{props}, specs.Prelude.{◌≡◌, true}};
+ghost use Rattle.html_dom_flat.specs.{Flat.{IsSpelling}, FlatViews.{flat_nodes_view, are_given}, Sets.{flat_node_is_set}};
 
 use crate::builder::{Builder, nodes_room};
 use crate::flat_node::FlatNode;
@@ -45,8 +42,7 @@ pub struct FlatTree {
 
 impl FlatTree {
     ghost use Rattle.std.specs.Prelude.{IfOk};
-    ghost use Rattle.html_dom_tree.specs.Tree.{node, none, element_node};
-    ghost use Rattle.html_dom_tree.specs.Views.{element_view, nodes_view};
+    ghost use Rattle.html_dom_tree.specs.{Tree.{node, none, element_node}, Views.{element_view, nodes_view}};
     ghost use Rattle.html_dom_flat.specs.FlatTrees.{tree_nodes, IsListOf};
 
     /// Creates the list of these nodes and all below them, which are copied. Fails only if an

@@ -1,8 +1,7 @@
 //! The list of a tree that is consumed.
 
 ghost use Rattle.std.specs.Prelude.{◌≡◌, IfOk};
-ghost use Rattle.html_dom_tree.specs.Tree.{node, none, element_node};
-ghost use Rattle.html_dom_tree.specs.Views.{element_view};
+ghost use Rattle.html_dom_tree.specs.{Tree.{node, none, element_node}, Views.{element_view}};
 ghost use Rattle.html_dom_flat.specs.FlatTrees.{tree_nodes};
 
 use crate::builder::{Builder, nodes_room};

@@ -1,10 +1,8 @@
 //! Parts of a flat tree.
 
-ghost use Rattle.std.specs.Prelude.{◌≡◌, ◌+◌, ◌<◌, ◌^◌, true, length};
-ghost use Rattle.std.proofs.Props.{props};
+ghost use Rattle.std.{proofs.Props.{props}, specs.Prelude.{◌≡◌, ◌+◌, ◌<◌, ◌^◌, true, length}};
 ghost use Rattle.html_names_table.specs.NameTables.{NamesView};
-ghost use Rattle.html_dom_flat.specs.Flat.{IsSpelling, past_of};
-ghost use Rattle.html_dom_flat.specs.FlatViews.{flat_node_view, flat_nodes_view, are_given, is_given};
+ghost use Rattle.html_dom_flat.specs.{Flat.{IsSpelling, past_of}, FlatViews.{flat_node_view, flat_nodes_view, are_given, is_given}};
 ghost use Rattle.html_dom_flat.specs.Sets.{flat_node_is_set};
 
 use crate::flat_node::{FlatElement, FlatNode};
@@ -52,8 +50,7 @@ pub struct Element<'a> {
 }
 
 impl<'a> Siblings<'a> {
-    ghost use Rattle.html_dom_flat.specs.FlatTrees.{tree_nodes};
-    ghost use Rattle.html_dom_flat.specs.Siblings.{siblings_view, SplitsFirst};
+    ghost use Rattle.html_dom_flat.specs.{FlatTrees.{tree_nodes}, Siblings.{siblings_view, SplitsFirst}};
 
     /// Returns the nodes of a tree that are inside no other node.
     pub fn of(tree: &'a FlatTree) -> Siblings<'a>
@@ -94,8 +91,7 @@ impl<'a> Siblings<'a> {
 }
 
 impl<'a> Node<'a> {
-    ghost use Rattle.html_dom_flat.specs.FlatViews.{is_node_given};
-    ghost use Rattle.html_dom_flat.specs.Siblings.{node_view, node_with, siblings_view};
+    ghost use Rattle.html_dom_flat.specs.{FlatViews.{is_node_given}, Siblings.{node_view, node_with, siblings_view}};
 
     #[inline(always)]
     fn new(flat: &'a FlatNode, children: Siblings<'a>) -> Node<'a>
@@ -114,11 +110,9 @@ impl<'a> Node<'a> {
 }
 
 impl<'a> Element<'a> {
-    ghost use Rattle.std.specs.Prelude.{map};
-    ghost use Rattle.std.specs.List.{list_all};
+    ghost use Rattle.std.specs.{List.{list_all}, Prelude.{map}};
     ghost use Rattle.html_names_table.specs.NameTables.{name_at};
-    ghost use Rattle.html_dom_flat.specs.FlatViews.{flat_pair, is_pair_given};
-    ghost use Rattle.html_dom_flat.specs.Siblings.{head_view};
+    ghost use Rattle.html_dom_flat.specs.{FlatViews.{flat_pair, is_pair_given}, Siblings.{head_view}};
 
     /// Returns the name table to which the numbers of its names refer.
     pub fn names(&self) -> &'a NameTable

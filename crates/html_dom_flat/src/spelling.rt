@@ -1,7 +1,6 @@
 //! The nodes that a flat tree's list spells. They are made from the end of the list to its start.
 
-ghost use Rattle.std.specs.Prelude.{◌≡◌, true, IfOk, OnOk, map, option_map};
-ghost use Rattle.std.specs.List.{list_all};
+ghost use Rattle.std.specs.{List.{list_all}, Prelude.{◌≡◌, true, IfOk, OnOk, map, option_map}};
 ghost use Rattle.html_dom_tree.specs.Views.{attrs_view, node_view, element_view, nodes_view};
 ghost use Rattle.html_dom_flat.specs.Flat.{spelled_nodes};
 ghost use Rattle.html_dom_flat.specs.FlatViews.{flat_pair, flat_head, flat_node_view, flat_nodes_view, is_pair_given, is_given, is_node_given, are_given};

@@ -1,12 +1,9 @@
 -- What is visible of plain trees once white space has collapsed: CSS Text, white space processing,
 -- as this project states it. Each blank is judged by its neighbours alone.
 use Rattle.std.specs.Prelude.{ℕ, Bool, true, false, ◌||◌, ◌&&◌, List, [], ◌∷◌, ◌++◌, if◌then◌else◌, codes, bytes_eq}
-use Rattle.html_names_core.specs.Characters.{is_blank, is_ignorable}
-use Rattle.html_names_core.specs.Displays.{default_display}
+use Rattle.html_names_core.specs.{Characters.{is_blank, is_ignorable}, Displays.{default_display}}
 use Rattle.html_names_core.specs.Kinds.{is_replaced, is_line_break, shows_border}
-use Rattle.html_dom_tree.specs.Attributes.{first}
-use Rattle.html_dom_tree.specs.PlainTree.{words, branch, Plains, no_plains, plain}
-use Rattle.html_dom_tree.specs.Tree.{TextPair}
+use Rattle.html_dom_tree.specs.{Attributes.{first}, PlainTree.{words, branch, Plains, no_plains, plain}, Tree.{TextPair}}
 use Rattle.html_dom_shown.specs.Values.{is_text}
 
 pub data Atom : Type 0 where

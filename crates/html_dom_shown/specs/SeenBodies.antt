@@ -1,8 +1,7 @@
 -- What is visible of the body of a plain tree.
 use Rattle.std.specs.Prelude.{false, List, Option, Some, None}
 use Rattle.html_dom_tree.specs.PlainTree.{Plain, Plains}
-use Rattle.html_dom_shown.specs.Bodies.{tree_body}
-use Rattle.html_dom_shown.specs.Collapsing.{Piece, plains_atoms, collapsed_pieces}
+use Rattle.html_dom_shown.specs.{Bodies.{tree_body}, Collapsing.{Piece, plains_atoms, collapsed_pieces}}
 
 abbrev pub seen_plains : Plains → List Piece
 seen_plains ps = collapsed_pieces (plains_atoms false ps)

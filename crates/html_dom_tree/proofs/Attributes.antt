@@ -3,9 +3,7 @@
 use Rattle.std.proofs.Common.{◌≡◌, ℕ, ◌+◌, ◌<◌, ◌≤◌, Bool, true, false, List, [], ◌∷◌, ◌++◌, length, map, get_or, set, bytes_eq, Option, Some, None, String, Global, refl, ap, sym, arith, add-one}
 use Rattle.std.specs.Prelude.{if◌then◌else◌, is_some}
 use Rattle.html_names_core.specs.declared.html_attr.HtmlAttr.{HtmlAttr}
-use Rattle.html_dom_tree.specs.Attributes.{first, place, with_set, with_value}
-use Rattle.html_dom_tree.specs.Tree.{TextPair}
-use Rattle.html_dom_tree.specs.Views.{text_view, pair_view}
+use Rattle.html_dom_tree.specs.{Attributes.{first, place, with_set, with_value}, Tree.{TextPair}, Views.{text_view, pair_view}}
 
 abbrev pub Item : Type 0
 Item = HtmlAttr × String Global

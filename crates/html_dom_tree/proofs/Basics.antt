@@ -1,14 +1,9 @@
 -- General facts about nodes as they are seen, plain nodes, and values that may be there.
 use Rattle.std.proofs.Common.{◌≡◌, ℕ, List, [], ◌∷◌, ◌++◌, Option, Some, None, String, Global, refl, sym, ap, append_assoc, append-nil, rules}
 use Rattle.html_names_core.specs.Texts.{text_view}
-use Rattle.html_dom_tree.specs.Attributes.{or_else}
-use Rattle.html_dom_tree.specs.FrameViews.{tag_view}
-use Rattle.html_dom_tree.specs.PlainTree.{words, branch, Plains, no_plains, plain, put_words}
-use Rattle.html_dom_tree.specs.Tree.{tag_node, text_node, element_node}
-use Rattle.html_dom_tree.specs.Views.{node_view, element_view}
-use Rattle.html_dom_tree.specs.declared.introspection.Tag.{Tag}
-use Rattle.html_dom_tree.specs.declared.node.HtmlElement.{HtmlElement}
-use Rattle.html_dom_tree.specs.declared.node.HtmlNode.{HtmlNode, the_lemmas}
+use Rattle.html_dom_tree.specs.{Attributes.{or_else}, FrameViews.{tag_view}, PlainTree.{words, branch, Plains, no_plains, plain, put_words}}
+use Rattle.html_dom_tree.specs.{Tree.{tag_node, text_node, element_node}, Views.{node_view, element_view}, declared.introspection.Tag.{Tag}}
+use Rattle.html_dom_tree.specs.declared.node.{HtmlElement.{HtmlElement}, HtmlNode.{HtmlNode, the_lemmas}}
 use Rattle.html_dom_tree.specs.declared.node.HtmlNode as HtmlNode
 use Rattle.html_dom_tree.specs.declared.span.Span.{Span}
 

@@ -1,8 +1,6 @@
 -- Lists of nodes with one view are equally long.
 use Rattle.std.proofs.Common.{◌≡◌, ℕ, suc, List, [], ◌∷◌, length, ap, refl}
-use Rattle.html_dom_tree.specs.Tree.{NodesView, none, node}
-use Rattle.html_dom_tree.specs.Views.{nodes_view}
-use Rattle.html_dom_tree.specs.declared.node.HtmlNode.{HtmlNode}
+use Rattle.html_dom_tree.specs.{Tree.{NodesView, none, node}, Views.{nodes_view}, declared.node.HtmlNode.{HtmlNode}}
 
 abbrev count : NodesView → ℕ
 count none = 0

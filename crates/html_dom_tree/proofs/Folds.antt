@@ -1,10 +1,9 @@
 -- The laws of folding attribute lists.
 use Rattle.std.proofs.Common.{◌≡◌, ℕ, Bool, true, false, not, List, [], ◌∷◌, ◌++◌, bytes_eq, Option, Some, None, refl, sym, ap, ◌∙◌}
-use Rattle.std.specs.Prelude.{if◌then◌else◌, is_some}
-use Rattle.std.proofs.lemmas.Bool.{and_parts, and_from, false≢true, not-true}
-use Rattle.html_dom_tree.specs.Tree.{TextPair}
-use Rattle.html_dom_tree.specs.Attributes.{first, has_name, with_new, union, names_differ, or_else, FindsInnerFirst, IsAssociative, KeepsOnNothing, DropsRepeats}
+use Rattle.std.{proofs.lemmas.Bool.{and_parts, and_from, false≢true, not-true}, specs.Prelude.{if◌then◌else◌, is_some}}
 use Rattle.html_dom_tree.proofs.Basics.{or_else-assoc, or_else-none}
+use Rattle.html_dom_tree.specs.Attributes.{first, has_name, with_new, union, names_differ, or_else, FindsInnerFirst, IsAssociative, KeepsOnNothing, DropsRepeats}
+use Rattle.html_dom_tree.specs.Tree.{TextPair}
 use Rattle.html_names_core.proofs.Basics.{bytes_eq-same, bytes_eq-sym, none_from_not_some}
 
 one_by : (is_name : Bool) (value : List ℕ) (rest other : Option (List ℕ)) →

@@ -1,9 +1,7 @@
 -- Lists of items with one view are equally long.
 use Rattle.std.proofs.Common.{◌≡◌, ℕ, suc, List, [], ◌∷◌, length, ap, refl}
-use Rattle.html_dom_tree.specs.Frames.{FrameItemsView, no_frame_items, placed_item}
-use Rattle.html_dom_tree.specs.FrameViews.{frame_items_view}
-use Rattle.html_dom_tree.specs.declared.frame.Point.{Point}
-use Rattle.html_dom_tree.specs.declared.frame.FrameItem.{FrameItem}
+use Rattle.html_dom_tree.specs.{FrameViews.{frame_items_view}, Frames.{FrameItemsView, no_frame_items, placed_item}}
+use Rattle.html_dom_tree.specs.declared.frame.{FrameItem.{FrameItem}, Point.{Point}}
 
 abbrev count : FrameItemsView → ℕ
 count no_frame_items = 0

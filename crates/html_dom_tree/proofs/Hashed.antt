@@ -4,9 +4,7 @@ use Rattle.std.specs.Hash as fed
 use Rattle.std.proofs.lemmas.Str.{IsUtf8-string_bytes, encodes-chars}
 use lib.Utf8.{encodes}
 use Rattle.html_names_core.proofs.Equals as equals
-use Rattle.html_dom_tree.specs.Hashes.{pair_writes, pairs_writes}
-use Rattle.html_dom_tree.specs.Views.{pair_view}
-use Rattle.html_dom_tree.proofs.Attributes.{Item}
+use Rattle.html_dom_tree.{proofs.Attributes.{Item}, specs.Hashes.{pair_writes, pairs_writes}, specs.Views.{pair_view}}
 
 abbrev item_fed : Item → fed.HashWrites
 item_fed p = fed.str (encodes p.0) ++ fed.str (string_bytes p.1)

@@ -1,8 +1,6 @@
 -- Lists of nodes: from a place on, and with one more.
 use Rattle.std.proofs.Common.{◌≡◌, ℕ, ◌+◌, ◌<◌, List, [], ◌∷◌, ◌++◌, drop, get_or, length, refl, ap}
-use Rattle.html_dom_tree.specs.Tree.{node, with_last}
-use Rattle.html_dom_tree.specs.Views.{node_view, nodes_view}
-use Rattle.html_dom_tree.specs.declared.node.HtmlNode.{HtmlNode}
+use Rattle.html_dom_tree.specs.{Tree.{node, with_last}, Views.{node_view, nodes_view}, declared.node.HtmlNode.{HtmlNode}}
 use Rattle.html_names_core.proofs.Basics.{from_place}
 
 pub nodes_view-drop : (ns : List HtmlNode) (i : ℕ) (x : HtmlNode) →

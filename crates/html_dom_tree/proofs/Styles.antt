@@ -2,9 +2,7 @@
 use Rattle.std.proofs.Common.{◌≡◌, ℕ, ◌<◌, List, [], ◌∷◌, ◌++◌, length, map, codes, chars, IsUtf8, refl, sym, ap, ◌∙◌, arith}
 use Rattle.std.proofs.lemmas.Str.{chars-nil, encodes-chars}
 use lib.Utf8.{encodes}
-use Rattle.html_dom_tree.specs.Tree.{NodeView, node}
-use Rattle.html_dom_tree.specs.Views.{nodes_of}
-use Rattle.html_dom_tree.specs.Styled.{styled_node, styled_nodes, before_value}
+use Rattle.html_dom_tree.specs.{Styled.{styled_node, styled_nodes, before_value}, Tree.{NodeView, node}, Views.{nodes_of}}
 
 pub nodes_styled-nodes_of : (ns : List NodeView) →
     styled_nodes (nodes_of ns) ≡ nodes_of (map styled_node ns)

@@ -5,10 +5,9 @@ use lib.IntN.{ℤ_discrete}
 use mathlib.Core.List.{List-discrete}
 use mathlib.Core.HLevel.{×_discrete}
 use Rattle.std.proofs.Common.{ap}
-use Rattle.html_names_core.specs.Equal.{option_discrete, text_discrete, pairs_discrete}
-use Rattle.html_names_core.specs.Texts.{TextPair}
-use Rattle.html_dom_tree.specs.Tags.{TagView, TagView-discrete}
+use Rattle.html_names_core.specs.{Equal.{option_discrete, text_discrete, pairs_discrete}, Texts.{TextPair}}
 use Rattle.html_dom_tree.specs.Frames.{PointView, FrameView, FrameView-discrete, FrameItemView, FrameItemView-discrete, HtmlFrameView}
+use Rattle.html_dom_tree.specs.Tags.{TagView, TagView-discrete}
 
 pub tag_discrete : Discrete TagView
 tag_discrete =

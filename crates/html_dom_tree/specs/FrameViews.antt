@@ -1,15 +1,11 @@
 -- The pure values of tags, points and frames.
-use Rattle.std.specs.Prelude.{ℕ, List, [], ◌∷◌, map, Option, option_map, String}
-use Rattle.std.specs.declared.alloc.Global.{Global}
+use Rattle.std.specs.{Prelude.{ℕ, List, [], ◌∷◌, map, Option, option_map, String}, declared.alloc.Global.{Global}}
 use Rattle.html_dom_tree.specs.Frames.{PointView, FrameView, frame, FrameItemsView, no_frame_items, placed_item, FrameItemView, tag_item, group_item, link_item, other_item, HtmlFrameView}
-use Rattle.html_names_core.specs.Texts.{text_view}
 use Rattle.html_dom_tree.specs.Tags.{TagView, starts, ends}
-use Rattle.html_dom_tree.specs.declared.introspection.Tag.{Tag}
+use Rattle.html_dom_tree.specs.declared.frame.{Frame.{Frame, Frame-F}, FrameItem.{FrameItem, FrameItem-F, fold-FrameItem}}
+use Rattle.html_dom_tree.specs.declared.{frame.HtmlFrame.{HtmlFrame}, frame.Point.{Point}, introspection.Tag.{Tag}}
 use Rattle.html_dom_tree.specs.declared.introspection.Tag.TheVariants.{Start, End}
-use Rattle.html_dom_tree.specs.declared.frame.Point.{Point}
-use Rattle.html_dom_tree.specs.declared.frame.HtmlFrame.{HtmlFrame}
-use Rattle.html_dom_tree.specs.declared.frame.Frame.{Frame, Frame-F}
-use Rattle.html_dom_tree.specs.declared.frame.FrameItem.{FrameItem, FrameItem-F, fold-FrameItem}
+use Rattle.html_names_core.specs.Texts.{text_view}
 
 abbrev pub optional_text_view : Option (String Global) → Option (List ℕ)
 optional_text_view = option_map text_view

@@ -1,8 +1,6 @@
 -- An attribute list after a mutable borrow of one of its values has ended.
 use denote.RattleType.{RattleType}
-use Rattle.std.specs.Prelude.{ℕ, String, slice_index_or, []}
-use Rattle.std.specs.Vec.{with_item}
-use Rattle.std.specs.declared.alloc.Global.{Global}
+use Rattle.std.specs.{Prelude.{ℕ, String, slice_index_or, []}, Vec.{with_item}, declared.alloc.Global.{Global}}
 use Rattle.std.specs.contracts.alloc.Global as global
 use Rattle.std.specs.contracts.string.String as text
 use Rattle.std.specs.contracts.impls.GlobalAllocator.TheImpl.{ghosts}

@@ -3,8 +3,7 @@ use Rattle.std.specs.Prelude.{ℕ, List, [], ◌∷◌, ◌++◌, Bool, true, fa
 -- an attribute is a pair: its name and its value
 pub use Rattle.html_names_core.specs.Texts.{TextPair}
 pub use Rattle.html_dom_tree.specs.Tags.{TagView, TagView-discrete, starts, ends}
-use Rattle.html_dom_tree.specs.Attributes.{with_set}
-use Rattle.html_dom_tree.specs.Frames.{HtmlFrameView}
+use Rattle.html_dom_tree.specs.{Attributes.{with_set}, Frames.{HtmlFrameView}}
 
 -- an element without its children
 pub record Head : Type 0 where

@@ -1,14 +1,12 @@
 -- The pure values of attribute lists, nodes and elements.
-use Rattle.std.specs.Prelude.{List, [], ◌∷◌, map, option_map, String}
-use Rattle.std.specs.declared.alloc.Global.{Global}
+use Rattle.std.specs.{Prelude.{List, [], ◌∷◌, map, option_map, String}, declared.alloc.Global.{Global}}
 use Rattle.html_names_core.specs.declared.html_attr.HtmlAttr.{HtmlAttr}
 pub use Rattle.html_names_core.specs.Texts.{text_view}
 pub use Rattle.html_dom_tree.specs.FrameViews.{optional_text_view, tag_view}
 use Rattle.html_dom_tree.specs.FrameViews.{html_frame_view}
 use Rattle.html_dom_tree.specs.Tree.{TextPair, Head, NodeView, tag_node, text_node, element_node, frame_node, NodesView, none, node, ElementView}
 use Rattle.html_dom_tree.specs.declared.attrs.HtmlAttrs.{HtmlAttrs}
-use Rattle.html_dom_tree.specs.declared.node.HtmlElement.{HtmlElement, HtmlElement-F}
-use Rattle.html_dom_tree.specs.declared.node.HtmlNode.{HtmlNode, HtmlNode-F, fold-HtmlNode}
+use Rattle.html_dom_tree.specs.declared.node.{HtmlElement.{HtmlElement, HtmlElement-F}, HtmlNode.{HtmlNode, HtmlNode-F, fold-HtmlNode}}
 
 abbrev pub pair_view : HtmlAttr × String Global → TextPair
 pair_view p = (p.0, text_view p.1)

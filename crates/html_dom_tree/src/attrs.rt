@@ -1,8 +1,7 @@
 //! The attributes of an element, and how they are found, set and merged by name.
 
 ghost use Rattle.std.specs.Prelude.{◌≡◌, ◌↔◌, ◌++◌, ◌∷◌, [], IsTrue, OnOk, OnErr, IfErr, IfOk, map, option_map, is_some};
-ghost use Rattle.html_dom_tree.specs.Views.{text_view, pair_view, attrs_view};
-ghost use Rattle.html_dom_tree.specs.Attributes.{first, has_name, place, union, with_set};
+ghost use Rattle.html_dom_tree.specs.{Attributes.{first, has_name, place, union, with_set}, Views.{text_view, pair_view, attrs_view}};
 
 use crate::text::same_text;
 use html_names_core::room::push_compact;
@@ -18,11 +17,8 @@ use std::hash::{Hash, Hasher};
 pub struct HtmlAttrs(pub Vec<(HtmlAttr, String)>);
 
 impl HtmlAttrs {
-    ghost use Rattle.std.specs.Prelude.{OnSome, ◌<◌, vec_len, slice_index_or};
-    ghost use Rattle.std.specs.Borrow.{Lends, LendsSo, sem};
-    ghost use Rattle.html_dom_tree.specs.Attributes.{with_value};
-    ghost use Rattle.html_dom_tree.specs.Lending.{text_row, with_text_at};
-    ghost use Rattle.html_dom_tree.specs.contracts.attrs.HtmlAttrs.{the_row};
+    ghost use Rattle.std.specs.{Borrow.{Lends, LendsSo, sem}, Prelude.{OnSome, ◌<◌, vec_len, slice_index_or}};
+    ghost use Rattle.html_dom_tree.specs.{Attributes.{with_value}, Lending.{text_row, with_text_at}, contracts.attrs.HtmlAttrs.{the_row}};
 
     /// Creates an empty list.
     pub fn new(alloc: Global) -> HtmlAttrs

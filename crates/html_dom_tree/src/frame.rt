@@ -1,8 +1,8 @@
 //! Laid-out frames with their items, and what the tree adds to a frame: an `id`, css and anchors.
 
 ghost use Rattle.std.specs.Prelude.{◌≡◌, ◌↔◌, IsTrue, IfOk};
-ghost use Rattle.html_dom_tree.specs.Frames.{new_html_frame};
 ghost use Rattle.html_dom_tree.specs.FrameViews.{frame_item_view, frame_view, frame_items_view, anchor_view, anchors_view, html_frame_view};
+ghost use Rattle.html_dom_tree.specs.Frames.{new_html_frame};
 
 use crate::introspection::{Location, Tag, same_tag};
 use crate::span::Span;
@@ -230,8 +230,7 @@ pub(crate) fn same_html_frame(a: &HtmlFrame, b: &HtmlFrame) -> bool
 
 impl PartialEq for Frame {
     ghost use Rattle.std.specs.Cmp.{partial_equiv_from_equiv};
-    ghost use Rattle.html_dom_tree.specs.NodeEqual.{same, same_equiv};
-    ghost use Rattle.html_dom_tree.specs.FrameEqual.{frame_discrete};
+    ghost use Rattle.html_dom_tree.specs.{FrameEqual.{frame_discrete}, NodeEqual.{same, same_equiv}};
 
     ghost eq = { same frame_view frame_discrete };
 
@@ -243,16 +242,14 @@ impl PartialEq for Frame {
 }
 
 impl Eq for Frame {
-    ghost use Rattle.html_dom_tree.specs.NodeEqual.{same_equiv};
-    ghost use Rattle.html_dom_tree.specs.FrameEqual.{frame_discrete};
+    ghost use Rattle.html_dom_tree.specs.{FrameEqual.{frame_discrete}, NodeEqual.{same_equiv}};
 
     ghost laws = { same_equiv frame_view frame_discrete };
 }
 
 impl PartialEq for FrameItem {
     ghost use Rattle.std.specs.Cmp.{partial_equiv_from_equiv};
-    ghost use Rattle.html_dom_tree.specs.NodeEqual.{same, same_equiv};
-    ghost use Rattle.html_dom_tree.specs.FrameEqual.{frame_item_discrete};
+    ghost use Rattle.html_dom_tree.specs.{FrameEqual.{frame_item_discrete}, NodeEqual.{same, same_equiv}};
 
     ghost eq = { same frame_item_view frame_item_discrete };
 
@@ -264,16 +261,14 @@ impl PartialEq for FrameItem {
 }
 
 impl Eq for FrameItem {
-    ghost use Rattle.html_dom_tree.specs.NodeEqual.{same_equiv};
-    ghost use Rattle.html_dom_tree.specs.FrameEqual.{frame_item_discrete};
+    ghost use Rattle.html_dom_tree.specs.{FrameEqual.{frame_item_discrete}, NodeEqual.{same_equiv}};
 
     ghost laws = { same_equiv frame_item_view frame_item_discrete };
 }
 
 impl PartialEq for HtmlFrame {
     ghost use Rattle.std.specs.Cmp.{partial_equiv_from_equiv};
-    ghost use Rattle.html_dom_tree.specs.NodeEqual.{same, same_equiv};
-    ghost use Rattle.html_dom_tree.specs.FrameEqual.{html_frame_discrete};
+    ghost use Rattle.html_dom_tree.specs.{FrameEqual.{html_frame_discrete}, NodeEqual.{same, same_equiv}};
 
     ghost eq = { same html_frame_view html_frame_discrete };
 
@@ -285,8 +280,7 @@ impl PartialEq for HtmlFrame {
 }
 
 impl Eq for HtmlFrame {
-    ghost use Rattle.html_dom_tree.specs.NodeEqual.{same_equiv};
-    ghost use Rattle.html_dom_tree.specs.FrameEqual.{html_frame_discrete};
+    ghost use Rattle.html_dom_tree.specs.{FrameEqual.{html_frame_discrete}, NodeEqual.{same_equiv}};
 
     ghost laws = { same_equiv html_frame_view html_frame_discrete };
 }

@@ -1,8 +1,8 @@
 //! The nodes of the tree, and elements with the methods that build them.
 
 ghost use Rattle.std.specs.Prelude.{◌≡◌, ◌↔◌, ◌++◌, ◌∷◌, [], IsTrue, OnOk, OnErr, IfOk, IfErr, chars};
-ghost use Rattle.html_dom_tree.specs.Tree.{new_element, with_node, with_pair, with_set_pair, is_tag, node_span, text_node, tag_node, element_node, frame_node};
 ghost use Rattle.html_dom_tree.specs.FrameViews.{html_frame_view};
+ghost use Rattle.html_dom_tree.specs.Tree.{new_element, with_node, with_pair, with_set_pair, is_tag, node_span, text_node, tag_node, element_node, frame_node};
 ghost use Rattle.html_dom_tree.specs.Views.{text_view, tag_view, node_view, element_view, nodes_view};
 
 use crate::attrs::{HtmlAttrs, same_attrs};

@@ -3,8 +3,8 @@
 ghost use Rattle.std.specs.Prelude.{◌≡◌, [], IfOk, OnOk, OnErr, codes};
 ghost use Rattle.html_values_css.specs.Properties.{inline_text};
 ghost use Rattle.html_dom_tree.specs.Attributes.{first};
-ghost use Rattle.html_dom_tree.specs.Views.{text_view, attrs_view, node_view, element_view, nodes_view};
 ghost use Rattle.html_dom_tree.specs.Styled.{before_value, attrs_with_style, styled_attrs, styled_node, styled_nodes, styled_element};
+ghost use Rattle.html_dom_tree.specs.Views.{text_view, attrs_view, node_view, element_view, nodes_view};
 
 use crate::attrs::HtmlAttrs;
 use crate::node::{HtmlElement, HtmlNode};

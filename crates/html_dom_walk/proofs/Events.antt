@@ -1,19 +1,13 @@
 -- The next of what a walk comes to.
 use Rattle.std.proofs.Common.{◌≡◌, ℕ, ◌+◌, ◌<◌, List, [], ◌∷◌, String, Global, drop, get_or, length, refl, sym, ap, ◌∙◌, add-one, rules}
 use Rattle.html_names_core.specs.Texts.{text_view}
-use Rattle.html_dom_tree.proofs.Basics.{node_view-Tag, node_view-Text, node_view-Element}
-use Rattle.html_dom_tree.proofs.Nodes.{nodes_view-drop}
-use Rattle.html_dom_tree.specs.FrameViews.{html_frame_view}
-use Rattle.html_dom_tree.specs.Tree.{frame_node}
-use Rattle.html_dom_tree.specs.Views.{head_of, node_view, nodes_view, tag_view}
-use Rattle.html_dom_tree.specs.declared.frame.HtmlFrame.{HtmlFrame}
-use Rattle.html_dom_tree.specs.declared.introspection.Tag.{Tag}
-use Rattle.html_dom_tree.specs.declared.node.HtmlElement.{HtmlElement}
-use Rattle.html_dom_tree.specs.declared.node.HtmlNode.{HtmlNode, the_lemmas}
+use Rattle.html_dom_tree.proofs.{Basics.{node_view-Tag, node_view-Text, node_view-Element}, Nodes.{nodes_view-drop}}
+use Rattle.html_dom_tree.specs.{FrameViews.{html_frame_view}, Tree.{frame_node}, Views.{head_of, node_view, nodes_view, tag_view}}
+use Rattle.html_dom_tree.specs.declared.{frame.HtmlFrame.{HtmlFrame}, introspection.Tag.{Tag}}
+use Rattle.html_dom_tree.specs.declared.node.{HtmlElement.{HtmlElement}, HtmlNode.{HtmlNode, the_lemmas}}
 use Rattle.html_dom_tree.specs.declared.node.HtmlNode as HtmlNode
 use Rattle.html_dom_tree.specs.declared.span.Span.{Span}
-use Rattle.html_dom_walk.specs.Events.{Placed, tag, text, frame, enter, leave, node_events, events_of}
-use Rattle.html_dom_walk.specs.Walks.{path_before}
+use Rattle.html_dom_walk.specs.{Events.{Placed, tag, text, frame, enter, leave, node_events, events_of}, Walks.{path_before}}
 
 -- with nodes left of which the first is at that index of a list
 module _ (parent : List ℕ) (ns : List HtmlNode) (i : ℕ) (n : HtmlNode) (later : List Placed)

@@ -1,8 +1,7 @@
 -- What a loop over a walk gathers is what a recursion over the tree gathers.
 use Rattle.std.proofs.Common.{◌≡◌, ℕ, suc, List, [], ◌∷◌, ◌++◌, refl, sym, ap, ◌∙◌, append_assoc}
 use Rattle.html_dom_tree.specs.Tree.{tag_node, text_node, element_node, frame_node, NodesView, none, node}
-use Rattle.html_dom_walk.specs.Events.{Event, tag, text, frame, enter, leave, events_of}
-use Rattle.html_dom_walk.specs.Gathered.{gathered, nodes_found, nodes_gathered}
+use Rattle.html_dom_walk.specs.{Events.{Event, tag, text, frame, enter, leave, events_of}, Gathered.{gathered, nodes_found, nodes_gathered}}
 use Rattle.html_dom_walk.specs.WalkLaws.{FoundIs, GatheredIs}
 
 module _ {A : Type 0} where

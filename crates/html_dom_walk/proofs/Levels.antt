@@ -1,8 +1,7 @@
 -- The path below the levels of open elements, one level more.
 use Rattle.std.proofs.Common.{◌≡◌, ℕ, ◌+◌, ◌<◌, List, [], ◌∷◌, ◌++◌, length, map, reverse, take, get_or, ap, ◌∙◌}
 use Rattle.std.proofs.lemmas.List.{reverse-append, take_more, map-append}
-use Rattle.html_dom_walk.specs.declared.walk.Level.{Level}
-use Rattle.html_dom_walk.specs.Walks.{level_view, path_before, path_in}
+use Rattle.html_dom_walk.specs.{Walks.{level_view, path_before, path_in}, declared.walk.Level.{Level}}
 
 pub path_more : (levels : List Level) (i : ℕ) (d : Level) → i < length levels →
     path_in (reverse (map level_view (take (i + 1) levels)))

@@ -1,8 +1,7 @@
 -- What is left if the rest of an element is left out, and how many elements are open.
 use Rattle.std.proofs.Common.{◌≡◌, ℕ, zero, suc, ◌-◌, ◌≤◌, List, [], ◌∷◌, ◌++◌, length, refl, ap, ◌∙◌, arith}
 use Rattle.html_dom_tree.specs.Tree.{tag_node, text_node, element_node, frame_node, NodesView, none, node}
-use Rattle.html_dom_walk.specs.Events.{Placed, tag, text, frame, enter, leave, events_of, from_end, ends}
-use Rattle.html_dom_walk.specs.WalkLaws.{SkipsBelow}
+use Rattle.html_dom_walk.specs.{Events.{Placed, tag, text, frame, enter, leave, events_of, from_end, ends}, WalkLaws.{SkipsBelow}}
 use Rattle.html_dom_walk.specs.Walks.{LevelView, events_after, path_in}
 
 -- nodes are whole: what is behind them counts

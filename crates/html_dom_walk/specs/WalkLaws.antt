@@ -1,8 +1,7 @@
 -- Laws of walks.
 use Rattle.std.specs.Prelude.{◌≡◌, ℕ, List, ◌∷◌, ◌++◌}
 use Rattle.html_dom_tree.specs.Tree.{NodesView}
-use Rattle.html_dom_walk.specs.Events.{Event, Placed, leave, events_of, from_end}
-use Rattle.html_dom_walk.specs.Gathered.{gathered, nodes_found, nodes_gathered}
+use Rattle.html_dom_walk.specs.{Events.{Event, Placed, leave, events_of, from_end}, Gathered.{gathered, nodes_found, nodes_gathered}}
 
 -- what is gathered of the events of nodes, and then of others, is what the recursion gathers of the
 -- nodes, and what is gathered of the others

@@ -1,12 +1,8 @@
 -- Walks as pure values: the events that are left, and the path of the last one.
 use Rattle.std.specs.Prelude.{◌≡◌, ℕ, zero, suc, List, [], ◌∷◌, ◌++◌, Option, None, Some, drop, length, map, reverse}
-use Rattle.html_dom_tree.specs.FrameViews.{html_frame_view}
-use Rattle.html_dom_tree.specs.Tree.{NodesView}
-use Rattle.html_dom_tree.specs.Views.{head_of, nodes_view, tag_view, text_view}
+use Rattle.html_dom_tree.specs.{FrameViews.{html_frame_view}, Tree.{NodesView}, Views.{head_of, nodes_view, tag_view, text_view}}
 use Rattle.html_dom_walk.specs.Events.{Event, Placed, tag, text, frame, enter, leave, events_of}
-use Rattle.html_dom_walk.specs.declared.walk.Above.{Above}
-use Rattle.html_dom_walk.specs.declared.walk.Level.{Level}
-use Rattle.html_dom_walk.specs.declared.walk.Visit.{Visit}
+use Rattle.html_dom_walk.specs.declared.walk.{Above.{Above}, Level.{Level}, Visit.{Visit}}
 use Rattle.html_dom_walk.specs.declared.walk.Visit.TheVariants as visit
 use Rattle.html_dom_walk.specs.declared.walk.Walk.{Walk}
 

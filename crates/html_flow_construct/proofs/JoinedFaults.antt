@@ -1,6 +1,5 @@
 -- Faults of casts that are not none are one fault.
-use Rattle.std.proofs.Common.{◌≡◌, ◌<◌, ◌∙◌, ◌++◌, ℕ, List, [], ◌∷◌, length, sym, ap, arith}
-use Rattle.std.proofs.lemmas.List.{append-nil}
+use Rattle.std.proofs.{Common.{◌≡◌, ◌<◌, ◌∙◌, ◌++◌, ℕ, List, [], ◌∷◌, length, sym, ap, arith}, lemmas.List.{append-nil}}
 use Rattle.html_dom_tree.specs.declared.span.Span.{Span}
 use Rattle.html_values_css.specs.declared.cast_fault.CastFault.{CastFault}
 use Rattle.html_flow_faults.specs.ConstructFaults.{cast_faults, faults_view}

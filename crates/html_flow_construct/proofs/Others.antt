@@ -1,10 +1,8 @@
 -- The arguments that a filter keeps are the others.
-use Rattle.std.proofs.Common.{◌≡◌, List, [], ◌∷◌, Bool, refl, ap, ◌∙◌, inl, inr}
+use Rattle.std.proofs.{Common.{◌≡◌, List, [], ◌∷◌, Bool, refl, ap, ◌∙◌, inl, inr}, lemmas.Bool.{cases_Bool}}
 use Rattle.std.specs.Prelude.{filter, not, is_some, option_map}
-use Rattle.std.proofs.lemmas.Bool.{cases_Bool}
 use Rattle.html_names_core.specs.Texts.{text_view}
-use Rattle.html_flow_construct.specs.declared.args.Arg.{Arg}
-use Rattle.html_flow_construct.specs.Construct.{Entry, args_view, arg_view, entry_for, other_args}
+use Rattle.html_flow_construct.specs.{Construct.{Entry, args_view, arg_view, entry_for, other_args}, declared.args.Arg.{Arg}}
 
 -- whether an argument is no attribute of the element
 abbrev pub is_other : List Entry → Arg → Bool

@@ -1,13 +1,11 @@
 -- The first argument without a name, and what is left without it.
 use Rattle.std.proofs.Common.{◌≡◌, ℕ, zero, suc, List, [], ◌∷◌, Bool, true, false, Option, None, Some, option_map, is_some, refl, ap, sym, ◌∙◌, inl, inr}
-use Rattle.std.specs.List.{remove}
-use Rattle.std.proofs.lemmas.Bool.{cases_Bool}
-use Rattle.std.proofs.lemmas.Option.{none-some, same_Some}
+use Rattle.std.{proofs.lemmas.Bool.{cases_Bool}, proofs.lemmas.Option.{none-some, same_Some}, specs.List.{remove}}
 use Rattle.html_names_core.specs.Kinds.{is_void, is_raw}
-use Rattle.html_flow_construct.specs.Construct.{ArgView, BodyChoice, arg_view, args_view, arg_body, choice_after, choice_faults, body_choice, choice_from, first_choice, takes}
 use Rattle.html_flow_construct.specs.ArgumentPieces.{arg_at, body_faults, unnamed_at}
-use Rattle.html_flow_convert.specs.Items.{BodyView, absent}
+use Rattle.html_flow_construct.specs.Construct.{ArgView, BodyChoice, arg_view, args_view, arg_body, choice_after, choice_faults, body_choice, choice_from, first_choice, takes}
 use Rattle.html_flow_construct.specs.declared.args.Arg.{Arg}
+use Rattle.html_flow_convert.specs.Items.{BodyView, absent}
 
 after-from : (a : ArgView) (body : Option BodyView) (span : ℕ) (left : List ArgView)
     → choice_after a (choice_from body span left) ≡ choice_from body span (a ∷ left)

@@ -1,22 +1,15 @@
 -- An element constructed from arguments: attributes from its typed arguments, and a body from the
 -- first argument without a name.
 use Rattle.std.specs.Prelude.{ℕ, List, [], ◌∷◌, ◌++◌, map, Bool, false, if◌then◌else◌, Option, None, Some, option_map, is_some, bytes_eq}
-use Rattle.html_names_core.specs.Kinds.{is_void, is_raw}
-use Rattle.html_names_core.specs.Texts.{TextPair, text_view}
-use Rattle.html_names_core.specs.declared.html_attr.HtmlAttr.{HtmlAttr}
-use Rattle.html_values.specs.Casts.{CastAnswer, gives, nothing, refuses, cast}
-use Rattle.html_values.specs.Types.{AttrTypeView, attr_type_view}
-use Rattle.html_values.specs.Values.{ValueView, none_value, str_value, value_view}
-use Rattle.html_values.specs.declared.attr_type.AttrType.{AttrType}
-use Rattle.html_values_css.specs.declared.cast_fault.CastFault.{CastFault}
-use Rattle.html_values_css.specs.declared.cast_fault.CastFault.TheVariants.{WrongKind}
+use Rattle.html_names_core.specs.{Kinds.{is_void, is_raw}, Texts.{TextPair, text_view}, declared.html_attr.HtmlAttr.{HtmlAttr}}
+use Rattle.html_values.specs.{Casts.{CastAnswer, gives, nothing, refuses, cast}, Types.{AttrTypeView, attr_type_view}}
+use Rattle.html_values.specs.{Values.{ValueView, none_value, str_value, value_view}, declared.attr_type.AttrType.{AttrType}}
+use Rattle.html_values_css.specs.declared.cast_fault.{CastFault.{CastFault}, CastFault.TheVariants.{WrongKind}}
 use Rattle.html_flow_faults.specs.ConstructFaults.{ConstructFaultView, cast_faults, body_kind}
 use Rattle.html_flow_convert.specs.Items.{ElemView, ItemsView, no_items, item, text_item, inherits, BodyView, absent, present, new_head}
 use Rattle.html_flow_convert.specs.Views.{items_view}
-use Rattle.html_flow_construct.specs.declared.args.ArgValue.{ArgValue}
+use Rattle.html_flow_construct.specs.declared.args.{Arg.{Arg}, ArgValue.{ArgValue}, ElementInfo.{ElementInfo}}
 use Rattle.html_flow_construct.specs.declared.args.ArgValue.TheVariants.{Plain, Body as Items}
-use Rattle.html_flow_construct.specs.declared.args.Arg.{Arg}
-use Rattle.html_flow_construct.specs.declared.args.ElementInfo.{ElementInfo}
 
 -- the content of an argument: a value or items
 pub data ArgValueView : Type 0 where

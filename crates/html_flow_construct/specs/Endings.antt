@@ -2,8 +2,7 @@
 -- or else the first fault. An allocation may fail before either.
 use Rattle.std.specs.Prelude.{List, Result}
 use Rattle.html_names_core.specs.Endings.{GivesBy}
-use Rattle.html_flow_faults.specs.ConstructFaults.{ConstructFaultView, IsFirst}
-use Rattle.html_flow_faults.specs.declared.construct_fault.ConstructFault.{ConstructFault}
+use Rattle.html_flow_faults.specs.{ConstructFaults.{ConstructFaultView, IsFirst}, declared.construct_fault.ConstructFault.{ConstructFault}}
 
 -- a call returns a value, or fails with the first fault
 abbrev pub Gives : {A B : Type 0} (view : A → B) → Result A ConstructFault → (value : B)

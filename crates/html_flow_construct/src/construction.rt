@@ -1,17 +1,14 @@
 //! The construction of an element from arguments, which are cast to the types of its attributes.
 
-ghost use Rattle.std.specs.Prelude.{◌≡◌, ◌<◌, [], length, IfSome, not, bytes_eq, chars, is_some, option_map, slice_index_or, OnOk, OnErr, Some, None};
 ghost use Rattle.std.specs.List.{remove};
-ghost use Rattle.html_names_core.specs.Kinds.{is_raw};
-ghost use Rattle.html_names_core.specs.Texts.{text_view};
+ghost use Rattle.std.specs.Prelude.{◌≡◌, ◌<◌, [], length, IfSome, not, bytes_eq, chars, is_some, option_map, slice_index_or, OnOk, OnErr, Some, None};
+ghost use Rattle.html_names_core.specs.{Kinds.{is_raw}, Texts.{text_view}};
 ghost use Rattle.html_dom_tree.specs.Views.{attrs_view};
+ghost use Rattle.html_flow_construct.specs.ArgumentPieces.{arg_at, body_faults, or_own, unnamed_at};
 ghost use Rattle.html_flow_construct.specs.Construct.{cast_answer, args_view, arg_body, attrs, choice_faults, construct_faults, construction, entries_view, entry_for, entry_view, faults, joined_faults, arg_value_view, other_args, body_choice, takes, text_items};
 ghost use Rattle.html_flow_construct.specs.Endings.{Gives};
-ghost use Rattle.html_flow_construct.specs.ArgumentPieces.{arg_at, body_faults, or_own, unnamed_at};
-ghost use Rattle.html_values.specs.Casts.{GivesCast, option_answer};
-ghost use Rattle.html_values.specs.Types.{attr_type_view};
-ghost use Rattle.html_flow_convert.specs.Items.{present};
-ghost use Rattle.html_flow_convert.specs.Views.{body_view, items_view, elem_view};
+ghost use Rattle.html_values.specs.{Casts.{GivesCast, option_answer}, Types.{attr_type_view}};
+ghost use Rattle.html_flow_convert.specs.{Items.{present}, Views.{body_view, items_view, elem_view}};
 
 use crate::args::{Arg, ArgValue, Args, ElementInfo};
 use html_dom_tree::{HtmlAttrs, Span};

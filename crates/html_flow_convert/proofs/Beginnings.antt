@@ -1,7 +1,6 @@
 -- Lists that grow by a beginning of what is to be added.
 use Rattle.std.proofs.Common.{◌≡◌, List, [], ◌++◌, take, length, refl, sym, ap, ◌∙◌, append-nil, append_assoc}
-use Rattle.std.proofs.lemmas.List.{append_cancel_left}
-use Rattle.std.proofs.Math.Seq.{take-append_seam}
+use Rattle.std.proofs.{Math.Seq.{take-append_seam}, lemmas.List.{append_cancel_left}}
 use Rattle.html_flow_convert.specs.Beginnings.{AddsBeginning}
 
 -- a list has the first of these, and perhaps more after them

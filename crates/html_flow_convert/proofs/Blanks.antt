@@ -1,10 +1,8 @@
 -- Runs of blanks, as they are found.
 use Rattle.std.proofs.Common.{◌≡◌, Bool, true, false, ◌||◌, List, [], ◌∷◌, ◌++◌, inl, inr, refl, ap, append_assoc, append-nil}
-use Rattle.std.proofs.lemmas.Bool.{cases_Bool, false≢true, true≢false, or_from}
+use Rattle.std.{proofs.lemmas.Bool.{cases_Bool, false≢true, true≢false, or_from}, specs.List.{filter}}
 use Rattle.html_dom_tree.specs.Tree.{NodeView, tag_node, text_node, element_node, frame_node, is_tag}
-use Rattle.std.specs.List.{filter}
-use Rattle.html_flow_convert.specs.Nodes.{is_one}
-use Rattle.html_flow_convert.specs.OpenRuns.{goes_on, has_kept_run}
+use Rattle.html_flow_convert.specs.{Nodes.{is_one}, OpenRuns.{goes_on, has_kept_run}}
 use Rattle.html_flow_convert.specs.Runs.{is_blank_node, are_kept, run_nodes, front_nodes, blank_front, after_front, nodes_with_runs}
 
 -- whether blanks are kept, after a space or at the start

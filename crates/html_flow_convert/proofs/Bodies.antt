@@ -1,14 +1,10 @@
 -- A body with one item more.
-use Rattle.std.proofs.Common.{◌≡◌, List, [], ◌∷◌, ◌++◌, Some, option_map, Vec, refl, ap, ◌∙◌}
-use Rattle.std.specs.declared.alloc.Global.{Global}
+use Rattle.std.{proofs.Common.{◌≡◌, List, [], ◌∷◌, ◌++◌, Some, option_map, Vec, refl, ap, ◌∙◌}, specs.declared.alloc.Global.{Global}}
 use Rattle.html_dom_tree.specs.Views.{attrs_view}
 use Rattle.html_flow_convert.specs.Items.{RoleView, ElemHead, ItemView, ElemView, item, present, with_last, with_last_item}
 use Rattle.html_flow_convert.specs.Views.{item_step, elem_step, pair_step, pair_view, items_view, elem_view}
-use Rattle.html_flow_convert.specs.declared.item.HtmlElem.{HtmlElem, HtmlElem-F, fold_out-HtmlElem}
-use Rattle.html_flow_convert.specs.declared.item.Item.{Item}
-use Rattle.html_flow_convert.specs.declared.item.Item.TheFolds.{fold-roll-HtmlElem}
-use Rattle.html_flow_convert.specs.declared.item.Item.TheViews.{out-HtmlElem, roll-HtmlElem}
-use Rattle.html_flow_convert.specs.declared.item.Pair.{Pair}
+use Rattle.html_flow_convert.specs.declared.item.{HtmlElem.{HtmlElem, HtmlElem-F, fold_out-HtmlElem}, Item.{Item}, Pair.{Pair}}
+use Rattle.html_flow_convert.specs.declared.item.Item.{TheFolds.{fold-roll-HtmlElem}, TheViews.{out-HtmlElem, roll-HtmlElem}}
 
 pub with_last_view : (ps : List Pair) (p : Pair) →
     items_view (ps ++ p ∷ []) ≡ with_last (items_view ps) (pair_view p)

@@ -1,15 +1,12 @@
 -- A list of items, one after the other: their nodes, and what of them stands too deep.
 use Rattle.std.proofs.Common.{◌≡◌, ℕ, List, [], ◌∷◌, ◌++◌, sym, ap, ◌∙◌, append_assoc, subst}
 use Rattle.html_dom_tree.specs.Tree.{NodeView}
-use Rattle.html_flow_convert.specs.Converted.{RoleText, item_role, item_nodes, items_nodes}
-use Rattle.html_flow_convert.specs.Depth.{item_too_deep, items_too_deep}
-use Rattle.html_flow_faults.specs.FlowFaults.{IsFirst}
+use Rattle.html_flow_convert.specs.{Converted.{RoleText, item_role, item_nodes, items_nodes}, Depth.{item_too_deep, items_too_deep}}
 use Rattle.html_flow_convert.specs.Items.{RoleView, ItemView, ElemView, ItemsView, item}
 use Rattle.html_flow_convert.specs.Views.{role_view, item_step, elem_step, pair_step, item_view, items_of, pair_view, pairs_view, items_view}
-use Rattle.html_flow_convert.specs.declared.convert.Whitespace.{Whitespace}
-use Rattle.html_flow_faults.specs.declared.fault.FlowFault.{FlowFault}
+use Rattle.html_flow_convert.specs.declared.{convert.Whitespace.{Whitespace}, item.Pair.{Pair, fold_out-Pair}}
+use Rattle.html_flow_faults.specs.{FlowFaults.{IsFirst}, declared.fault.FlowFault.{FlowFault}}
 use Rattle.html_flow_faults.specs.declared.fault.FlowFault.TheVariants.{OutOfMemory, TooDeep}
-use Rattle.html_flow_convert.specs.declared.item.Pair.{Pair, fold_out-Pair}
 
 -- the first of a list is the first of a longer one
 first_of_more : (e : FlowFault) (xs ys : List ℕ) → IsFirst e xs → IsFirst e (xs ++ ys)

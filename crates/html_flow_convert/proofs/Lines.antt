@@ -1,21 +1,16 @@
 -- Going through the things of a line one by one.
 use Rattle.std.proofs.Common.{◌≡◌, ℕ, ◌+◌, ◌-◌, ◌<◌, ◌≤◌, Bool, true, false, ◌&&◌, if◌then◌else◌, List, [], ◌∷◌, ◌++◌, Some, None, length, get_or, drop, refl, sym, ap, ◌∙◌, arith, append_assoc}
-use Rattle.std.proofs.lemmas.List.{drop-map, drop_more, drop_all, drop-drop}
-use Rattle.std.proofs.Math.Seq.{drop-append_seam}
-use Rattle.std.specs.List.{list_all}
+use Rattle.std.{proofs.Math.Seq.{drop-append_seam}, proofs.lemmas.List.{drop-map, drop_more, drop_all, drop-drop}, specs.List.{list_all}}
 use Rattle.html_names_core.specs.Characters.{is_ignorable}
 use Rattle.html_names_table.specs.NameTables.{NamesView}
 use Rattle.html_dom_tree.specs.Tree.{NodeView, tag_node, text_node, element_node, frame_node, NodesView, none, node}
-use Rattle.html_dom_flat.specs.Flat.{FlatNodeView, flat_tag, flat_text, flat_frame, flat_element, node_count, nodes_count, node_flat, nodes_flat}
-use Rattle.html_dom_flat.specs.FlatViews.{flat_node_view, flat_nodes_view}
-use Rattle.html_dom_flat.specs.declared.flat_node.FlatNode.{FlatNode}
-use Rattle.html_dom_flat.specs.declared.flat_node.FlatNode.TheVariants.{Element}
 use Rattle.html_dom_flat.proofs.Flats.{joined, length_all}
-use Rattle.html_flow_convert.specs.Nodes.{is_one}
+use Rattle.html_dom_flat.specs.Flat.{FlatNodeView, flat_tag, flat_text, flat_frame, flat_element, node_count, nodes_count, node_flat, nodes_flat}
+use Rattle.html_dom_flat.specs.{FlatViews.{flat_node_view, flat_nodes_view}, declared.flat_node.FlatNode.{FlatNode}}
+use Rattle.html_dom_flat.specs.declared.flat_node.FlatNode.TheVariants.{Element}
 use Rattle.html_flow_convert.specs.BareSpaces.{Thing, border, visible, space, node_things, nodes_things, node_turns, nodes_turns, bare_after, bare_spaces}
-use Rattle.html_flow_convert.specs.Looks.{look_things, head_look, flat_look, is_inside}
 use Rattle.html_flow_convert.specs.Lines.{last_after, answer_before, answers_left, next_place, Stands}
-use Rattle.html_flow_convert.specs.declared.look.Look.{Look}
+use Rattle.html_flow_convert.specs.{Looks.{look_things, head_look, flat_look, is_inside}, Nodes.{is_one}, declared.look.Look.{Look}}
 use Rattle.html_flow_convert.specs.declared.look.Look.TheVariants as look
 use Rattle.html_flow_convert.specs.declared.line.Last.{Last}
 use Rattle.html_flow_convert.specs.declared.line.Last.TheVariants as last

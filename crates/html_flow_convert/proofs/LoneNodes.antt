@@ -1,19 +1,13 @@
 -- The lone node of a list by its place, texts in bytes, and lists of css.
 use Rattle.std.proofs.Common.{◌≡◌, ℕ, ◌+◌, ◌-◌, ◌<◌, ◌≤◌, List, [], ◌∷◌, length, get_or, take, drop, map, Bool, true, false, ◌&&◌, if◌then◌else◌, Option, Some, None, Bor, codes, chars, bytes_eq, IsUtf8, refl, sym, ap, ◌∙◌}
-use Rattle.std.specs.List.{list_all}
-use Rattle.std.proofs.lemmas.List.Folds.{list_all-map}
-use Rattle.std.proofs.lemmas.List.{at_drop_all, take_rest}
-use Rattle.html_names_core.specs.Names.{is_ascii}
-use Rattle.html_names_core.specs.Texts.{TextPair}
-use Rattle.html_names_core.proofs.Lists.{chars_ascii, bytes_eq-chars}
-use Rattle.html_names_core.proofs.Basics.{from_place}
+use Rattle.std.{proofs.lemmas.List.{at_drop_all, take_rest}, proofs.lemmas.List.Folds.{list_all-map}, specs.List.{list_all}}
+use Rattle.html_names_core.proofs.{Basics.{from_place}, Lists.{chars_ascii, bytes_eq-chars}}
+use Rattle.html_names_core.specs.{Names.{is_ascii}, Texts.{TextPair}}
 use Rattle.html_values_css.specs.Properties.{with_property, without}
-use Rattle.html_dom_tree.specs.Tree.{Head, NodeView, element_node, node, is_tag}
-use Rattle.html_dom_tree.specs.Views.{node_view, nodes_of, nodes_view}
+use Rattle.html_dom_tree.specs.{Tree.{Head, NodeView, element_node, node, is_tag}, Views.{node_view, nodes_of, nodes_view}}
 use Rattle.html_dom_tree.specs.declared.node.HtmlNode.{HtmlNode}
-use Rattle.html_flow_convert.specs.declared.lone.DisplayChange.{DisplayChange}
-use Rattle.html_flow_convert.specs.declared.lone.DisplayChange.TheVariants.{Removed, SetTo}
 use Rattle.html_flow_convert.specs.LoneNode.{DisplayChangeView, change_view, css_with_display, node_with_display, node_list, are_tags, lone_alone, lone_node, changed_or_in}
+use Rattle.html_flow_convert.specs.declared.lone.{DisplayChange.{DisplayChange}, DisplayChange.TheVariants.{Removed, SetTo}}
 
 pub node_list_of : (ns : List NodeView) → node_list (nodes_of ns) ≡ ns
 unfolding node_list

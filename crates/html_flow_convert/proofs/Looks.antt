@@ -2,13 +2,10 @@
 use Rattle.std.proofs.Common.{◌≡◌, ℕ, Bool, true, false, ◌||◌, ◌&&◌, not, if◌then◌else◌, List, [], ◌∷◌, map, refl, sym, ap, ◌∙◌}
 use Rattle.std.specs.List.{list_any, list_all}
 use Rattle.html_dom_tree.specs.Tree.{Head}
-use Rattle.html_flow_convert.specs.Nodes.{is_one}
 use Rattle.html_flow_convert.specs.BareSpaces.{Thing, border, visible, space, text_things, is_border_element, is_entered, element_things, makes_block}
-use Rattle.html_flow_convert.specs.Looks.{look_things, head_look, text_look, is_inside}
-use Rattle.html_flow_convert.specs.declared.look.Look.{Look}
+use Rattle.html_flow_convert.specs.{Looks.{look_things, head_look, text_look, is_inside}, Nodes.{is_one}, declared.look.Look.{Look}}
 use Rattle.html_flow_convert.specs.declared.look.Look.TheVariants.{Border, Visible, Space, Nothing, Inside}
-use Rattle.html_names_core.specs.Characters.{is_ignorable}
-use Rattle.html_names_core.specs.Kinds.{is_replaced, is_whitespace_collapsing}
+use Rattle.html_names_core.specs.{Characters.{is_ignorable}, Kinds.{is_replaced, is_whitespace_collapsing}}
 
 pub any_map : {A B : Type 0} (p : B → Bool) (f : A → B) (xs : List A) →
     list_any p (map f xs) ≡ list_any (λ x. p (f x)) xs

@@ -1,16 +1,13 @@
 -- Characters that stand in a stretch, as a walk over a text passes them.
 use Rattle.std.proofs.Common.{◌≡◌, ℕ, ◌+◌, ◌-◌, ◌<◌, Bool, true, false, ◌&&◌, ◌||◌, ◌==◌, if◌then◌else◌, List, [], ◌∷◌, ◌++◌, Option, None, Some, chars, length, map, take, drop, get_or, refl, sym, ap, subst, ◌∙◌, arith, append_assoc}
-use Rattle.std.proofs.Math.Bool.{and-true, and-false}
-use Rattle.std.proofs.lemmas.Bool.{false≢true, and_parts, and_from}
-use Rattle.std.proofs.lemmas.Bool.Decides.{nat_tests}
-use Rattle.std.proofs.lemmas.List.{drop_more}
+use Rattle.std.proofs.{Math.Bool.{and-true, and-false}, lemmas.Bool.{false≢true, and_parts, and_from}, lemmas.List.{drop_more}}
 use Rattle.std.proofs.lemmas.Str.{IsCharBoundary-after_ascii, IsUtf8-nil, IsUtf8-append, IsUtf8-drop, IsUtf8-encode, encode_ascii, chars-append, chars-nil, chars_past_char, encodes-chars}
-use Rattle.std.specs.Str.{IsUtf8, IsCharBoundary}
+use Rattle.std.{proofs.lemmas.Bool.Decides.{nat_tests}, specs.Str.{IsUtf8, IsCharBoundary}}
 use Rattle.html_names_core.proofs.Basics.{chars-encode, first_scalar, front_length}
 use Rattle.html_dom_tree.specs.Tree.{NodeView, text_node}
+use Rattle.html_flow_convert.proofs.Stretching.{Stretching, nothing_passed, char_outside, return_apart, shown_small, shown_normal}
 use Rattle.html_flow_convert.specs.Pieces.{PieceView, alone, line_break, first_char, is_normal, is_normal_there, is_in_stretch, in_stretch, is_carriage_return, outside_stretch, pieces_after, piece_node, text_nodes}
 use Rattle.html_flow_convert.specs.TextStretches.{char_before, is_above_space, is_within, are_within, ends_normal, is_stretch, with_stretch, Passes}
-use Rattle.html_flow_convert.proofs.Stretching.{Stretching, nothing_passed, char_outside, return_apart, shown_small, shown_normal}
 use lib.Utf8.{encode, encodes}
 
 -- a character more

@@ -1,16 +1,13 @@
 -- Nodes whose spaces stay, one after the other.
 use Rattle.std.proofs.Common.{◌≡◌, ℕ, zero, suc, ◌+◌, ◌<◌, ◌≤◌, Bool, true, false, not, ◌&&◌, List, [], ◌∷◌, ◌++◌, Option, Some, None, map, length, drop, take, get_or, set, inl, inr, refl, sym, ap, ◌∙◌, arith, if◌then◌else◌, length-drop}
-use Rattle.std.proofs.lemmas.List.{drop-drop, drop_more, drop-set-lt, map-append, take_more_set}
-use Rattle.std.proofs.lemmas.Bool.{and_parts, cases_Bool, false≢true}
+use Rattle.std.proofs.lemmas.{Bool.{and_parts, cases_Bool, false≢true}, List.{drop-drop, drop_more, drop-set-lt, map-append, take_more_set}}
 use Rattle.std.specs.List.{list_all}
-use Rattle.html_names_core.specs.Characters.{is_ignorable}
-use Rattle.html_names_core.specs.Kinds.{is_replaced}
+use Rattle.html_names_core.specs.{Characters.{is_ignorable}, Kinds.{is_replaced}}
 use Rattle.html_dom_tree.specs.Tree.{Head, NodeView, tag_node, text_node, element_node, frame_node, NodesView, none, node}
-use Rattle.html_dom_tree.specs.Views.{node_view, nodes_of, nodes_view}
-use Rattle.html_dom_tree.specs.declared.node.HtmlNode.{HtmlNode}
+use Rattle.html_dom_tree.specs.{Views.{node_view, nodes_of, nodes_view}, declared.node.HtmlNode.{HtmlNode}}
 use Rattle.html_dom_flat.proofs.Flats.{joined, joined_none}
-use Rattle.html_flow_convert.specs.Nodes.{is_one}
 use Rattle.html_flow_convert.specs.BareSpaces.{Thing, border, visible, space, element_things, node_things, nodes_things, is_entered, is_border_element, bare_after, bare_spaces}
+use Rattle.html_flow_convert.specs.Nodes.{is_one}
 use Rattle.html_flow_convert.specs.Protected.{space_count, is_bare, text_by_answer, node_by_answers, nodes_by_answers, protected_nodes}
 
 -- how many answers are used

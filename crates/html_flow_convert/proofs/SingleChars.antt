@@ -1,9 +1,7 @@
 -- Texts of one character.
-use Rattle.std.proofs.Common.{◌≡◌, ℕ, ◌<◌, ◌==◌, List, [], ◌∷◌, bytes_eq, chars, refl, sym, ap, ◌∙◌}
+use Rattle.std.proofs.{Common.{◌≡◌, ℕ, ◌<◌, ◌==◌, List, [], ◌∷◌, bytes_eq, chars, refl, sym, ap, ◌∙◌}, Math.Bool.{and-true, and-false}}
+use Rattle.std.proofs.lemmas.{Str.{chars-IsAscii, IsUtf8-from_ascii}, Str.Ascii.{IsAscii-cons, IsAscii-nil}}
 use Rattle.std.specs.Str.{IsAscii, IsUtf8}
-use Rattle.std.proofs.lemmas.Str.{chars-IsAscii, IsUtf8-from_ascii}
-use Rattle.std.proofs.lemmas.Str.Ascii.{IsAscii-cons, IsAscii-nil}
-use Rattle.std.proofs.Math.Bool.{and-true, and-false}
 use Rattle.html_names_core.proofs.Lists.{bytes_eq-chars}
 use Rattle.html_flow_convert.specs.Nodes.{is_one}
 

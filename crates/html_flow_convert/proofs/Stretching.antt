@@ -1,12 +1,9 @@
 -- Stretches of a text where white space collapses, as they grow.
 use Rattle.std.proofs.Common.{◌≡◌, ℕ, ◌-◌, ◌<◌, Bool, true, false, ◌&&◌, ◌||◌, ◌==◌, List, [], ◌∷◌, ◌++◌, IsTrue, Option, None, Some, chars, length, map, take, refl, sym, ap, ◌∙◌, arith, append-nil, append_assoc}
-use Rattle.std.proofs.lemmas.Bool.{agree_below_at, false≢true, true≢false, and_parts, and_from}
-use Rattle.std.proofs.lemmas.Bool.Decides.{nat_tests}
-use Rattle.std.proofs.lemmas.List.{map-append, nil_from_length}
-use Rattle.std.proofs.lemmas.Str.{IsUtf8-nil, chars-nil, chars_past_char, encodes-chars}
+use Rattle.std.proofs.lemmas.{Bool.{agree_below_at, false≢true, true≢false, and_parts, and_from}, List.{map-append, nil_from_length}}
+use Rattle.std.proofs.lemmas.{Str.{IsUtf8-nil, chars-nil, chars_past_char, encodes-chars}, Bool.Decides.{nat_tests}}
 use Rattle.std.specs.Str.{IsUtf8}
-use Rattle.html_names_core.specs.Characters.{is_ignorable}
-use Rattle.html_names_core.proofs.Basics.{front_taken}
+use Rattle.html_names_core.{proofs.Basics.{front_taken}, specs.Characters.{is_ignorable}}
 use Rattle.html_dom_tree.specs.Tree.{NodeView}
 use Rattle.html_flow_convert.specs.Pieces.{PieceView, stretch, alone, line_break, first_char, is_normal, is_normal_there, is_in_stretch, in_stretch, is_carriage_return, outside_stretch, pieces_after, pieces, piece_node, text_nodes}
 use Rattle.html_flow_convert.specs.TextStretches.{is_above_space, is_stretch, with_stretch}

@@ -1,12 +1,9 @@
 -- Going through nodes one by one.
 use Rattle.std.proofs.Common.{◌≡◌, ℕ, ◌+◌, ◌<◌, ◌≤◌, List, [], ◌∷◌, ◌++◌, Bool, None, length, get_or, drop, refl, sym, ap, ◌∙◌, append_assoc, append-nil}
 use Rattle.std.proofs.lemmas.List.{drop_all, drop_more}
-use Rattle.html_dom_tree.specs.Tree.{node}
-use Rattle.html_dom_tree.specs.Views.{node_view, nodes_view}
-use Rattle.html_dom_tree.specs.declared.node.HtmlNode.{HtmlNode}
+use Rattle.html_dom_tree.specs.{Tree.{node}, Views.{node_view, nodes_view}, declared.node.HtmlNode.{HtmlNode}}
 use Rattle.html_flow_convert.specs.BareSpaces.{Thing, border, visible, space, node_things, nodes_things, bare_after}
-use Rattle.html_flow_convert.specs.Lines.{answer_before, last_after, answers_left}
-use Rattle.html_flow_convert.specs.Looks.{look_things}
+use Rattle.html_flow_convert.specs.{Lines.{answer_before, last_after, answers_left}, Looks.{look_things}}
 use Rattle.html_flow_convert.specs.Walks.{WalkView, walk_with, walk_on}
 use Rattle.html_flow_convert.specs.declared.line.Last.TheVariants as last
 use Rattle.html_flow_convert.specs.declared.look.Look.{Look}

@@ -1,10 +1,8 @@
 -- The spaces that may stay as they are, since white space collapsing leaves them (CSS Text 4.1.1
 -- and 4.1.2: it removes a space after a space, and at the start and the end of a line).
-use Rattle.std.specs.Prelude.{ℕ, ◌+◌, Bool, true, false, not, ◌&&◌, ◌||◌, List, [], ◌∷◌, ◌++◌, codes, bytes_eq, if◌then◌else◌, Option, Some, None}
 use Rattle.std.specs.List.{list_any, list_all}
-use Rattle.html_names_core.specs.Characters.{is_ignorable}
-use Rattle.html_names_core.specs.Kinds.{is_replaced, is_whitespace_collapsing}
-use Rattle.html_names_core.specs.Texts.{TextPair}
+use Rattle.std.specs.Prelude.{ℕ, ◌+◌, Bool, true, false, not, ◌&&◌, ◌||◌, List, [], ◌∷◌, ◌++◌, codes, bytes_eq, if◌then◌else◌, Option, Some, None}
+use Rattle.html_names_core.specs.{Characters.{is_ignorable}, Kinds.{is_replaced, is_whitespace_collapsing}, Texts.{TextPair}}
 use Rattle.html_dom_tree.specs.Tree.{Head, NodeView, tag_node, text_node, element_node, frame_node, NodesView, none, node}
 use Rattle.html_flow_convert.specs.Nodes.{is_one}
 

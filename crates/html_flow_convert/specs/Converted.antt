@@ -1,23 +1,15 @@
 -- The nodes that items become (this project's rules).
-use Rattle.std.specs.Prelude.{ℕ, Bool, false, ◌||◌, List, [], ◌∷◌, ◌++◌, codes, bytes_eq, if◌then◌else◌, Option, Some, None, option_map, chars}
 use Rattle.std.specs.Borrow.{Bor}
-use Rattle.html_names_core.specs.Displays.{default_display}
-use Rattle.html_names_core.specs.Kinds.{is_raw, is_escapable_raw, shows_border}
-use Rattle.html_names_core.specs.Texts.{TextPair}
+use Rattle.std.specs.Prelude.{ℕ, Bool, false, ◌||◌, List, [], ◌∷◌, ◌++◌, codes, bytes_eq, if◌then◌else◌, Option, Some, None, option_map, chars}
+use Rattle.html_names_core.specs.{Displays.{default_display}, Kinds.{is_raw, is_escapable_raw, shows_border}, Texts.{TextPair}}
 use Rattle.html_dom_tree.specs.Frames.{new_html_frame}
-use Rattle.html_dom_tree.specs.Tree.{Head, NodeView, tag_node, text_node, element_node, frame_node, NodesView, none}
-use Rattle.html_dom_tree.specs.Views.{nodes_of}
+use Rattle.html_dom_tree.specs.{Tree.{Head, NodeView, tag_node, text_node, element_node, frame_node, NodesView, none}, Views.{nodes_of}}
 use Rattle.html_flow_convert.specs.BareSpaces.{makes_block}
-use Rattle.html_flow_convert.specs.Nodes.{break_node}
-use Rattle.html_flow_convert.specs.Pieces.{text_nodes}
-use Rattle.html_flow_convert.specs.Protected.{protected_nodes}
-use Rattle.html_flow_convert.specs.Runs.{nodes_with_runs}
 use Rattle.html_flow_convert.specs.Items.{RoleView, inherits, sets, unsets, ElemHead, FrameElemView, ItemView, tag_item, element_item, space_item, text_item, hole_item, break_item, box_item, block_item, frame_item, ItemsView, no_items, item, BodyView, absent, present}
-use Rattle.html_flow_convert.specs.LoneNode.{box_nodes, block_nodes}
-use Rattle.html_flow_convert.specs.declared.convert.ConversionLevel.{ConversionLevel}
-use Rattle.html_flow_convert.specs.declared.convert.ConversionLevel.TheVariants.{Block, Inline}
-use Rattle.html_flow_convert.specs.declared.convert.Whitespace.{Whitespace}
-use Rattle.html_flow_convert.specs.declared.convert.Whitespace.TheVariants.{Normal, Pre}
+use Rattle.html_flow_convert.specs.{LoneNode.{box_nodes, block_nodes}, Nodes.{break_node}, Pieces.{text_nodes}, Protected.{protected_nodes}}
+use Rattle.html_flow_convert.specs.Runs.{nodes_with_runs}
+use Rattle.html_flow_convert.specs.declared.convert.{ConversionLevel.{ConversionLevel}, Whitespace.{Whitespace}}
+use Rattle.html_flow_convert.specs.declared.convert.{ConversionLevel.TheVariants.{Block, Inline}, Whitespace.TheVariants.{Normal, Pre}}
 
 -- a role, if there is one
 abbrev pub RoleText : Type 0

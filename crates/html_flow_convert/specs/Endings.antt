@@ -3,8 +3,7 @@
 use Rattle.std.specs.Prelude.{ℕ, List, Result}
 use Rattle.html_names_core.specs.Endings.{GivesBy, AddsBy}
 use Rattle.html_dom_tree.specs.Tree.{NodeView}
-use Rattle.html_flow_faults.specs.FlowFaults.{IsFirst}
-use Rattle.html_flow_faults.specs.declared.fault.FlowFault.{FlowFault}
+use Rattle.html_flow_faults.specs.{FlowFaults.{IsFirst}, declared.fault.FlowFault.{FlowFault}}
 
 -- a call returns a value, or fails with the first item that is too deep
 abbrev pub Gives : {A B : Type 0} (view : A → B) → Result A FlowFault → (value : B)

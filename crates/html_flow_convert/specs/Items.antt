@@ -1,9 +1,7 @@
 -- The flow of a document: items as pure values, in which texts are lists of characters.
 use Rattle.std.specs.Prelude.{ℕ, ℤ, List, [], ◌∷◌, ◌++◌, Option, None, Some}
 use Rattle.html_names_core.specs.Texts.{TextPair}
-use Rattle.html_dom_tree.specs.Attributes.{with_set}
-use Rattle.html_dom_tree.specs.Tags.{TagView, starts, ends}
-use Rattle.html_dom_tree.specs.Frames.{FrameView}
+use Rattle.html_dom_tree.specs.{Attributes.{with_set}, Frames.{FrameView}, Tags.{TagView, starts, ends}}
 
 -- the role of an item: that of its list, its own, or none
 pub data RoleView : Type 0 where

@@ -1,12 +1,10 @@
 -- A walk along the things of a line.
 use Rattle.std.specs.Prelude.{◌≡◌, ℕ, ◌+◌, ◌≤◌, Bool, true, false, ◌&&◌, List, [], ◌∷◌, ◌++◌, Some, None, if◌then◌else◌}
 use Rattle.html_dom_tree.specs.Tree.{NodesView}
-use Rattle.html_dom_flat.specs.Flat.{FlatNodeView, nodes_flat}
-use Rattle.html_dom_flat.specs.declared.flat_node.FlatNode.{FlatNode}
+use Rattle.html_dom_flat.specs.{Flat.{FlatNodeView, nodes_flat}, declared.flat_node.FlatNode.{FlatNode}}
 use Rattle.html_dom_flat.specs.declared.flat_node.FlatNode.TheVariants as flat
 use Rattle.html_flow_convert.specs.BareSpaces.{Thing, visible, space, bare_after, bare_spaces, is_visible_first, nodes_things, nodes_turns}
-use Rattle.html_flow_convert.specs.Looks.{is_inside}
-use Rattle.html_flow_convert.specs.declared.look.Look.{Look}
+use Rattle.html_flow_convert.specs.{Looks.{is_inside}, declared.look.Look.{Look}}
 use Rattle.html_flow_convert.specs.declared.look.Look.TheVariants as look
 use Rattle.html_flow_convert.specs.declared.line.Last.{Last}
 use Rattle.html_flow_convert.specs.declared.line.Last.TheVariants as last

@@ -1,15 +1,12 @@
 -- A node that takes the place of the box or block in which it stands alone (this project's rule):
 -- its own css determines how it is displayed, instead of an element around it (CSS Display 3).
 use Rattle.std.specs.Prelude.{ℕ, Bool, true, false, ◌&&◌, List, [], ◌∷◌, codes, chars, bytes_eq, map, if◌then◌else◌, Option, Some, None}
-use Rattle.html_names_core.specs.Displays.{default_display}
-use Rattle.html_names_core.specs.Texts.{TextPair}
-use Rattle.html_names_core.specs.declared.property.Display.{Display}
+use Rattle.html_names_core.specs.{Displays.{default_display}, Texts.{TextPair}, declared.property.Display.{Display}}
 use Rattle.html_names_core.specs.declared.property.Display.TheVariants as display
 use Rattle.html_values_css.specs.Properties.{with_property, without}
 use Rattle.html_dom_tree.specs.Attributes.{first}
 use Rattle.html_dom_tree.specs.Tree.{Head, NodeView, tag_node, text_node, element_node, frame_node, NodesView, none, node, is_tag}
-use Rattle.html_flow_convert.specs.Nodes.{made_head}
-use Rattle.html_flow_convert.specs.declared.lone.DisplayChange.{DisplayChange}
+use Rattle.html_flow_convert.specs.{Nodes.{made_head}, declared.lone.DisplayChange.{DisplayChange}}
 use Rattle.html_flow_convert.specs.declared.lone.DisplayChange.TheVariants.{Removed, SetTo}
 
 -- nodes as a list

@@ -1,14 +1,9 @@
 -- The look of a node in a line, as the code computes it.
-use Rattle.std.specs.Prelude.{ℕ, Bool, true, false, ◌||◌, List, [], ◌∷◌, if◌then◌else◌}
-use Rattle.std.specs.List.{list_all}
-use Rattle.html_names_core.specs.Characters.{is_ignorable}
-use Rattle.html_names_core.specs.Kinds.{is_replaced, is_whitespace_collapsing}
-use Rattle.html_names_core.specs.Texts.{TextPair}
+use Rattle.std.specs.{List.{list_all}, Prelude.{ℕ, Bool, true, false, ◌||◌, List, [], ◌∷◌, if◌then◌else◌}}
+use Rattle.html_names_core.specs.{Characters.{is_ignorable}, Kinds.{is_replaced, is_whitespace_collapsing}, Texts.{TextPair}}
 use Rattle.html_dom_tree.specs.Tree.{Head}
 use Rattle.html_dom_flat.specs.Flat.{FlatNodeView, flat_tag, flat_text, flat_frame, flat_element}
-use Rattle.html_flow_convert.specs.Nodes.{is_one}
-use Rattle.html_flow_convert.specs.BareSpaces.{Thing, border, visible, space, makes_block}
-use Rattle.html_flow_convert.specs.declared.look.Look.{Look}
+use Rattle.html_flow_convert.specs.{BareSpaces.{Thing, border, visible, space, makes_block}, Nodes.{is_one}, declared.look.Look.{Look}}
 use Rattle.html_flow_convert.specs.declared.look.Look.TheVariants.{Border, Visible, Space, Nothing, Inside}
 
 -- the things of a node, given those inside it

@@ -1,8 +1,6 @@
 -- Runs of blanks (this project's rule for CSS Text 4.1.1, phase I, which would collapse them).
-use Rattle.std.specs.Prelude.{ℕ, zero, suc, Bool, true, false, ◌||◌, List, [], ◌∷◌, ◌++◌, if◌then◌else◌}
-use Rattle.std.specs.List.{filter}
-use Rattle.html_dom_tree.specs.Tree.{NodeView, tag_node, text_node, element_node, frame_node, node_span, is_tag}
-use Rattle.html_dom_tree.specs.Views.{nodes_of}
+use Rattle.std.specs.{List.{filter}, Prelude.{ℕ, zero, suc, Bool, true, false, ◌||◌, List, [], ◌∷◌, ◌++◌, if◌then◌else◌}}
+use Rattle.html_dom_tree.specs.{Tree.{NodeView, tag_node, text_node, element_node, frame_node, node_span, is_tag}, Views.{nodes_of}}
 use Rattle.html_flow_convert.specs.Nodes.{pre_wrap_head, is_one}
 
 -- whether a node is a text of exactly one space, or of exactly one tab

@@ -1,16 +1,11 @@
 -- The items that the program's values stand for.
-use Rattle.std.specs.Prelude.{List, [], ◌∷◌, map, Option, None, Some, option_map, Vec}
-use Rattle.std.specs.declared.alloc.Global.{Global}
+use Rattle.std.specs.{Prelude.{List, [], ◌∷◌, map, Option, None, Some, option_map, Vec}, declared.alloc.Global.{Global}}
 use Rattle.html_names_core.specs.Texts.{text_view}
-use Rattle.html_dom_tree.specs.Views.{attrs_view}
-use Rattle.html_dom_tree.specs.FrameViews.{frame_view, tag_view}
+use Rattle.html_dom_tree.specs.{FrameViews.{frame_view, tag_view}, Views.{attrs_view}}
 use Rattle.html_flow_convert.specs.Items.{RoleView, inherits, sets, unsets, ElemHead, FrameElemView, ItemView, tag_item, element_item, space_item, text_item, hole_item, break_item, box_item, block_item, frame_item, ItemsView, no_items, item, BodyView, absent, present, ElemView}
-use Rattle.html_flow_convert.specs.declared.item.Role.{Role}
+use Rattle.html_flow_convert.specs.declared.item.{FrameElem.{FrameElem}, HtmlElem.{HtmlElem, HtmlElem-F, fold-HtmlElem}}
+use Rattle.html_flow_convert.specs.declared.item.{Item.{Item, Item-F, fold-Item}, Pair.{Pair, Pair-F, fold-Pair}, Role.{Role}}
 use Rattle.html_flow_convert.specs.declared.item.Role.TheVariants.{Inherit, Set, Unset}
-use Rattle.html_flow_convert.specs.declared.item.FrameElem.{FrameElem}
-use Rattle.html_flow_convert.specs.declared.item.Pair.{Pair, Pair-F, fold-Pair}
-use Rattle.html_flow_convert.specs.declared.item.Item.{Item, Item-F, fold-Item}
-use Rattle.html_flow_convert.specs.declared.item.HtmlElem.{HtmlElem, HtmlElem-F, fold-HtmlElem}
 
 abbrev pub role_view : Role → RoleView
 role_view Inherit = inherits

@@ -1,10 +1,7 @@
 -- A walk over nodes, as the program does it.
 use Rattle.std.specs.Prelude.{Bool, List, [], ◌∷◌, ◌++◌}
-use Rattle.html_flow_convert.specs.BareSpaces.{Thing, border, visible, space}
-use Rattle.html_flow_convert.specs.Lines.{last_after, answer_before}
-use Rattle.html_flow_convert.specs.declared.answers.SpaceWalk.{SpaceWalk}
-use Rattle.html_flow_convert.specs.declared.line.Last.{Last}
-use Rattle.html_flow_convert.specs.declared.look.Look.{Look}
+use Rattle.html_flow_convert.specs.{BareSpaces.{Thing, border, visible, space}, Lines.{last_after, answer_before}}
+use Rattle.html_flow_convert.specs.declared.{answers.SpaceWalk.{SpaceWalk}, line.Last.{Last}, look.Look.{Look}}
 use Rattle.html_flow_convert.specs.declared.look.Look.TheVariants as look
 
 -- whether each space so far is bare, except one that stands last, and what stands last

@@ -1,11 +1,9 @@
 //! Whether each lone space of a list of nodes is bare.
 
-ghost use Rattle.std.specs.Prelude.{◌≡◌, [], IfOk, OnOk};
-ghost use Rattle.std.specs.List.{list_all};
+ghost use Rattle.std.specs.{List.{list_all}, Prelude.{◌≡◌, [], IfOk, OnOk}};
 ghost use Rattle.html_dom_tree.specs.Views.{head_of, node_view, nodes_view};
 ghost use Rattle.html_flow_convert.specs.BareSpaces.{bare_spaces, element_things, node_things, nodes_things};
-ghost use Rattle.html_flow_convert.specs.Looks.{head_look, look_things};
-ghost use Rattle.html_flow_convert.specs.Walks.{walk_on, walk_view};
+ghost use Rattle.html_flow_convert.specs.{Looks.{head_look, look_things}, Walks.{walk_on, walk_view}};
 
 use crate::line::{Last, push_answer};
 use crate::look::{Look, element_look, text_look};

@@ -1,12 +1,8 @@
 //! The lone spaces that may stay bare.
 
 ghost use Rattle.std.specs.Prelude.{◌≡◌, ◌+◌, ◌<◌, ◌≤◌, ◌^◌, true, IfOk};
-ghost use Rattle.html_dom_flat.specs.Flat.{nodes_count};
-ghost use Rattle.html_dom_flat.specs.FlatTrees.{tree_nodes};
-ghost use Rattle.html_dom_flat.specs.FlatViews.{flat_node_view, is_node_given};
-ghost use Rattle.html_flow_convert.specs.BareSpaces.{bare_spaces, nodes_turns};
-ghost use Rattle.html_flow_convert.specs.Lines.{place_past, next_place};
-ghost use Rattle.html_flow_convert.specs.Looks.{flat_look};
+ghost use Rattle.html_dom_flat.specs.{Flat.{nodes_count}, FlatTrees.{tree_nodes}, FlatViews.{flat_node_view, is_node_given}};
+ghost use Rattle.html_flow_convert.specs.{BareSpaces.{bare_spaces, nodes_turns}, Lines.{place_past, next_place}, Looks.{flat_look}};
 
 use crate::line::{Last, push_answer};
 use crate::look::{Look, element_look, text_look};

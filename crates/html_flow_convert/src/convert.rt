@@ -2,16 +2,13 @@
 #![tactic(auto, unfolding(crate::specs::Converted::item_nodes, crate::specs::Depth::item_too_deep))]
 
 ghost use Rattle.std.specs.Prelude.{◌≡◌, ◌≤◌, ◌↔◌, ◌++◌, ◌∷◌, [], if◌then◌else◌, IfOk, IsTrue, OnOk, codes, map};
-ghost use Rattle.html_names_core.specs.Names.{is_ascii};
-ghost use Rattle.html_names_core.specs.Texts.{text_view};
+ghost use Rattle.html_names_core.specs.{Names.{is_ascii}, Texts.{text_view}};
 ghost use Rattle.html_dom_tree.specs.Tree.{element_node, tag_node, text_node};
 ghost use Rattle.html_dom_tree.specs.Views.{attrs_view, head_of, node_view, nodes_view, tag_view};
 ghost use Rattle.html_flow_convert.specs.Converted.{body_nodes, break_item_node, converted_nodes, frame_item_node, item_nodes, list_nodes, passes_role, role_pairs, role_text, text_item_nodes};
-ghost use Rattle.html_flow_convert.specs.Endings.{Adds, Gives};
-ghost use Rattle.html_flow_convert.specs.Depth.{body_too_deep, item_too_deep, items_too_deep};
-ghost use Rattle.html_flow_convert.specs.Items.{element_item};
+ghost use Rattle.html_flow_convert.specs.{Depth.{body_too_deep, item_too_deep, items_too_deep}, Endings.{Adds, Gives}};
+ghost use Rattle.html_flow_convert.specs.{Items.{element_item}, Views.{body_view, elem_view, frame_elem_view, item_view, items_view}};
 ghost use Rattle.html_flow_convert.specs.declared.convert.Whitespace.TheVariants.{Normal};
-ghost use Rattle.html_flow_convert.specs.Views.{body_view, elem_view, frame_elem_view, item_view, items_view};
 
 use crate::depth::items_too_deep;
 use crate::item::{FrameElem, HtmlElem, Item, Pair, copied_pairs};

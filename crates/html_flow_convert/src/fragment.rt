@@ -2,11 +2,8 @@
 
 ghost use Rattle.std.specs.Prelude.{◌≤◌};
 ghost use Rattle.html_dom_tree.specs.Views.{nodes_view};
-ghost use Rattle.html_flow_convert.specs.Converted.{converted_nodes, role_text};
-ghost use Rattle.html_flow_convert.specs.Depth.{fragment_too_deep};
-ghost use Rattle.html_flow_convert.specs.Endings.{Gives};
-ghost use Rattle.html_flow_convert.specs.Views.{items_view};
-ghost use Rattle.html_flow_convert.specs.declared.convert.ConversionLevel.TheVariants.{Block, Inline};
+ghost use Rattle.html_flow_convert.specs.{Converted.{converted_nodes, role_text}, Depth.{fragment_too_deep}, Endings.{Gives}};
+ghost use Rattle.html_flow_convert.specs.{Views.{items_view}, declared.convert.ConversionLevel.TheVariants.{Block, Inline}};
 
 use crate::convert::{ConversionLevel, Whitespace, convert_to_nodes};
 use crate::item::Pair;

@@ -1,13 +1,8 @@
 //! Boxes and blocks, and nodes that take their place (this project's rule).
 
-ghost use Rattle.std.specs.Prelude.{◌≡◌, ◌++◌, ◌∷◌, [], IfOk, OnOk, bytes_eq, codes, map, option_map};
-ghost use Rattle.std.specs.List.{list_all};
-ghost use Rattle.html_dom_tree.specs.Tree.{element_node, is_tag, none};
-ghost use Rattle.html_dom_tree.specs.Views.{element_view, head_of, node_view, nodes_view, text_view};
-ghost use Rattle.html_flow_convert.specs.LoneNode.{change_view, css_with_display, node_with_display};
-ghost use Rattle.html_flow_convert.specs.LoneNode.{lone_alone, lone_node, is_math, is_shown_as_block};
-ghost use Rattle.html_flow_convert.specs.LoneNode.{box_change, change_by_display, block_change};
-ghost use Rattle.html_flow_convert.specs.LoneNode.{box_change_of, block_change_of, box_head, block_head, box_nodes, block_nodes};
+ghost use Rattle.std.specs.{List.{list_all}, Prelude.{◌≡◌, ◌++◌, ◌∷◌, [], IfOk, OnOk, bytes_eq, codes, map, option_map}};
+ghost use Rattle.html_dom_tree.specs.{Tree.{element_node, is_tag, none}, Views.{element_view, head_of, node_view, nodes_view, text_view}};
+ghost use Rattle.html_flow_convert.specs.LoneNode.{change_view, css_with_display, node_with_display, lone_alone, lone_node, is_math, is_shown_as_block, box_change, change_by_display, block_change, box_change_of, block_change_of, box_head, block_head, box_nodes, block_nodes};
 
 use html_dom_tree::{HtmlElement, HtmlNode, Span};
 use html_names_core::property::Display;

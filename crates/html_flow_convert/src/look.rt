@@ -1,13 +1,11 @@
 //! How nodes look from outside.
 
-ghost use Rattle.std.specs.Prelude.{◌≡◌, IsTrue, bytes_eq, chars};
+ghost use Rattle.std.specs.{List.{list_any, list_all}, Prelude.{◌≡◌, IsTrue, bytes_eq, chars}};
 ghost use Rattle.html_flow_convert.specs.BareSpaces.{is_display_block, makes_block, is_entered};
 ghost use Rattle.html_flow_convert.specs.Looks.{text_look, element_look, is_inside};
 ghost use Rattle.html_dom_tree.specs.Views.{head_of};
 ghost use Rattle.html_values_css.specs.Properties.{property_view};
-ghost use Rattle.html_names_core.specs.Names.{is_ascii};
-ghost use Rattle.html_names_core.specs.Characters.{is_ignorable};
-ghost use Rattle.std.specs.List.{list_any, list_all};
+ghost use Rattle.html_names_core.specs.{Characters.{is_ignorable}, Names.{is_ascii}};
 
 use crate::one::is_one;
 use crate::pieces::is_ignorable;

@@ -1,8 +1,7 @@
 //! Elements that white space processing adds.
 
 ghost use Rattle.std.specs.Prelude.{◌≡◌, [], ◌∷◌, IfOk, codes};
-ghost use Rattle.html_dom_tree.specs.Tree.{element_node, none};
-ghost use Rattle.html_dom_tree.specs.Views.{element_view, head_of, node_view, nodes_view};
+ghost use Rattle.html_dom_tree.specs.{Tree.{element_node, none}, Views.{element_view, head_of, node_view, nodes_view}};
 ghost use Rattle.html_flow_convert.specs.Nodes.{made_head, pre_wrap_head};
 
 use crate::reused::Reused;

@@ -1,8 +1,7 @@
 //! Texts where white space collapses.
 
 ghost use Rattle.std.specs.Prelude.{◌≡◌, ◌+◌, ◌<◌, ◌≤◌, ◌==◌, ◌&&◌, ◌||◌, ◌++◌, [], ◌∷◌, true, IsTrue, OnOk, OnErr, IfOk, chars, get_or, length, map};
-ghost use Rattle.html_dom_tree.specs.Tree.{text_node};
-ghost use Rattle.html_dom_tree.specs.Views.{node_view, text_view};
+ghost use Rattle.html_dom_tree.specs.{Tree.{text_node}, Views.{node_view, text_view}};
 ghost use Rattle.html_flow_convert.specs.Beginnings.{AddsBeginning};
 ghost use Rattle.html_flow_convert.specs.Pieces.{first_char, is_normal, is_normal_there, outside_stretch, piece_node, pieces, stretch, text_nodes};
 ghost use Rattle.html_flow_convert.specs.TextStretches.{char_before, is_above_space, is_stretch, is_within, with_stretch, Passes};

@@ -1,10 +1,8 @@
 //! Lone spaces in elements that preserve them.
 
 ghost use Rattle.std.specs.Prelude.{◌≡◌, ℕ, List, false, drop, IfOk, OnOk};
-ghost use Rattle.html_dom_tree.specs.Tree.{element_node, text_node};
-ghost use Rattle.html_dom_tree.specs.Views.{element_view, node_view, nodes_view};
-ghost use Rattle.html_flow_convert.specs.AnswerLists.{answers_view};
-ghost use Rattle.html_flow_convert.specs.BareSpaces.{element_things, node_things, nodes_things};
+ghost use Rattle.html_dom_tree.specs.{Tree.{element_node, text_node}, Views.{element_view, node_view, nodes_view}};
+ghost use Rattle.html_flow_convert.specs.{AnswerLists.{answers_view}, BareSpaces.{element_things, node_things, nodes_things}};
 ghost use Rattle.html_flow_convert.specs.Protected.{space_count, is_bare, node_by_answers, nodes_by_answers, protected_nodes, text_by_answer};
 
 use crate::answers::{answer_for, are_bare};

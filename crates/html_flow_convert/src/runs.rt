@@ -1,7 +1,6 @@
 //! Runs of blanks.
 
-ghost use Rattle.std.specs.Prelude.{◌≡◌, ◌++◌, [], false, OnOk, IfOk, map};
-ghost use Rattle.std.specs.List.{filter};
+ghost use Rattle.std.specs.{List.{filter}, Prelude.{◌≡◌, ◌++◌, [], false, OnOk, IfOk, map}};
 ghost use Rattle.html_dom_tree.specs.Views.{node_view};
 ghost use Rattle.html_flow_convert.specs.OpenRuns.{goes_on, has_kept_run};
 ghost use Rattle.html_flow_convert.specs.Runs.{is_space, is_tab, is_blank_node, are_kept, first_node_span, run_nodes, nodes_with_runs};

@@ -1,8 +1,7 @@
 //! The setting of a list of items.
 
 ghost use Rattle.std.specs.Prelude.{◌≡◌, ◌+◌, ◌<◌, nat_lt};
-ghost use Rattle.html_names_core.specs.Displays.{default_display};
-ghost use Rattle.html_names_core.specs.Kinds.{shows_border};
+ghost use Rattle.html_names_core.specs.{Displays.{default_display}, Kinds.{shows_border}};
 ghost use Rattle.html_flow_convert.specs.Converted.{body_level, body_role, body_whitespace, is_preformatted, item_role, passes_role, role_text};
 ghost use Rattle.html_flow_convert.specs.Views.{elem_view, role_view};
 

@@ -1,12 +1,10 @@
 -- Refusals of constructing are equal where their views are.
 use Rattle.std.proofs.Common.{◌≡◌, ◌==◌, ◌&&◌, ℕ, List, [], Bool, false, true≢false, refl, sym, ap}
 use denote.Enum.Bare.{same_true, true_same}
-use Rattle.std.specs.Bool.{Decides}
-use Rattle.std.proofs.lemmas.Bool.Decides.{Decides-eqb}
-use Rattle.html_values_css.proofs.Equals.{lists_decide, pairs_decide}
-use Rattle.html_dom_tree.specs.declared.span.Span.{Span}
+use Rattle.std.{proofs.lemmas.Bool.Decides.{Decides-eqb}, specs.Bool.{Decides}}
+use Rattle.html_values_css.{proofs.Equals.{lists_decide, pairs_decide}, specs.contracts.cast_fault.CastFault.{the_type}}
 use Rattle.html_values_css.specs.declared.cast_fault.CastFault.{CastFault}
-use Rattle.html_values_css.specs.contracts.cast_fault.CastFault.{the_type}
+use Rattle.html_dom_tree.specs.declared.span.Span.{Span}
 use Rattle.html_values_css.specs.contracts.cast_fault.CastFaultPartialEq.TheImpl as casts
 use Rattle.html_flow_faults.specs.ConstructFaults.{ConstructFaultView, cast_faults, body_kind, construct_fault_view}
 use Rattle.html_flow_faults.specs.declared.construct_fault.ConstructFault.{ConstructFault}

@@ -5,8 +5,7 @@ use mathlib.Core.List.{List-discrete}
 use mathlib.Core.HLevel.{×_discrete}
 use Rattle.html_dom_tree.specs.declared.span.Span.{Span}
 use Rattle.html_values_css.specs.CastFaults as casts
-use Rattle.html_values_css.specs.CastFaults.{cast_fault_discrete}
-use Rattle.html_values_css.specs.declared.cast_fault.CastFault.{CastFault}
+use Rattle.html_values_css.specs.{CastFaults.{cast_fault_discrete}, declared.cast_fault.CastFault.{CastFault}}
 use Rattle.html_flow_faults.specs.declared.construct_fault.ConstructFault.{ConstructFault}
 use Rattle.html_flow_faults.specs.declared.construct_fault.ConstructFault.TheVariants.{OutOfMemory, Casts, BodyKind}
 

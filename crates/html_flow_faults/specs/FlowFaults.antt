@@ -1,7 +1,6 @@
 -- Numbers of the faults of conversion, and when one is the first.
 use Rattle.std.specs.Prelude.{◌≡◌, ℕ, List, ◌∷◌}
-use Rattle.html_flow_faults.specs.declared.fault.FlowFault.{FlowFault}
-use Rattle.html_flow_faults.specs.declared.fault.FlowFault.TheVariants.{OutOfMemory, TooDeep}
+use Rattle.html_flow_faults.specs.declared.fault.{FlowFault.{FlowFault}, FlowFault.TheVariants.{OutOfMemory, TooDeep}}
 
 abbrev pub number_of : FlowFault → ℕ
 number_of OutOfMemory = 0

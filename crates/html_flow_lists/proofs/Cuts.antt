@@ -1,13 +1,10 @@
 -- Texts and lists without their last, and without their first.
 use Rattle.std.proofs.Common.{◌≡◌, ℕ, suc, ◌-◌, ◌<◌, ◌≤◌, Bool, true, false, ◌||◌, ◌==◌, Option, Some, None, IfSome, IfNone, String, Global, string_bytes, string_len, chars, IsUtf8, List, [], ◌∷◌, ◌++◌, get_or, length, take, refl, ap, sym, ◌∙◌, arith}
-use Rattle.std.proofs.Math.ListN.{set}
-use Rattle.std.proofs.lemmas.List.{append-nil, length-map, nil_from_length, take-map}
+use Rattle.std.proofs.{Math.ListN.{set}, lemmas.List.{append-nil, length-map, nil_from_length, take-map}}
 use Rattle.std.proofs.lemmas.Str.{IsUtf8-string_bytes, chars-nil, chars_past_char, encodes-append, encodes-chars, encodes_same}
 use lib.Utf8.{encode, encodes}
 use Rattle.html_names_core.specs.Texts.{text_view}
-use Rattle.html_flow_convert.specs.Items.{ItemView, RoleView}
-use Rattle.html_flow_convert.specs.Views.{pair_view, pairs_view}
-use Rattle.html_flow_convert.specs.declared.item.Pair.{Pair}
+use Rattle.html_flow_convert.specs.{Items.{ItemView, RoleView}, Views.{pair_view, pairs_view}, declared.item.Pair.{Pair}}
 use Rattle.html_flow_lists.specs.ItemLists.{ListView, first_passes, is_border, is_lone_space, item_ends_in_space, last_passes, with_changed_first, with_space, with_text, without_end_space, without_first, without_last}
 use Rattle.html_flow_lists.specs.declared.item_list.Ending.TheVariants.{AddedSpace}
 

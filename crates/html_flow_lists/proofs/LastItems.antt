@@ -1,10 +1,7 @@
 -- A list of items and its last one.
 use Rattle.std.proofs.Common.{◌≡◌, ℕ, ◌+◌, ◌-◌, ◌<◌, Bool, List, [], ◌∷◌, ◌++◌, length, get_or, take, refl, ap, sym, ◌∙◌, arith}
-use Rattle.std.proofs.lemmas.List.{length-set, map-append, take_all, take_more, take_more_set}
-use Rattle.std.proofs.Math.ListN.{set}
-use Rattle.html_flow_convert.specs.Items.{ItemView, RoleView}
-use Rattle.html_flow_convert.specs.Views.{pair_view, pairs_view}
-use Rattle.html_flow_convert.specs.declared.item.Pair.{Pair}
+use Rattle.std.proofs.{Math.ListN.{set}, lemmas.List.{length-set, map-append, take_all, take_more, take_more_set}}
+use Rattle.html_flow_convert.specs.{Items.{ItemView, RoleView}, Views.{pair_view, pairs_view}, declared.item.Pair.{Pair}}
 use Rattle.html_flow_lists.specs.ItemLists.{Pairs, last_passes, with_changed_last}
 
 last_passes_at : (test : ItemView × RoleView → Bool) (xs : Pairs) (x : ItemView × RoleView) →

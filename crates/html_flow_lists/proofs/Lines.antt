@@ -1,15 +1,9 @@
 -- Bodies that get more items at their ends.
-use Rattle.std.proofs.Common.{◌≡◌, [], ◌∷◌, ◌++◌, Some, Vec, refl, ap, ◌∙◌}
-use Rattle.std.specs.Str.{chars}
-use Rattle.std.specs.declared.alloc.Global.{Global}
-use Rattle.html_flow_convert.specs.Items.{item, present}
-use Rattle.html_flow_convert.specs.Views.{elem_view, items_of, pairs_view}
-use Rattle.html_flow_convert.specs.declared.item.HtmlElem.{HtmlElem}
-use Rattle.html_flow_convert.specs.declared.item.Item.TheViews.{out-HtmlElem, roll-HtmlElem}
-use Rattle.html_flow_convert.specs.declared.item.Pair.{Pair}
+use Rattle.std.{proofs.Common.{◌≡◌, [], ◌∷◌, ◌++◌, Some, Vec, refl, ap, ◌∙◌}, specs.Str.{chars}, specs.declared.alloc.Global.{Global}}
 use Rattle.html_flow_convert.proofs.Bodies.{head_of, view_with_body, view_with_list, with_list}
-use Rattle.html_flow_lists.specs.ItemLists.{Pairs}
-use Rattle.html_flow_lists.specs.Notes.{with_items_behind, with_longer_body}
+use Rattle.html_flow_convert.specs.{Items.{item, present}, Views.{elem_view, items_of, pairs_view}}
+use Rattle.html_flow_convert.specs.declared.item.{HtmlElem.{HtmlElem}, Pair.{Pair}, Item.TheViews.{out-HtmlElem, roll-HtmlElem}}
+use Rattle.html_flow_lists.specs.{ItemLists.{Pairs}, Notes.{with_items_behind, with_longer_body}}
 
 -- the arrow of a link back, in UTF-8
 pub arrow_chars : chars (0xe2 ∷ 0x86 ∷ 0xa9 ∷ 0xef ∷ 0xb8 ∷ 0x8e ∷ []) ≡ 0x21a9 ∷ 0xfe0e ∷ []

@@ -1,9 +1,6 @@
 -- Notes with keys: the note at a place.
-use Rattle.std.proofs.Common.{◌≡◌, ℕ, zero, suc, ◌<◌, ◌≤◌, List, [], ◌∷◌, get_or, length, map, refl, ap, arith}
-use Rattle.std.proofs.Math.ListN.{set}
-use Rattle.html_flow_lists.specs.ItemLists.{Pairs}
-use Rattle.html_flow_lists.specs.ListViews.{note_view}
-use Rattle.html_flow_lists.specs.Notes.{NoteView, content_at, with_content_at}
+use Rattle.std.proofs.{Common.{◌≡◌, ℕ, zero, suc, ◌<◌, ◌≤◌, List, [], ◌∷◌, get_or, length, map, refl, ap, arith}, Math.ListN.{set}}
+use Rattle.html_flow_lists.specs.{ItemLists.{Pairs}, ListViews.{note_view}, Notes.{NoteView, content_at, with_content_at}}
 use Rattle.html_flow_lists.specs.declared.notes.Note.{Note}
 
 pub changed_note : (ns : List Note) (place : ℕ) (d q : Note) (content : Pairs) → place < length ns →

@@ -1,6 +1,5 @@
 -- The last byte of a text is a space just where its last character is.
-use Rattle.std.proofs.Common.{◌≡◌, ℕ, ◌-◌, List, length, ◌==◌, chars, IsUtf8, arith}
-use Rattle.std.specs.Prelude.{slice_index}
+use Rattle.std.{proofs.Common.{◌≡◌, ℕ, ◌-◌, List, length, ◌==◌, chars, IsUtf8, arith}, specs.Prelude.{slice_index}}
 use Rattle.html_names_core.proofs.EndChars.{last_chars}
 
 pub last_space : (bs : List ℕ) → IsUtf8 bs

@@ -4,8 +4,7 @@ use Rattle.html_names_core.specs.Kinds.{is_whitespace_collapsing}
 use Rattle.html_flow_convert.specs.BareSpaces.{makes_block}
 use Rattle.html_flow_convert.specs.Items.{ItemView, tag_item, element_item, text_item, hole_item, break_item, block_item, RoleView, inherits, ElemHead, ElemView, element_as_item, inheriting, absent, new_head, with_span}
 use Rattle.html_flow_convert.specs.Nodes.{is_one}
-use Rattle.html_flow_lists.specs.declared.item_list.Ending.{Ending}
-use Rattle.html_flow_lists.specs.declared.item_list.Ending.TheVariants.{AddedSpace, Border, Other}
+use Rattle.html_flow_lists.specs.declared.item_list.{Ending.{Ending}, Ending.TheVariants.{AddedSpace, Border, Other}}
 
 -- a list of items, each with its role
 abbrev pub Pairs : Type 0

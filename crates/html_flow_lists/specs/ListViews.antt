@@ -2,11 +2,8 @@
 use Rattle.std.specs.Prelude.{List, map}
 use Rattle.html_dom_tree.specs.Views.{optional_text_view}
 use Rattle.html_flow_convert.specs.Views.{pairs_view}
-use Rattle.html_flow_lists.specs.ItemLists.{ListView}
-use Rattle.html_flow_lists.specs.Notes.{NoteView}
-use Rattle.html_flow_lists.specs.declared.item_list.ItemList.{ItemList}
-use Rattle.html_flow_lists.specs.declared.notes.Note.{Note}
-use Rattle.html_flow_lists.specs.declared.notes.Notes.{Notes}
+use Rattle.html_flow_lists.specs.{ItemLists.{ListView}, Notes.{NoteView}, declared.item_list.ItemList.{ItemList}}
+use Rattle.html_flow_lists.specs.declared.notes.{Note.{Note}, Notes.{Notes}}
 
 abbrev pub list_view : ItemList → ListView
 list_view l = record {

@@ -2,8 +2,7 @@
 
 ghost use Rattle.std.specs.Prelude.{◌≡◌, ◌↔◌, ◌++◌, ◌∷◌, [], IsTrue, OnOk, OnErr, IfErr, chars, length, ◌==◌, ◌||◌, ◌+◌, ◌<◌, ◌≤◌, vec_len, vec_capacity};
 ghost use Rattle.html_names_core.specs.Texts.{text_view};
-ghost use Rattle.html_flow_convert.specs.Items.{inheriting, text_item};
-ghost use Rattle.html_flow_convert.specs.Views.{elem_view, pair_view, pairs_view};
+ghost use Rattle.html_flow_convert.specs.{Items.{inheriting, text_item}, Views.{elem_view, pair_view, pairs_view}};
 ghost use Rattle.html_flow_places.specs.NamedLocations.{link_items, place_items};
 ghost use Rattle.html_names_table.specs.NameTables.{with_name};
 ghost use Rattle.html_flow_lists.specs.ItemLists.{block_items, element_of_list, first_passes, head_ending, is_added_space, is_border, is_lone_space, item_ending, item_ends_in_space, last_passes, no_list, ready_for, tag_ending, takes_text, text_ends_in_space, with_break, with_changed_first, with_changed_last, with_cut_text, with_element, with_item, with_list_span, with_longer_text, with_more, with_space, with_text, without_end_space, without_first, without_last, without_start_space};

@@ -1,12 +1,10 @@
 //! Footnotes.
 
 ghost use Rattle.std.specs.Prelude.{◌≡◌, ◌↔◌, ◌+◌, ◌<◌, ◌≤◌, ◌^◌, ◌++◌, ◌∷◌, [], IsTrue, OnOk, OnErr, IfOk, IfErr, is_ok, bytes_eq, chars, decimal, length, map};
-ghost use Rattle.html_names_core.specs.Names.{is_ascii};
-ghost use Rattle.html_names_core.specs.Texts.{text_view};
+ghost use Rattle.html_names_core.specs.{Names.{is_ascii}, Texts.{text_view}};
 ghost use Rattle.html_flow_convert.specs.Views.{elem_view, item_view, pair_view, pairs_view};
-ghost use Rattle.html_flow_lists.specs.ItemLists.{last_passes, with_changed_last};
+ghost use Rattle.html_flow_lists.specs.{ItemLists.{last_passes, with_changed_last}, ListViews.{note_view, notes_view}};
 ghost use Rattle.html_flow_lists.specs.Notes.{back_items, class_and_role, content_at, element_with, further_mark_item, has_key, in_last_line, is_marked, is_line, is_line_item, key_mark_item, located_note, mark_item, mark_location, note_items, note_link, note_location, place_of_key, section_items, with_content_at, with_key, with_longer_body, with_longer_line};
-ghost use Rattle.html_flow_lists.specs.ListViews.{note_view, notes_view};
 
 use crate::item_list::text_pair;
 use html_dom_tree::text::copy_optional_text;

@@ -1,18 +1,12 @@
 -- The locations of names as they are held, against the list of the names.
 use Rattle.std.proofs.Common.{◌≡◌, ℕ, ◌+◌, Bool, true, false, if◌then◌else◌, List, [], ◌∷◌, ◌++◌, refl, sym, ap, ◌∙◌, chars, length, arith, bytes_eq, length-append, Some, None, string_bytes, String, Global, unwrap_or}
-use Rattle.std.specs.BTreeMap.{BTreeMap, get_by_text, UpdatesBy}
-use Rattle.std.specs.String.{string_cmp}
-use Rattle.std.specs.Cmp.Lexicographic.{slice_cmp}
-use Rattle.std.specs.Ordering.{nat_cmp}
 use Rattle.std.proofs.lemmas.Map.Text.{btree_map_updates_text}
-use Rattle.std.specs.Str.{IsUtf8}
+use Rattle.std.specs.{BTreeMap.{BTreeMap, get_by_text, UpdatesBy}, Ordering.{nat_cmp}, Str.{IsUtf8}, String.{string_cmp}}
+use Rattle.std.specs.Cmp.Lexicographic.{slice_cmp}
 use Rattle.html_dom_tree.specs.declared.introspection.Location.{Location}
-use Rattle.html_names_core.specs.Names.{stands_in}
-use Rattle.html_names_table.specs.NameTables.{number_in}
-use Rattle.html_names_core.proofs.Lists.{bytes_eq-chars}
-use Rattle.html_names_table.proofs.NumberMaps.{added_where, numbered}
-use Rattle.html_flow_places.specs.HeldLocations.{location_where, IsLocating}
-use Rattle.html_flow_places.specs.NamedLocations.{location_in}
+use Rattle.html_names_core.{proofs.Lists.{bytes_eq-chars}, specs.Names.{stands_in}}
+use Rattle.html_names_table.{proofs.NumberMaps.{added_where, numbered}, specs.NameTables.{number_in}}
+use Rattle.html_flow_places.specs.{HeldLocations.{location_where, IsLocating}, NamedLocations.{location_in}}
 
 -- the location for a number
 abbrev location_of : ℕ → Location

@@ -1,12 +1,9 @@
 -- Locations of names, over lists of texts.
 use Rattle.std.proofs.Common.{◌≡◌, ℕ, suc, ◌+◌, ◌-◌, ◌<◌, ◌≤◌, List, [], ◌∷◌, ◌++◌, refl, sym, ap, ◌∙◌, chars, length, length-append, get_or, arith, false, Some, add-one, Option, option_map, string_bytes, String, Global}
-use Rattle.std.proofs.lemmas.Bool.{eq-eqb}
-use Rattle.std.proofs.lemmas.Option.{slice_get-get_or, slice_get-map, slice_get_read}
-use Rattle.std.proofs.lemmas.List.{length-map, map-append}
-use Rattle.html_names_core.specs.Names.{stands_in}
-use Rattle.html_names_core.specs.Texts.{text_view, texts_view}
-use Rattle.html_names_table.specs.NameTables.{number_in, with_name}
+use Rattle.std.proofs.lemmas.{Bool.{eq-eqb}, List.{length-map, map-append}, Option.{slice_get-get_or, slice_get-map, slice_get_read}}
+use Rattle.html_names_core.specs.{Names.{stands_in}, Texts.{text_view, texts_view}}
 use Rattle.html_names_table.proofs.NameTables.{equal_numbers, name_at-added, number_below, number_in-added, number_later, number_next, stands_in-both, stands_in-added, added_again}
+use Rattle.html_names_table.specs.NameTables.{number_in, with_name}
 use Rattle.html_flow_places.specs.NamedLocations.{location_in, name_of}
 
 pub equal_locations : (names : List (List ℕ)) (a b : List ℕ) →

@@ -1,9 +1,7 @@
 -- The locations that a map has for names, by the bytes of their texts.
-use Rattle.std.specs.Prelude.{◌≡◌, ℕ, List, chars, String, bytes_eq, if◌then◌else◌, Option, Some, None, Result, OnOk, OnErr}
 use Rattle.std.specs.BTreeMap.{BTreeMap, get_by_text}
-use Rattle.std.specs.Str.{IsUtf8}
-use Rattle.std.specs.declared.alloc.AllocError.{AllocError}
-use Rattle.std.specs.declared.alloc.Global.{Global}
+use Rattle.std.specs.{Prelude.{◌≡◌, ℕ, List, chars, String, bytes_eq, if◌then◌else◌, Option, Some, None, Result, OnOk, OnErr}, Str.{IsUtf8}}
+use Rattle.std.specs.declared.alloc.{AllocError.{AllocError}, Global.{Global}}
 use Rattle.html_names_core.specs.Names.{stands_in}
 use Rattle.html_names_table.specs.NameTables.{IsNumbered}
 use Rattle.html_dom_tree.specs.declared.introspection.Location.{Location}

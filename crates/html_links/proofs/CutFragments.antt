@@ -1,21 +1,13 @@
 -- A fragment with a directive, as a text and as its characters.
 use Rattle.std.proofs.Common.{◌≡◌, ◌≢◌, ◌↔◌, ◌≤◌, ◌<◌, ℕ, List, [], ◌∷◌, ◌++◌, Bool, true, false, ◌||◌, ◌==◌, None, Some, chars, codes, length, get_or, take, drop, refl, sym, ap, subst, ◌∙◌, arith, append_assoc, length-append}
-use Rattle.std.specs.Bool.{MatchBool}
-use Rattle.std.specs.List.{All}
-use Rattle.std.specs.Prelude.{if◌then◌else◌}
-use Rattle.std.specs.Str.{IsUtf8}
-use Rattle.std.specs.Str.Iter.{HasSubslice}
-use Rattle.std.specs.Str.Pattern.{FindsText, HasMatch}
-use Rattle.std.proofs.lemmas.Bool.Decides.{Decides-eqb}
-use Rattle.std.proofs.lemmas.List.{drop_at, take_at, take-append-drop}
-use Rattle.std.proofs.lemmas.List.Elements.{All-head, All-tail}
-use Rattle.std.proofs.lemmas.Slice.Eq.{starts_is}
+use Rattle.std.proofs.lemmas.{Bool.Decides.{Decides-eqb}, List.{drop_at, take_at, take-append-drop}}
 use Rattle.std.proofs.lemmas.Str.{IsUtf8-from_ascii, IsUtf8-take, chars-append, encodes-append, encodes-chars, encodes-IsAscii, length-le-encodes}
-use Rattle.std.proofs.lemmas.Str.Pattern.{contains_text}
+use Rattle.std.proofs.lemmas.{List.Elements.{All-head, All-tail}, Slice.Eq.{starts_is}, Str.Pattern.{contains_text}}
+use Rattle.std.specs.{Bool.{MatchBool}, List.{All}, Prelude.{if◌then◌else◌}, Str.{IsUtf8}}
+use Rattle.std.specs.Str.{Iter.{HasSubslice}, Pattern.{FindsText, HasMatch}}
 use lib.Seq.{get_or-append_seam}
 use lib.Utf8.{encodes}
-use Rattle.html_names_core.proofs.Basics.{is_ascii_is}
-use Rattle.html_names_core.proofs.Lists.{chars_ascii}
+use Rattle.html_names_core.proofs.{Basics.{is_ascii_is}, Lists.{chars_ascii}}
 use Rattle.html_links.specs.Directives.{begins_directive, has_directive, without_directive}
 
 -- what begins a directive

@@ -1,12 +1,8 @@
 -- Lists of names in which none comes twice, by how often each comes, and by what is in use already.
 use Rattle.std.proofs.Common.{◌≡◌, ℕ, ◌+◌, ◌≤◌, Bool, true, false, not, ◌||◌, ◌&&◌, List, [], ◌∷◌, ◌++◌, cond, bytes_eq, refl, ap, sym, ◌∙◌, arith}
-use Rattle.std.proofs.lemmas.Bool.{and_parts, not-true}
-use Rattle.std.proofs.lemmas.List.Sums.{sum_by-append, sum_by-cons}
-use Rattle.std.proofs.lemmas.Slice.Eq.{bytes_eq-Decides}
-use Rattle.html_names_core.specs.Names.{stands_in}
-use Rattle.html_names_core.proofs.Basics.{bytes_eq-same, bytes_eq-sym}
-use Rattle.html_links.specs.Distinct.{are_distinct, occurrences}
-use Rattle.html_links.specs.TreeNames.{Name, with_used_name}
+use Rattle.std.proofs.lemmas.{Bool.{and_parts, not-true}, List.Sums.{sum_by-append, sum_by-cons}, Slice.Eq.{bytes_eq-Decides}}
+use Rattle.html_names_core.{proofs.Basics.{bytes_eq-same, bytes_eq-sym}, specs.Names.{stands_in}}
+use Rattle.html_links.specs.{Distinct.{are_distinct, occurrences}, TreeNames.{Name, with_used_name}}
 
 abbrev pub one_if : Bool → ℕ
 one_if b = cond b 1 0

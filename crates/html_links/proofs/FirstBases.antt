@@ -1,10 +1,7 @@
 -- The base of a list of nodes that is walked: one node after the other.
-use Rattle.std.proofs.Common.{◌≡◌, ℕ, ◌+◌, ◌≤◌, ◌<◌, length, get_or, drop, sym, List, Option, Some, None, ap, ◌∙◌}
-use Rattle.std.proofs.lemmas.List.{drop_all}
-use Rattle.html_dom_tree.specs.Attributes.{or_else}
-use Rattle.html_dom_tree.specs.Views.{node_view, nodes_view}
+use Rattle.std.proofs.{Common.{◌≡◌, ℕ, ◌+◌, ◌≤◌, ◌<◌, length, get_or, drop, sym, List, Option, Some, None, ap, ◌∙◌}, lemmas.List.{drop_all}}
+use Rattle.html_dom_tree.{proofs.Nodes.{nodes_view-drop}, specs.Attributes.{or_else}, specs.Views.{node_view, nodes_view}}
 use Rattle.html_dom_tree.specs.declared.node.HtmlNode.{HtmlNode}
-use Rattle.html_dom_tree.proofs.Nodes.{nodes_view-drop}
 use Rattle.html_links.specs.Bases.{node_base, nodes_base}
 
 module _ (ns : List HtmlNode) (i : ℕ) (x : HtmlNode) where

@@ -1,18 +1,12 @@
 -- The names of a tree, listed one after the other, and then put in use.
 use Rattle.std.proofs.Common.{◌≡◌, ℕ, suc, ◌+◌, ◌<◌, ◌≤◌, Bool, true, false, ◌||◌, List, [], ◌∷◌, ◌++◌, length, get_or, drop, refl, ap, sym, ◌∙◌, bytes_eq, append_assoc, add-one, drop-cons, String, Global}
+use Rattle.std.proofs.{Math.Bool.{or-false, or_assoc}, Math.Path.{fun_ext}, lemmas.List.{append-nil, drop_all}}
 use Rattle.std.specs.Prelude.{if◌then◌else◌, codes, option_to_list}
-use Rattle.std.proofs.Math.Path.{fun_ext}
-use Rattle.std.proofs.lemmas.List.{append-nil, drop_all}
-use Rattle.std.proofs.Math.Bool.{or-false, or_assoc}
 use Rattle.html_names_core.specs.Names.{stands_in}
-use Rattle.html_dom_tree.specs.Frames.{HtmlFrameView}
+use Rattle.html_dom_tree.{proofs.Basics.{node_view-Tag, node_view-Text}, specs.FrameViews.{tag_view}, specs.Frames.{HtmlFrameView}}
 use Rattle.html_dom_tree.specs.Tree.{TextPair, TagView, Head, NodeView, tag_node, text_node, element_node, frame_node, NodesView, none, node}
-use Rattle.html_dom_tree.specs.FrameViews.{tag_view}
-use Rattle.html_dom_tree.specs.Views.{text_view, node_view}
-use Rattle.html_dom_tree.specs.declared.introspection.Tag.{Tag}
-use Rattle.html_dom_tree.specs.declared.node.HtmlNode.{HtmlNode}
+use Rattle.html_dom_tree.specs.{Views.{text_view, node_view}, declared.introspection.Tag.{Tag}, declared.node.HtmlNode.{HtmlNode}}
 use Rattle.html_dom_tree.specs.declared.span.Span.{Span}
-use Rattle.html_dom_tree.proofs.Basics.{node_view-Tag, node_view-Text}
 use Rattle.html_links.specs.TreeNames.{Name, with_used_name, all_ids, anchor_names, frame_names, nodes_names, gathered_names}
 use Rattle.html_links.specs.UsedNames.{with_names}
 

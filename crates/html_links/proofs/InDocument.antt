@@ -1,14 +1,12 @@
 -- The part of a tree that stands in its document.
-use Rattle.std.proofs.Common.{◌≡◌, ◌≤◌, Bool, true, false, ◌||◌, List, ◌++◌, refl, sym, ap, ◌∙◌, arith}
-use Rattle.std.proofs.Math.Bool.{or-true}
+use Rattle.std.proofs.{Common.{◌≡◌, ◌≤◌, Bool, true, false, ◌||◌, List, ◌++◌, refl, sym, ap, ◌∙◌, arith}, Math.Bool.{or-true}}
 use Rattle.html_names_core.specs.Names.{stands_in}
 use Rattle.html_dom_tree.specs.Tree.{tag_node, text_node, element_node, frame_node, NodesView, none, node, ElementView}
-use Rattle.html_links.specs.TreeNames.{id_names, shown_names, Name, frame_names, gathered_names}
+use Rattle.html_links.proofs.{Differing.{occurrences-append, occurrences-none}, Gathering.{stands-append}}
 use Rattle.html_links.specs.Distinct.{occurrences}
-use Rattle.html_links.specs.Indicated.{element_places, nodes_places, place_names}
 use Rattle.html_links.specs.InDocument.{document_places, element_part, in_document, kept, keeps, node_part, nodes_part}
-use Rattle.html_links.proofs.Differing.{occurrences-append, occurrences-none}
-use Rattle.html_links.proofs.Gathering.{stands-append}
+use Rattle.html_links.specs.Indicated.{element_places, nodes_places, place_names}
+use Rattle.html_links.specs.TreeNames.{id_names, shown_names, Name, frame_names, gathered_names}
 
 -- the whole tree is one part
 

@@ -1,8 +1,7 @@
 -- A link that leads among the names of a tree leads among fewer of them, its own being one.
 use Rattle.std.proofs.Common.{◌≡◌, ℕ, Bool, true, false, true≢false, List, [], ◌∷◌, chars, Some, None, refl, sym, ap, ◌∙◌}
 use Rattle.std.specs.Prelude.{if◌then◌else◌}
-use Rattle.html_links.specs.Indicated.{LeadsTo, decoding, indicated_at, indicated_by, indicated_name, url_fragment}
-use Rattle.html_links.specs.TreeNames.{Name}
+use Rattle.html_links.specs.{Indicated.{LeadsTo, decoding, indicated_at, indicated_by, indicated_name, url_fragment}, TreeNames.{Name}}
 
 module _ (few many : Name → Bool) (among : (n : Name) → few n ≡ true → many n ≡ true)
     (name : Name) (there : few name ≡ true) where

@@ -1,23 +1,15 @@
 -- The names of places, as they are put into a set.
 use Rattle.std.proofs.Common.{◌≡◌, ℕ, suc, ◌+◌, ◌≤◌, ◌<◌, Bool, true, false, List, [], ◌∷◌, ◌++◌, length, get_or, drop, ap, refl, sym, ◌∙◌, append_assoc, add-one, drop-cons, String, Global}
-use Rattle.std.specs.Prelude.{option_to_list}
-use Rattle.std.proofs.lemmas.List.{append-nil, drop_all}
+use Rattle.std.{proofs.lemmas.List.{append-nil, drop_all}, specs.Prelude.{option_to_list}}
 use Rattle.html_names_core.specs.Texts.{text_view}
-use Rattle.html_dom_tree.specs.FrameViews.{anchors_view}
-use Rattle.html_dom_tree.specs.Frames.{HtmlFrameView}
+use Rattle.html_dom_tree.proofs.{Basics.{node_view-Tag, node_view-Text}, Nodes.{nodes_view-drop}}
+use Rattle.html_dom_tree.specs.{FrameViews.{anchors_view}, Frames.{HtmlFrameView}}
 use Rattle.html_dom_tree.specs.Tree.{Head, NodeView, tag_node, text_node, element_node, frame_node, NodesView, none, node, ElementView}
-use Rattle.html_dom_tree.specs.Views.{node_view, nodes_view}
-use Rattle.html_dom_tree.specs.declared.frame.Point.{Point}
-use Rattle.html_dom_tree.specs.declared.introspection.Tag.{Tag}
-use Rattle.html_dom_tree.specs.declared.node.HtmlNode.{HtmlNode}
-use Rattle.html_dom_tree.specs.declared.span.Span.{Span}
-use Rattle.html_dom_tree.proofs.Basics.{node_view-Tag, node_view-Text}
-use Rattle.html_dom_tree.proofs.Nodes.{nodes_view-drop}
-use Rattle.html_links.specs.InDocument.{element_part, kept, keeps, node_part, nodes_part}
+use Rattle.html_dom_tree.specs.{Views.{node_view, nodes_view}, declared.frame.Point.{Point}, declared.introspection.Tag.{Tag}}
+use Rattle.html_dom_tree.specs.declared.{node.HtmlNode.{HtmlNode}, span.Span.{Span}}
+use Rattle.html_links.{proofs.Gathering.{with-append, with-none}, specs.InDocument.{element_part, kept, keeps, node_part, nodes_part}}
 use Rattle.html_links.specs.Indicated.{element_places, link_name, nodes_places, place_names}
-use Rattle.html_links.specs.TreeNames.{Name, anchor_names, first_id, frame_names, gathered_names}
-use Rattle.html_links.specs.UsedNames.{with_names}
-use Rattle.html_links.proofs.Gathering.{with-append, with-none}
+use Rattle.html_links.specs.{TreeNames.{Name, anchor_names, first_id, frame_names, gathered_names}, UsedNames.{with_names}}
 
 -- anchors from an index on are the one there, and those behind it
 pub anchors_in_turn : (xs : List (Point × String Global)) (i : ℕ) (x : Point × String Global) →

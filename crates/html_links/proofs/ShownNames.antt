@@ -4,9 +4,9 @@ use Rattle.std.specs.Prelude.{if◌then◌else◌, option_to_list}
 use Rattle.html_names_core.specs.Names.{stands_in}
 use Rattle.html_dom_tree.specs.Attributes.{first}
 use Rattle.html_dom_tree.specs.Tree.{TextPair, tag_node, text_node, element_node, frame_node, NodesView, none, node, ElementView}
-use Rattle.html_links.specs.TreeNames.{shown_names, Name, all_ids, element_names, first_id, frame_names, nodes_names, gathered_names}
-use Rattle.html_links.specs.Distinct.{are_distinct, occurrences}
 use Rattle.html_links.proofs.Differing.{at_most_one, distinct_once, occurrences-append, stands_occurs}
+use Rattle.html_links.specs.Distinct.{are_distinct, occurrences}
+use Rattle.html_links.specs.TreeNames.{shown_names, Name, all_ids, element_names, first_id, frame_names, nodes_names, gathered_names}
 
 module _ (n : Name) where
   abbrev count : List Name → ℕ

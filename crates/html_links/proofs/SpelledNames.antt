@@ -1,25 +1,18 @@
 -- Spellings of names: what the sets of the program hold, and where a spelling leads.
 use Rattle.std.proofs.Common.{◌≡◌, ◌<◌, ◌==◌, ℕ, List, [], ◌∷◌, All, Bool, true, false, not, ◌||◌, None, Some, chars, refl, sym, ap, subst, ◌∙◌, arith}
-use Rattle.std.specs.List.{flat_map, list_any}
-use Rattle.std.specs.Prelude.{if◌then◌else◌, nat_lt, option_map}
-use Rattle.std.specs.Str.{IsUtf8}
-use Rattle.std.specs.Str.Lossy.{utf8_lossy}
 use Rattle.std.proofs.lemmas.Bool.{agree_below_at, and_parts, true≢false}
-use Rattle.std.proofs.lemmas.Bool.Decides.{nat_tests}
+use Rattle.std.proofs.lemmas.{Str.{chars-encodes, chars-nil, encodes-chars, encodes-IsAscii, utf8_lossy-IsUtf8}, Bool.Decides.{nat_tests}}
 use Rattle.std.proofs.lemmas.List.Elements.{All-nil, All-cons, All-append, All-head, All-tail, All-weaker}
-use Rattle.std.proofs.lemmas.Str.{chars-encodes, chars-nil, encodes-chars, encodes-IsAscii, utf8_lossy-IsUtf8}
+use Rattle.std.specs.{List.{flat_map, list_any}, Prelude.{if◌then◌else◌, nat_lt, option_map}, Str.{IsUtf8}, Str.Lossy.{utf8_lossy}}
 use lib.Utf8.{encode, encodes, scalar, scalars}
-use Rattle.percent_encoding.specs.declared.ascii_set.AsciiSet.{AsciiSet}
-use Rattle.percent_encoding.specs.AsciiSet.{contains, should_percent_encode}
-use Rattle.percent_encoding.specs.Percent.{IsKept, encode_byte, percent_decode, percent_encode}
 use Rattle.percent_encoding.proofs.PercentLemmas.{All-percent_encode, IsAscii_from_kept, IsByte, IsEscapeByte, percent_decode-nil, percent_encode_unchanged, round_trip}
-use Rattle.html_links.specs.Directives.{has_directive, without_directive}
-use Rattle.html_links.specs.Indicated.{LeadsTo, before_end, decoding, fragments_in, indicated_at, indicated_by, indicated_name, is_control_or_space, is_dropped, unless_empty, url_end, url_fragment}
-use Rattle.html_links.specs.HrefLaws.{LeadingHrefsLead, PlainHrefsLead}
-use Rattle.html_links.specs.Spellings.{some_name, byte_encoding, encoding, href_with, is_any, is_in_colon_set, is_in_fragment_set, is_in_name_set, is_left, leading_spelling, name_encoding, plain_spelling}
-use Rattle.html_links.specs.TreeNames.{Name}
-use Rattle.html_links.specs.declared.spellings.TheConstants.{ANY, COLON, FRAGMENT, NAME}
+use Rattle.percent_encoding.specs.AsciiSet.{contains, should_percent_encode}
+use Rattle.percent_encoding.specs.{Percent.{IsKept, encode_byte, percent_decode, percent_encode}, declared.ascii_set.AsciiSet.{AsciiSet}}
 use Rattle.html_links.proofs.CutFragments.{none_without_colon, nothing_cut}
+use Rattle.html_links.specs.{Directives.{has_directive, without_directive}, HrefLaws.{LeadingHrefsLead, PlainHrefsLead}}
+use Rattle.html_links.specs.Indicated.{LeadsTo, before_end, decoding, fragments_in, indicated_at, indicated_by, indicated_name, is_control_or_space, is_dropped, unless_empty, url_end, url_fragment}
+use Rattle.html_links.specs.Spellings.{some_name, byte_encoding, encoding, href_with, is_any, is_in_colon_set, is_in_fragment_set, is_in_name_set, is_left, leading_spelling, name_encoding, plain_spelling}
+use Rattle.html_links.specs.{TreeNames.{Name}, declared.spellings.TheConstants.{ANY, COLON, FRAGMENT, NAME}}
 
 -- the sets
 

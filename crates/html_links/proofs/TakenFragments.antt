@@ -1,21 +1,13 @@
 -- The fragment of an `href`, character by character, and where it leads.
 use Rattle.std.proofs.Common.{◌≡◌, ◌==◌, ℕ, List, [], ◌∷◌, ◌++◌, Bool, true, false, None, Some, String, Global, IfOk, chars, length, string_bytes, refl, sym, ap, ◌∙◌, arith, append-nil, append_assoc}
-use Rattle.std.specs.List.{filter, list_all}
-use Rattle.std.specs.Prelude.{Result, Ok, Err}
-use Rattle.std.specs.Str.{IsUtf8}
-use Rattle.std.specs.declared.alloc.AllocError.{AllocError}
-use Rattle.std.proofs.lemmas.Bool.{and_parts}
-use Rattle.std.proofs.lemmas.Str.{IsUtf8-string_bytes, chars-nil, chars_past_char, encodes-chars, encodes-IsAscii}
+use Rattle.std.proofs.lemmas.{Bool.{and_parts}, Str.{IsUtf8-string_bytes, chars-nil, chars_past_char, encodes-chars, encodes-IsAscii}}
+use Rattle.std.specs.{List.{filter, list_all}, Prelude.{Result, Ok, Err}, Str.{IsUtf8}, declared.alloc.AllocError.{AllocError}}
 use lib.Utf8.{encode, encodes}
-use Rattle.percent_encoding.specs.Percent.{percent_encode}
-use Rattle.percent_encoding.proofs.PercentLemmas.{IsAscii-percent_encode}
+use Rattle.percent_encoding.{proofs.PercentLemmas.{IsAscii-percent_encode}, specs.Percent.{percent_encode}}
 use Rattle.html_names_core.specs.Texts.{text_view}
-use Rattle.html_links.specs.Directives.{without_directive}
+use Rattle.html_links.{proofs.SpelledNames.{encoding_is, fragment_set_is, no_blank_is_kept}, specs.Directives.{without_directive}}
 use Rattle.html_links.specs.Indicated.{before_end, behind_hash, decoding, if_place, indicated_at, is_control_or_space, is_dropped, is_kept, is_top, leads_to_top, unless_empty, url_end, url_fragment, without_end_blanks}
-use Rattle.html_links.specs.TreeNames.{Name}
-use Rattle.html_links.specs.Spellings.{is_in_fragment_set}
-use Rattle.html_links.specs.declared.spellings.TheConstants.{FRAGMENT}
-use Rattle.html_links.proofs.SpelledNames.{encoding_is, fragment_set_is, no_blank_is_kept}
+use Rattle.html_links.specs.{Spellings.{is_in_fragment_set}, TreeNames.{Name}, declared.spellings.TheConstants.{FRAGMENT}}
 
 -- what stands behind the `#`
 

@@ -1,21 +1,11 @@
 -- The names in use as a set of texts.
 use Rattle.std.proofs.Common.{◌≡◌, ℕ, Bool, true, false, ◌||◌, List, [], ◌∷◌, map, chars, bytes_eq, refl, ap, sym, ◌∙◌, string_bytes, String, Global, IsUtf8, is_eq}
-use Rattle.std.specs.BTreeMap.{is_at}
-use Rattle.std.specs.BTreeSet.{insert_key}
-use Rattle.std.specs.Cmp.Lexicographic.{slice_cmp}
-use Rattle.std.specs.List.{list_any}
-use Rattle.std.specs.Ordering.{nat_cmp, match_ordering}
-use Rattle.std.specs.String.{string_cmp}
-use Rattle.std.specs.declared.cmp.Ordering.{Ordering}
-use Rattle.std.specs.declared.cmp.Ordering.TheVariants.{Less, Equal, Greater}
-use Rattle.std.proofs.lemmas.Map.Text.{is_eq-slice_cmp}
-use Rattle.std.proofs.lemmas.Slice.Eq.{bytes_eq-Decides}
+use Rattle.std.proofs.{Math.Bool.{or-true}, lemmas.Map.Text.{is_eq-slice_cmp}, lemmas.Slice.Eq.{bytes_eq-Decides}}
 use Rattle.std.proofs.lemmas.Str.{IsUtf8-string_bytes}
-use Rattle.std.proofs.Math.Bool.{or-true}
-use Rattle.html_names_core.specs.Names.{stands_in}
-use Rattle.html_names_core.specs.Texts.{text_view}
-use Rattle.html_names_core.proofs.Lists.{bytes_eq-chars}
-use Rattle.html_names_core.proofs.Basics.{bytes_eq-sym}
+use Rattle.std.specs.{BTreeMap.{is_at}, BTreeSet.{insert_key}, List.{list_any}, Ordering.{nat_cmp, match_ordering}, String.{string_cmp}}
+use Rattle.std.specs.{Cmp.Lexicographic.{slice_cmp}, declared.cmp.Ordering.{Ordering}}
+use Rattle.std.specs.declared.cmp.Ordering.TheVariants.{Less, Equal, Greater}
+use Rattle.html_names_core.{proofs.Basics.{bytes_eq-sym}, proofs.Lists.{bytes_eq-chars}, specs.Names.{stands_in}, specs.Texts.{text_view}}
 use Rattle.html_links.specs.TreeNames.{Name}
 
 pub contains_is : (keys : List (String Global)) (bs : List ℕ) → IsUtf8 bs →

@@ -2,8 +2,7 @@
 use Rattle.std.specs.Prelude.{ℕ, Bool, false, not, ◌==◌, List, [], ◌∷◌, codes, bytes_eq, if◌then◌else◌, Option, Some, None}
 use Rattle.html_dom_tree.specs.Attributes.{first, or_else}
 use Rattle.html_dom_tree.specs.Tree.{TextPair, NodeView, tag_node, text_node, element_node, frame_node, NodesView, none, node, ElementView}
-use Rattle.html_links.specs.InDocument.{keeps}
-use Rattle.html_links.specs.Scripts.{past_blanks}
+use Rattle.html_links.specs.{InDocument.{keeps}, Scripts.{past_blanks}}
 
 abbrev pub own_base : (name : List ℕ) → (attrs : List TextPair) → Option (List ℕ)
 own_base name attrs = if bytes_eq name (codes "base") then first attrs (codes "href") else None

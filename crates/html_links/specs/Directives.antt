@@ -1,7 +1,6 @@
 -- The fragment directive: a document's URL loses what stands behind `:~:` before a browser looks for
 -- the place that its fragment indicates (URL Fragment Text Directives: the fragment directive).
-use Rattle.std.specs.List.{starts_with}
-use Rattle.std.specs.Prelude.{ℕ, Bool, false, ◌||◌, ◌==◌, List, [], ◌∷◌, codes, if◌then◌else◌}
+use Rattle.std.specs.{List.{starts_with}, Prelude.{ℕ, Bool, false, ◌||◌, ◌==◌, List, [], ◌∷◌, codes, if◌then◌else◌}}
 
 -- whether a directive stands at the beginning of a fragment
 abbrev pub begins_directive : (fragment : List ℕ) → Bool

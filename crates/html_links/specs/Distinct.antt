@@ -1,10 +1,7 @@
 -- Lists of names in which none comes twice, and how often a name comes.
-use Rattle.std.specs.Borrow.{Bor}
-use Rattle.std.specs.List.{count_by}
-use Rattle.std.specs.Prelude.{ℕ, Bool, true, not, ◌&&◌, List, [], ◌∷◌, bytes_eq, map, String}
+use Rattle.std.specs.{Borrow.{Bor}, List.{count_by}, Prelude.{ℕ, Bool, true, not, ◌&&◌, List, [], ◌∷◌, bytes_eq, map, String}}
 use Rattle.std.specs.declared.alloc.Global.{Global}
-use Rattle.html_names_core.specs.Names.{stands_in}
-use Rattle.html_names_core.specs.Texts.{text_view}
+use Rattle.html_names_core.specs.{Names.{stands_in}, Texts.{text_view}}
 use Rattle.html_links.specs.TreeNames.{Name}
 
 -- no name is repeated

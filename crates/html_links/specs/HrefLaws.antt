@@ -1,9 +1,7 @@
 -- Laws of spellings that lead.
 use Rattle.std.specs.Prelude.{◌≡◌, ℕ, Bool, true, List, Some}
 use lib.Utf8.{scalars}
-use Rattle.html_links.specs.TreeNames.{Name}
-use Rattle.html_links.specs.Indicated.{LeadsTo}
-use Rattle.html_links.specs.Spellings.{some_name, href_to, leading_href, plain_spelling}
+use Rattle.html_links.specs.{Indicated.{LeadsTo}, Spellings.{some_name, href_to, leading_href, plain_spelling}, TreeNames.{Name}}
 
 -- the `href` chosen for the name of a place leads to it
 abbrev pub LeadingHrefsLead : Type 0

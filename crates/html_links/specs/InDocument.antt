@@ -2,8 +2,7 @@
 -- Standard 4.12.3).
 use Rattle.std.specs.Prelude.{ℕ, Bool, true, false, not, ◌||◌, List, codes, bytes_eq}
 use Rattle.html_dom_tree.specs.Tree.{NodeView, tag_node, text_node, element_node, frame_node, NodesView, none, node, ElementView}
-use Rattle.html_links.specs.Indicated.{element_places}
-use Rattle.html_links.specs.TreeNames.{Name}
+use Rattle.html_links.specs.{Indicated.{element_places}, TreeNames.{Name}}
 
 abbrev pub is_template : (name : List ℕ) → Bool
 is_template name = bytes_eq name (codes "template")

@@ -1,16 +1,13 @@
 -- The place to which an `href` to a fragment of its own page leads in a browser: the URL Standard
 -- parses it (4.4, URL parsing), the fragment loses its directive (URL Fragment Text Directives), and
 -- the HTML Standard finds the place (7.4.6.3, scrolling to a fragment).
-use Rattle.std.specs.Char.{to_ascii_lowercase}
-use Rattle.std.specs.List.{filter}
+use Rattle.std.specs.{Char.{to_ascii_lowercase}, List.{filter}}
 use Rattle.std.specs.Prelude.{◌≡◌, ℕ, Bool, true, not, ◌||◌, ◌==◌, nat_lt, List, [], ◌∷◌, ◌++◌, map, chars, codes, bytes_eq, if◌then◌else◌, Option, Some, None, is_some, option_to_list}
 use Rattle.std.specs.Str.Lossy.{utf8_lossy}
 use Rattle.percent_encoding.specs.Percent.{percent_decode}
-use Rattle.html_dom_tree.specs.Attributes.{first}
-use Rattle.html_dom_tree.specs.Tree.{TextPair, NodesView, ElementView}
-use Rattle.html_links.specs.Directives.{without_directive}
+use Rattle.html_dom_tree.specs.{Attributes.{first}, Tree.{TextPair, NodesView, ElementView}}
+use Rattle.html_links.specs.{Directives.{without_directive}, Spellings.{encoding, is_in_fragment_set}}
 use Rattle.html_links.specs.TreeNames.{Name, frame_names, gathered_names}
-use Rattle.html_links.specs.Spellings.{encoding, is_in_fragment_set}
 
 -- the names of places
 

@@ -1,6 +1,5 @@
 -- Addresses that a browser runs instead of opening them.
-use Rattle.std.specs.Char.{to_ascii_lowercase}
-use Rattle.std.specs.List.{filter}
+use Rattle.std.specs.{Char.{to_ascii_lowercase}, List.{filter}}
 use Rattle.std.specs.Prelude.{ℕ, Bool, true, false, ◌&&◌, ◌||◌, ◌==◌, List, [], ◌∷◌, codes, if◌then◌else◌}
 use Rattle.html_links.specs.Indicated.{is_control_or_space, is_kept}
 

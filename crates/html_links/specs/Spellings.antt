@@ -4,8 +4,7 @@ use Rattle.std.specs.List.{flat_map, list_any}
 use Rattle.std.specs.Prelude.{ℕ, Bool, true, not, ◌||◌, ◌==◌, nat_lt, List, [], ◌∷◌, ◌++◌, Option, Some, None, option_map, codes, if◌then◌else◌}
 use lib.Utf8.{encodes}
 use Rattle.percent_encoding.specs.Percent.{percent_encode_byte}
-use Rattle.html_links.specs.Directives.{has_directive}
-use Rattle.html_links.specs.TreeNames.{Name}
+use Rattle.html_links.specs.{Directives.{has_directive}, TreeNames.{Name}}
 
 -- the fragment percent-encode set, of bytes as of characters: controls and the space, `"`, `<`,
 -- `>`, the backquote, and all from U+007F on

@@ -1,7 +1,6 @@
 -- The names in a tree, to which links can lead, and those in use.
 use Rattle.std.specs.Prelude.{Bool, ◌||◌, if◌then◌else◌, List, [], ◌∷◌, ◌++◌, ℕ, map, codes, bytes_eq, Option, option_to_list}
-use Rattle.html_dom_tree.specs.Attributes.{first}
-use Rattle.html_dom_tree.specs.Frames.{PointView, HtmlFrameView}
+use Rattle.html_dom_tree.specs.{Attributes.{first}, Frames.{PointView, HtmlFrameView}}
 use Rattle.html_dom_tree.specs.Tree.{TextPair, Head, element_node, frame_node, NodesView, none, node, ElementView}
 
 -- a name that a link can lead to

@@ -1,9 +1,6 @@
 -- The names in use as they are stored: a set of texts.
-use Rattle.std.specs.Prelude.{Bool, ◌||◌, List, map, String}
-use Rattle.std.specs.declared.alloc.Global.{Global}
-use Rattle.std.specs.BTreeSet.{BTreeSet}
-use Rattle.html_names_core.specs.Names.{stands_in}
-use Rattle.html_names_core.specs.Texts.{text_view}
+use Rattle.std.specs.{BTreeSet.{BTreeSet}, Prelude.{Bool, ◌||◌, List, map, String}, declared.alloc.Global.{Global}}
+use Rattle.html_names_core.specs.{Names.{stands_in}, Texts.{text_view}}
 use Rattle.html_links.specs.TreeNames.{Name}
 
 abbrev pub used_in : BTreeSet (String Global) → Name → Bool

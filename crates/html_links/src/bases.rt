@@ -1,8 +1,7 @@
 //! The base of the links of a page.
 
 ghost use Rattle.std.specs.Prelude.{◌≡◌, option_map, chars};
-ghost use Rattle.html_dom_tree.specs.Tree.{element_node};
-ghost use Rattle.html_dom_tree.specs.Views.{element_view, node_view, nodes_view, text_view};
+ghost use Rattle.html_dom_tree.specs.{Tree.{element_node}, Views.{element_view, node_view, nodes_view, text_view}};
 ghost use Rattle.html_links.specs.Bases.{base_of, base_is_elsewhere, is_elsewhere, node_base, nodes_base, own_base};
 ghost use Rattle.html_links.specs.Scripts.{past_blanks};
 

@@ -2,8 +2,7 @@
 
 ghost use Rattle.std.specs.Prelude.{true, ◌≡◌, OnOk};
 ghost use Rattle.html_dom_tree.specs.Views.{text_view};
-ghost use Rattle.html_links.specs.TreeNames.{Name, with_used_name};
-ghost use Rattle.html_links.specs.UsedNames.{used_in};
+ghost use Rattle.html_links.specs.{TreeNames.{Name, with_used_name}, UsedNames.{used_in}};
 
 use std::alloc::AllocError;
 use std::collections::BTreeSet;

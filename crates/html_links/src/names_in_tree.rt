@@ -1,11 +1,9 @@
 //! The names in a tree.
 
 ghost use Rattle.std.specs.Prelude.{◌≡◌, ◌++◌, [], ◌∷◌, OnOk, IfOk, option_to_list};
-ghost use Rattle.html_dom_tree.specs.FrameViews.{html_frame_view, anchors_view};
-ghost use Rattle.html_dom_tree.specs.Tree.{element_node, frame_node, node, none};
+ghost use Rattle.html_dom_tree.specs.{FrameViews.{html_frame_view, anchors_view}, Tree.{element_node, frame_node, node, none}};
 ghost use Rattle.html_dom_tree.specs.Views.{pair_view, attrs_view, node_view, nodes_view, element_view, optional_text_view};
-ghost use Rattle.html_links.specs.Distinct.{names_view};
-ghost use Rattle.html_links.specs.TreeNames.{all_ids, anchor_names, nodes_names, element_names};
+ghost use Rattle.html_links.specs.{Distinct.{names_view}, TreeNames.{all_ids, anchor_names, nodes_names, element_names}};
 
 use html_dom_tree::{HtmlAttrs, HtmlElement, HtmlFrame, HtmlNode, Point};
 use html_names_core::{HtmlAttr, attr};

@@ -1,14 +1,11 @@
 //! The names of the places of a tree.
 
 ghost use Rattle.std.specs.Prelude.{◌≡◌, [], ◌∷◌, IfOk, OnOk, option_map, option_to_list};
-ghost use Rattle.html_names_core.specs.Names.{stands_in};
-ghost use Rattle.html_names_core.specs.Texts.{text_view};
-ghost use Rattle.html_dom_tree.specs.FrameViews.{anchors_view, html_frame_view};
-ghost use Rattle.html_dom_tree.specs.Tree.{element_node, frame_node, node, none};
+ghost use Rattle.html_names_core.specs.{Names.{stands_in}, Texts.{text_view}};
+ghost use Rattle.html_dom_tree.specs.{FrameViews.{anchors_view, html_frame_view}, Tree.{element_node, frame_node, node, none}};
 ghost use Rattle.html_dom_tree.specs.Views.{element_view, node_view, nodes_view};
 ghost use Rattle.html_links.specs.InDocument.{document_places, element_part, keeps, node_part, nodes_part};
-ghost use Rattle.html_links.specs.Indicated.{element_places, link_name, nodes_places};
-ghost use Rattle.html_links.specs.TreeNames.{anchor_names, first_id};
+ghost use Rattle.html_links.specs.{Indicated.{element_places, link_name, nodes_places}, TreeNames.{anchor_names, first_id}};
 ghost use Rattle.html_links.specs.UsedNames.{used_in, with_names};
 
 use crate::names::put_in_use;

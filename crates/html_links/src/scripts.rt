@@ -1,9 +1,7 @@
 //! Addresses that a browser runs instead of opening them.
 
-ghost use Rattle.std.specs.Prelude.{◌≡◌, ◌∷◌, [], MatchOption, chars};
-ghost use Rattle.std.specs.List.{filter};
-ghost use Rattle.html_links.specs.Indicated.{is_kept};
-ghost use Rattle.html_links.specs.Scripts.{begins, href_is_script, past_blanks};
+ghost use Rattle.std.specs.{List.{filter}, Prelude.{◌≡◌, ◌∷◌, [], MatchOption, chars}};
+ghost use Rattle.html_links.specs.{Indicated.{is_kept}, Scripts.{begins, href_is_script, past_blanks}};
 
 use crate::indicated::{is_control_or_space, is_dropped};
 use html_dom_tree::text::split_first;

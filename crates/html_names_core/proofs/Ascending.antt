@@ -1,14 +1,8 @@
 -- What stands in a table of texts, and that an ascending one holds no text twice.
 use Rattle.std.proofs.Common.{◌≡◌, ℕ, zero, suc, ◌<◌, Bool, true, false, List, [], ◌∷◌, ◌++◌, refl, sym, ap, ◌∙◌, length, get_or, arith, bytes_eq}
-use Rattle.std.specs.List.{list_all}
-use Rattle.std.specs.Ordering.{nat_cmp, is_lt, is_eq}
-use Rattle.std.specs.declared.cmp.Ordering.{Ordering}
+use Rattle.std.proofs.lemmas.{Bool.{and_parts}, Cmp.{nat_list_cmp_total}, Map.Text.{is_eq-slice_cmp}, Slice.Eq.{bytes_eq-Decides}}
+use Rattle.std.specs.{Cmp.Lexicographic.{slice_cmp}, List.{list_all}, Ordering.{nat_cmp, is_lt, is_eq}, declared.cmp.Ordering.{Ordering}}
 use Rattle.std.specs.declared.cmp.Ordering.TheVariants.{Less, Equal, Greater}
-use Rattle.std.specs.Cmp.Lexicographic.{slice_cmp}
-use Rattle.std.proofs.lemmas.Cmp.{nat_list_cmp_total}
-use Rattle.std.proofs.lemmas.Map.Text.{is_eq-slice_cmp}
-use Rattle.std.proofs.lemmas.Bool.{and_parts}
-use Rattle.std.proofs.lemmas.Slice.Eq.{bytes_eq-Decides}
 use Rattle.html_names_core.specs.Names.{stands_in, rises, is_below_first, is_ascii, are_ascii}
 
 pub stands : (names : List (List ℕ)) (n : ℕ) → n < length names →

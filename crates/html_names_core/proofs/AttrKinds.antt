@@ -1,9 +1,7 @@
 -- The first two characters of a name.
 use Rattle.std.proofs.Common.{◌≡◌, ℕ, ◌&&◌, false, List, ◌++◌, chars, length, refl}
-use Rattle.std.specs.Char.{eq_ignore_ascii_case}
-use Rattle.std.specs.Str.{IsUtf8}
-use Rattle.std.proofs.lemmas.List.{nil_from_length}
-use Rattle.std.proofs.lemmas.Str.{IsUtf8-past_char, chars-nil, chars_past_char}
+use Rattle.std.proofs.lemmas.{List.{nil_from_length}, Str.{IsUtf8-past_char, chars-nil, chars_past_char}}
+use Rattle.std.specs.{Char.{eq_ignore_ascii_case}, Str.{IsUtf8}}
 use Rattle.html_names_core.specs.AttrKinds.{is_event_handler}
 use lib.Utf8.{encode}
 

@@ -1,16 +1,11 @@
 -- General facts about tests, lists, texts and values that may be there.
 use Rattle.std.proofs.Common.{◌≡◌, ℕ, ◌<◌, Bool, true, false, ◌||◌, List, [], ◌∷◌, refl, sym, ap, ◌∙◌, bytes_eq, chars, ltb-true, ◌+◌, ◌-◌, ◌++◌, not, length, take, drop, get_or, arith, Option, Some, None}
-use Rattle.std.specs.Bool.{one_answer}
-use Rattle.std.specs.Str.{IsAscii, IsUtf8}
-use Rattle.std.proofs.lemmas.Bool.{and_from, and_parts, false≢true}
-use Rattle.std.proofs.lemmas.List.{append-nil, take_at, drop_at, drop_more, length-append}
-use Rattle.std.proofs.lemmas.Slice.Eq.{bytes_eq-Decides}
-use Rattle.std.proofs.lemmas.Str.{chars-encodes, chars_past_char, scalars-chars}
+use Rattle.std.proofs.lemmas.{Bool.{and_from, and_parts, false≢true}, List.{append-nil, take_at, drop_at, drop_more, length-append}}
+use Rattle.std.proofs.lemmas.{Str.{chars-encodes, chars_past_char, scalars-chars}, Slice.Eq.{bytes_eq-Decides}}
 use Rattle.std.proofs.lemmas.Str.Ascii.{IsAscii-nil, IsAscii-cons}
-use Rattle.std.specs.Prelude.{is_some, is_none}
+use Rattle.std.specs.{Bool.{one_answer}, Prelude.{is_some, is_none}, Str.{IsAscii, IsUtf8}}
 use lib.Utf8.{scalar, scalars, encode}
-use Rattle.html_names_core.specs.Names.{is_ascii}
-use Rattle.html_names_core.specs.Characters.{all}
+use Rattle.html_names_core.specs.{Characters.{all}, Names.{is_ascii}}
 
 pub bytes_eq-same : (a b : List ℕ) → bytes_eq a b ≡ true → a ≡ b
 bytes_eq-same a b equal = (bytes_eq-Decides a b).0 equal

@@ -1,18 +1,11 @@
 -- The tables by number against the definitions by lists.
 use Rattle.std.proofs.Common.{◌≡◌, ℕ, zero, suc, ◌<◌, Bool, true, false, List, [], ◌∷◌, refl, sym, chars, length, get_or, arith, map, string_bytes, None}
-use Rattle.std.specs.List.{list_all}
-use Rattle.std.proofs.lemmas.Bool.{and_parts}
-use Rattle.html_names_core.specs.Names.{stands_in}
-use Rattle.html_names_core.specs.Characters.{is_tag_char}
-use Rattle.html_names_core.specs.Held.{held_text, IsHeld}
-use Rattle.html_names_core.specs.ByNumber.{has_kind, name_has, name_display}
-use Rattle.html_names_core.specs.Tables.{known_tags, tag_count}
+use Rattle.std.{proofs.lemmas.Bool.{and_parts}, specs.List.{list_all}}
+use Rattle.html_names_core.{proofs.Ascending.{differs}, specs.ByNumber.{has_kind, name_has, name_display}, specs.Characters.{is_tag_char}}
+use Rattle.html_names_core.specs.{Displays.{Row, first_row, rows, default_display}, Held.{held_text, IsHeld}}
 use Rattle.html_names_core.specs.Kinds.{is_void, void_names, is_raw, raw_names, is_escapable_raw, escapable_raw_names, is_foreign_self_closing, foreign_self_closing_names, is_mathml, mathml_names, is_token, token_names, is_metadata_content, metadata_content_names, is_sectioning_content, sectioning_content_names, is_heading_content, heading_content_names, is_phrasing_content, phrasing_content_names, is_flow_beside_phrasing, flow_beside_phrasing_names, is_not_palpable, not_palpable_names, is_embedded_content, embedded_content_names, is_interactive_content, interactive_content_names, is_script_supporting_element, script_supporting_element_names, is_replaced, replaced_names, line_break_names, is_line_break}
-use Rattle.html_names_core.specs.Displays.{Row, first_row, rows, default_display}
-use Rattle.html_names_core.specs.declared.name.Name.{Name}
-use Rattle.html_names_core.specs.declared.name.Name.TheVariants.{Known, Own}
-use Rattle.html_names_core.proofs.Ascending.{differs}
-use Rattle.html_names_core.specs.declared.table.TheConstants.{KINDS, DISPLAYS}
+use Rattle.html_names_core.specs.{Names.{stands_in}, Tables.{known_tags, tag_count}, declared.name.Name.{Name}}
+use Rattle.html_names_core.specs.declared.{name.Name.TheVariants.{Known, Own}, table.TheConstants.{KINDS, DISPLAYS}}
 use Rattle.html_names_core.specs.declared.table.kinds.TheConstants.{VOID, RAW, ESCAPABLE_RAW, FOREIGN_SELF_CLOSING, MATHML, TOKEN, METADATA, SECTIONING, HEADING, PHRASING, FLOW_BESIDE_PHRASING, NOT_PALPABLE, EMBEDDED, INTERACTIVE, SCRIPT_SUPPORTING, REPLACED, LINE_BREAK}
 
 at_place : {A B C : Type 0} (f : A → C) (g : B → C) (as' : List A) (bs : List B) (a : A) (b : B)

@@ -1,15 +1,9 @@
 -- Digits of numbers as characters.
 use Rattle.std.proofs.Common.{◌≡◌, ℕ, ◌+◌, ◌<◌, ◌/◌, ◌%◌, ◌++◌, List, [], ◌∷◌, chars, false, ◌^◌, ap, ◌∙◌, append_assoc, arith, IsUtf8}
-use Rattle.std.specs.Char.{digit_value}
-use Rattle.std.specs.Fmt.{digits}
-use Rattle.std.specs.Str.{IsAscii}
+use Rattle.std.proofs.lemmas.{Bool.Decides.{nat_tests}, Fmt.{digits_is_IsNumeral}, Str.{chars-IsAscii}}
+use Rattle.std.{proofs.lemmas.Str.Ascii.{IsAscii-nil, IsAscii-cons}, specs.Char.{digit_value}, specs.Fmt.{digits}, specs.Str.{IsAscii}}
 use Rattle.std.specs.Str.Parse.{AllDigits}
-use Rattle.std.proofs.lemmas.Bool.Decides.{nat_tests}
-use Rattle.std.proofs.lemmas.Fmt.{digits_is_IsNumeral}
-use Rattle.std.proofs.lemmas.Str.{chars-IsAscii}
-use Rattle.std.proofs.lemmas.Str.Ascii.{IsAscii-nil, IsAscii-cons}
-use Rattle.html_names_core.specs.Texts.{two_digits}
-use Rattle.html_names_core.proofs.Texts.{chars_add}
+use Rattle.html_names_core.{proofs.Texts.{chars_add}, specs.Texts.{two_digits}}
 
 digit_ascii : (c : ℕ) → digit_value c < 16 → c < 128
 digit_ascii c h = grind (arith, nat_tests)

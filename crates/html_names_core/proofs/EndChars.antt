@@ -1,10 +1,8 @@
 -- The first and the last byte of a text are a character of ASCII just where its first and last
 -- characters are, and it has no bytes just where it has no characters.
 use Rattle.std.proofs.Common.{◌≡◌, ℕ, ◌<◌, ◌-◌, List, [], ◌∷◌, ◌++◌, length, get_or, false, ◌==◌, refl, ap, sym, ◌∙◌, inl, inr, chars, IsUtf8, arith}
-use Rattle.std.specs.Prelude.{slice_index}
-use Rattle.std.proofs.lemmas.Bool.{cases_Bool, eqb-true, eqb-false, ne_eqb}
-use Rattle.std.proofs.lemmas.List.{length-append, get_or-append_right}
-use Rattle.std.proofs.lemmas.Str.{encodes-chars, encode_ascii, inside_one, length-encode, len_utf8_bounds}
+use Rattle.std.proofs.lemmas.{Bool.{cases_Bool, eqb-true, eqb-false, ne_eqb}, List.{length-append, get_or-append_right}}
+use Rattle.std.{proofs.lemmas.Str.{encodes-chars, encode_ascii, inside_one, length-encode, len_utf8_bounds}, specs.Prelude.{slice_index}}
 use lib.Utf8.{encode, encodes}
 
 last_within : (c : ℕ) → length (encode c ++ []) - 1 < length (encode c)

@@ -1,13 +1,10 @@
 -- Lists with one view are equally long; a comparison of views is the test, and what is read of a
 -- view is hashed.
-use Rattle.std.proofs.Common.{◌≡◌, List, [], ◌∷◌, ◌++◌, length, ap, refl, map, sym, ◌∙◌}
-use Rattle.std.proofs.lemmas.List.{length-map}
+use Rattle.std.proofs.{Common.{◌≡◌, List, [], ◌∷◌, ◌++◌, length, ap, refl, map, sym, ◌∙◌}, lemmas.List.{length-map}}
 use Rattle.std.specs.Prelude.{Bool, flat_map}
 use Rattle.std.specs.Hash as fed
 use Rattle.std.specs.Bool.{Decides, one_answer}
-use Rattle.html_names_core.specs.Equal.{same, same_decides}
-use Rattle.html_names_core.specs.Hashes.{pair_writes, pairs_writes}
-use Rattle.html_names_core.specs.Texts.{TextPair}
+use Rattle.html_names_core.specs.{Equal.{same, same_decides}, Hashes.{pair_writes, pairs_writes}, Texts.{TextPair}}
 
 pub same_count : {A B : Type 0} (v : A → B) (xs ys : List A) → map v xs ≡ map v ys →
     length xs ≡ length ys

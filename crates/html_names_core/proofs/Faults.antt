@@ -1,17 +1,10 @@
 -- What is wrong with a text, from its bytes; a text with which nothing is wrong is a valid name.
 use Rattle.std.proofs.Common.{◌≡◌, ℕ, Bool, true, false, not, eqb, List, [], ◌∷◌, length, chars, refl, sym, ap, ◌∙◌, Option, Some, None, option_to_list, arith}
-use Rattle.std.specs.List.{find}
-use Rattle.std.specs.Str.{IsUtf8}
-use Rattle.std.proofs.lemmas.Bool.{false≢true, eqb-true, and_parts, and_from}
-use Rattle.std.proofs.lemmas.Bool.Decides.{nat_tests}
-use Rattle.std.specs.Prelude.{nat_lt}
-use Rattle.std.proofs.lemmas.List.{nil_from_length}
-use Rattle.std.proofs.lemmas.Str.{encodes-chars, chars-nil}
+use Rattle.std.proofs.lemmas.{Bool.{false≢true, eqb-true, and_parts, and_from}, List.{nil_from_length}, Str.{encodes-chars, chars-nil}}
+use Rattle.std.{proofs.lemmas.Bool.Decides.{nat_tests}, specs.List.{find}, specs.Prelude.{nat_lt}, specs.Str.{IsUtf8}}
 use lib.Utf8.{encodes}
-use Rattle.html_names_core.specs.Characters.{all, IsOf, is_tag_char, is_attr_char}
-use Rattle.html_names_core.specs.Names.{is_ascii, tag_fault, fault_after, attr_fault, bad_attr_char}
-use Rattle.html_names_core.proofs.Lists.{chars_ascii}
-use Rattle.html_names_core.specs.declared.fault.NameFault.{NameFault}
+use Rattle.html_names_core.{proofs.Lists.{chars_ascii}, specs.Characters.{all, IsOf, is_tag_char, is_attr_char}}
+use Rattle.html_names_core.specs.{Names.{is_ascii, tag_fault, fault_after, attr_fault, bad_attr_char}, declared.fault.NameFault.{NameFault}}
 use Rattle.html_names_core.specs.declared.fault.NameFault.TheVariants.{EmptyTag, EmptyAttr}
 
 length_zero : (t : List ℕ) → eqb (length t) 0 ≡ true → t ≡ []

@@ -1,17 +1,10 @@
 -- A known name's text, and that it is valid.
 use Rattle.std.proofs.Common.{OnErr, Result, Ok, Err, ◌≡◌, ℕ, zero, suc, ◌<◌, Bool, true, false, ◌&&◌, List, [], ◌∷◌, refl, ap, ◌∙◌, chars, length, get_or, arith, map, Option, Some, None}
-use Rattle.std.specs.Borrow.{Bor}
-use Rattle.std.specs.List.{list_all}
-use Rattle.std.proofs.lemmas.Bool.{and_parts}
-use Rattle.html_names_core.specs.Names.{texts, are_ascii, stands_in}
-use Rattle.html_names_core.specs.Characters.{all, IsOf, is_tag_char, is_attr_char}
-use Rattle.html_names_core.specs.Held.{held_text, IsHeld, IsLookup, IsMade}
-use Rattle.html_names_core.specs.Tables.{known_tags, known_attrs, tag_count, attr_count}
-use Rattle.html_names_core.specs.declared.name.Name.{Name}
-use Rattle.html_names_core.specs.declared.name.Name.TheVariants.{Known, Own}
-use Rattle.html_names_core.specs.declared.table.TheConstants.{TAGS, ATTRS}
-use Rattle.html_names_core.proofs.Ascending.{all_at}
-use Rattle.html_names_core.proofs.Lists.{chars_ascii}
+use Rattle.std.{proofs.lemmas.Bool.{and_parts}, specs.Borrow.{Bor}, specs.List.{list_all}}
+use Rattle.html_names_core.proofs.{Ascending.{all_at}, Lists.{chars_ascii}}
+use Rattle.html_names_core.specs.{Characters.{all, IsOf, is_tag_char, is_attr_char}, Held.{held_text, IsHeld, IsLookup, IsMade}}
+use Rattle.html_names_core.specs.{Names.{texts, are_ascii, stands_in}, Tables.{known_tags, known_attrs, tag_count, attr_count}}
+use Rattle.html_names_core.specs.declared.{name.Name.{Name}, name.Name.TheVariants.{Known, Own}, table.TheConstants.{TAGS, ATTRS}}
 
 pub known_text : (table : List (Bor (List ℕ))) (n : ℕ) (d : Bor (List ℕ)) → n < length table →
     are_ascii (texts table) ≡ true → chars (get_or table n d).now ≡ get_or (texts table) n []

@@ -1,16 +1,10 @@
 -- Nothing is wrong with a known name, but for the one that is reserved.
 use Rattle.std.proofs.Common.{◌≡◌, ℕ, zero, suc, ◌+◌, ◌<◌, ◌==◌, Bool, true, false, not, ◌||◌, ◌&&◌, List, [], ◌∷◌, refl, sym, length, get_or, arith, find, None}
-use Rattle.std.specs.List.{list_any}
-use Rattle.std.proofs.lemmas.Bool.Decides.{nat_tests}
-use Rattle.html_names_core.specs.Characters.{all, IsOf, is_tag_char, is_attr_char, is_hyphen}
-use Rattle.html_names_core.specs.Names.{IsPlace, tag_fault, attr_fault}
-use Rattle.html_names_core.specs.Held.{held_text, IsHeld}
-use Rattle.html_names_core.specs.Tables.{known_tags, known_attrs, attr_count, is_known_attr}
-use Rattle.html_names_core.specs.declared.name.Name.{Name}
-use Rattle.html_names_core.specs.declared.name.Name.TheVariants.{Known, Own}
-use Rattle.html_names_core.specs.declared.table.TheConstants.{RESERVED_TAG}
-use Rattle.html_names_core.proofs.Ascending.{stands}
-use Rattle.html_names_core.proofs.Held.{tag_long, attr_long, tag_valid, attr_valid}
+use Rattle.std.{proofs.lemmas.Bool.Decides.{nat_tests}, specs.List.{list_any}}
+use Rattle.html_names_core.proofs.{Ascending.{stands}, Held.{tag_long, attr_long, tag_valid, attr_valid}}
+use Rattle.html_names_core.specs.{Characters.{all, IsOf, is_tag_char, is_attr_char, is_hyphen}, Held.{held_text, IsHeld}}
+use Rattle.html_names_core.specs.{Names.{IsPlace, tag_fault, attr_fault}, Tables.{known_tags, known_attrs, attr_count, is_known_attr}}
+use Rattle.html_names_core.specs.declared.{name.Name.{Name}, name.Name.TheVariants.{Known, Own}, table.TheConstants.{RESERVED_TAG}}
 
 -- no character of a valid name is bad
 none_bad : (p : ℕ → Bool) (cs : List ℕ) → all p cs ≡ true → find (λ c. not (p c)) cs ≡ None

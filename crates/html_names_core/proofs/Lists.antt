@@ -1,13 +1,9 @@
 -- Texts in bytes and in characters.
 use Rattle.std.proofs.Common.{◌≡◌, ℕ, true, List, [], ◌∷◌, refl, sym, ap, ◌∙◌, bytes_eq, chars}
-use Rattle.std.specs.Bool.{one_answer}
-use Rattle.std.specs.Str.{IsUtf8}
-use Rattle.std.proofs.lemmas.Bool.{and_parts}
-use Rattle.std.proofs.lemmas.Slice.Eq.{bytes_eq-Decides}
-use Rattle.std.proofs.lemmas.Str.{chars-IsAscii, encodes-chars, IsUtf8-from_ascii}
+use Rattle.std.proofs.lemmas.{Bool.{and_parts}, Str.{chars-IsAscii, encodes-chars, IsUtf8-from_ascii}, Slice.Eq.{bytes_eq-Decides}}
+use Rattle.std.specs.{Bool.{one_answer}, Str.{IsUtf8}}
 use lib.Utf8.{encodes}
-use Rattle.html_names_core.specs.Names.{stands_in, is_ascii, are_ascii}
-use Rattle.html_names_core.proofs.Basics.{is_ascii_is}
+use Rattle.html_names_core.{proofs.Basics.{is_ascii_is}, specs.Names.{stands_in, is_ascii, are_ascii}}
 
 pub chars_ascii : (s : List ℕ) → is_ascii s ≡ true → chars s ≡ s
 chars_ascii s h = chars-IsAscii s (is_ascii_is s h)

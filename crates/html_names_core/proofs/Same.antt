@@ -1,16 +1,11 @@
 -- Names are equal where they are held alike.
 use Rattle.std.proofs.Common.{◌≡◌, ℕ, ◌<◌, ◌==◌, Bool, true, List, [], refl, sym, ◌∙◌, chars, length, get_or, arith, bytes_eq, string_bytes}
 use Rattle.std.proofs.lemmas.Str.{IsUtf8-string_bytes}
-use Rattle.html_names_core.specs.Names.{rises}
-use Rattle.html_names_core.specs.Characters.{is_tag_char, is_attr_char}
-use Rattle.html_names_core.specs.Held.{held_text, IsHeld, same_held}
-use Rattle.html_names_core.specs.Tables.{known_tags, known_attrs, tag_count, attr_count}
-use Rattle.html_names_core.specs.declared.name.Name.{Name}
+use Rattle.html_names_core.proofs.{Ascending.{differs, places_differ, stands}, Basics.{bytes_eq-refl, bytes_eq-sym}}
+use Rattle.html_names_core.proofs.{Held.{tag_long, attr_long}, Lists.{bytes_eq-chars}}
+use Rattle.html_names_core.specs.{Characters.{is_tag_char, is_attr_char}, Held.{held_text, IsHeld, same_held}, Names.{rises}}
+use Rattle.html_names_core.specs.{Tables.{known_tags, known_attrs, tag_count, attr_count}, declared.name.Name.{Name}}
 use Rattle.html_names_core.specs.declared.name.Name.TheVariants.{Known, Own}
-use Rattle.html_names_core.proofs.Lists.{bytes_eq-chars}
-use Rattle.html_names_core.proofs.Ascending.{differs, places_differ, stands}
-use Rattle.html_names_core.proofs.Held.{tag_long, attr_long}
-use Rattle.html_names_core.proofs.Basics.{bytes_eq-refl, bytes_eq-sym}
 
 tags_rise : rises known_tags ≡ true
 unfolding known_tags

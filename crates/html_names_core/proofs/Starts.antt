@@ -1,19 +1,12 @@
 -- A text is looked for among the names that begin with its first letter.
 use Rattle.std.proofs.Common.{◌≡◌, ℕ, zero, suc, ◌+◌, ◌-◌, ◌<◌, ◌≤◌, true, false, List, [], ◌∷◌, refl, sym, ap, ◌∙◌, length, get_or, arith, bytes_eq, chars}
-use Rattle.std.specs.Prelude.{nat_le}
-use Rattle.std.specs.List.{list_all}
-use Rattle.std.specs.Str.{IsUtf8}
+use Rattle.std.specs.{List.{list_all}, Prelude.{nat_le}, Str.{IsUtf8}}
 use borrow.Author.Count.{below_more}
-use Rattle.std.proofs.lemmas.Bool.Decides.{nat_tests}
-use Rattle.std.proofs.lemmas.Bool.{and_parts, false≢true}
-use Rattle.std.proofs.lemmas.Slice.Eq.{bytes_eq-Decides}
-use Rattle.std.proofs.lemmas.List.{get_or-map, length-map}
-use Rattle.std.specs.Borrow.{Bor}
-use Rattle.html_names_core.specs.Characters.{is_lower}
-use Rattle.html_names_core.specs.Names.{stands_in, texts, is_ascii, are_ascii, IsPlace}
+use Rattle.std.proofs.lemmas.{Bool.{and_parts, false≢true}, List.{get_or-map, length-map}, Bool.Decides.{nat_tests}}
+use Rattle.std.{proofs.lemmas.Slice.Eq.{bytes_eq-Decides}, specs.Borrow.{Bor}}
+use Rattle.html_names_core.proofs.{Ascending.{ascii_at}, Lists.{stands_in-chars, chars_ascii}}
+use Rattle.html_names_core.specs.{Characters.{is_lower}, Names.{stands_in, texts, is_ascii, are_ascii, IsPlace}}
 use Rattle.html_names_core.specs.Starts.{is_started, all_started, are_starts}
-use Rattle.html_names_core.proofs.Lists.{stands_in-chars, chars_ascii}
-use Rattle.html_names_core.proofs.Ascending.{ascii_at}
 
 start_within : (starts : List ℕ) (n letter : ℕ) → list_all (λ s. nat_le s n) starts ≡ true →
     get_or starts letter 0 ≤ n

@@ -2,8 +2,7 @@
 use Rattle.std.proofs.Common.{◌≡◌, ℕ, true, String, Global, string_bytes, List, [], ◌∷◌, ◌++◌, sym, ap, ◌∙◌, chars, IsUtf8}
 use Rattle.std.proofs.lemmas.Str.{chars-append, encodes-chars, IsUtf8-string_bytes}
 use lib.Utf8.{scalar, encode, encodes}
-use Rattle.html_names_core.specs.Texts.{text_view}
-use Rattle.html_names_core.proofs.Basics.{chars-encode}
+use Rattle.html_names_core.{proofs.Basics.{chars-encode}, specs.Texts.{text_view}}
 
 -- texts with the same characters are equal
 pub text_views : (a b : String Global) → text_view a ≡ text_view b → string_bytes a ≡ string_bytes b

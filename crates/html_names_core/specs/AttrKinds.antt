@@ -1,6 +1,5 @@
 -- Attributes that are event handlers: browsers run their values.
-use Rattle.std.specs.Char.{eq_ignore_ascii_case}
-use Rattle.std.specs.Prelude.{ℕ, Bool, false, ◌&&◌, List, [], ◌∷◌}
+use Rattle.std.specs.{Char.{eq_ignore_ascii_case}, Prelude.{ℕ, Bool, false, ◌&&◌, List, [], ◌∷◌}}
 
 -- the name begins with `on`, in any ASCII case, as those of all event handlers do (HTML Standard
 -- 8.1.8.1)

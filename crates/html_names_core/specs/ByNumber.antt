@@ -1,8 +1,6 @@
 -- A name's entries in the tables of kinds and displays, by its index.
 use Rattle.std.specs.Prelude.{ℕ, Bool, false, not, ◌==◌, bit_and, slice_index_or, Option, None}
-use Rattle.html_names_core.specs.declared.name.Name.{Name}
-use Rattle.html_names_core.specs.declared.name.Name.TheVariants.{Known, Own}
-use Rattle.html_names_core.specs.declared.property.Display.{Display}
+use Rattle.html_names_core.specs.declared.{name.Name.{Name}, name.Name.TheVariants.{Known, Own}, property.Display.{Display}}
 use Rattle.html_names_core.specs.declared.table.TheConstants.{KINDS, DISPLAYS}
 
 -- whether the kinds contain that kind

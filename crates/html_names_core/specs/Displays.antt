@@ -1,8 +1,7 @@
 -- The css property `display`: its defaults by tag (this project's profile of HTML Standard 15.3),
 -- and its texts.
 use Rattle.std.specs.Prelude.{◌++◌, ℕ, Bool, true, false, List, [], ◌∷◌, codes, Option, Some, None}
-use Rattle.html_names_core.specs.Names.{listed_names, stands_in}
-use Rattle.html_names_core.specs.declared.property.Display.{Display}
+use Rattle.html_names_core.specs.{Names.{listed_names, stands_in}, declared.property.Display.{Display}}
 use Rattle.html_names_core.specs.declared.property.Display.TheVariants as display
 
 -- a display, and the names of its tags

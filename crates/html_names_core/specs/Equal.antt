@@ -3,9 +3,7 @@ use Rattle.std.specs.Prelude.{◌≡◌, ℕ, List, Option, Some, None, Bool, tr
 use native.Mathlib.Decide.{ℕ_discrete}
 use mathlib.Core.List.{List-discrete}
 use mathlib.Core.HLevel.{×_discrete}
-use Rattle.std.proofs.Common.{sym, ◌∙◌, ap, true≢false}
-use Rattle.std.specs.Bool.{Decides, one_answer}
-use Rattle.std.specs.Cmp.{IsEquivalence}
+use Rattle.std.{proofs.Common.{sym, ◌∙◌, ap, true≢false}, specs.Bool.{Decides, one_answer}, specs.Cmp.{IsEquivalence}}
 use Rattle.html_names_core.specs.Texts.{TextPair}
 
 abbrev is_yes : {P : Type 0} → Dec P → Bool

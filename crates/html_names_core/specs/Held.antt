@@ -1,9 +1,7 @@
 -- The representation of a name: its index in the table of known names, or its text.
 use Rattle.std.specs.Prelude.{◌≡◌, ℕ, ◌<◌, Bool, false, List, [], chars, string_bytes, slice_index_or, bytes_eq, ◌==◌, Option, Some, None}
-use Rattle.html_names_core.specs.declared.name.Name.{Name}
+use Rattle.html_names_core.specs.{Characters.{IsOf}, Names.{stands_in, IsPlace}, declared.name.Name.{Name}}
 use Rattle.html_names_core.specs.declared.name.Name.TheVariants.{Known, Own}
-use Rattle.html_names_core.specs.Characters.{IsOf}
-use Rattle.html_names_core.specs.Names.{stands_in, IsPlace}
 
 -- the name's characters
 abbrev pub held_text : List (List ℕ) → Name → List ℕ

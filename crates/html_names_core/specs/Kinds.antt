@@ -1,8 +1,7 @@
 -- Kinds of elements, by their names: this project's profile of HTML Standard 3.2.5 and 13.1.2.
 use Rattle.std.specs.Prelude.{◌++◌, ℕ, Bool, false, not, ◌&&◌, ◌||◌, List, codes, Option, Some, None}
-use Rattle.html_names_core.specs.Names.{listed_names, stands_in}
+use Rattle.html_names_core.specs.{Displays.{default_display, is_border, is_hidden}, Names.{listed_names, stands_in}}
 use Rattle.html_names_core.specs.declared.property.Display.{Display}
-use Rattle.html_names_core.specs.Displays.{default_display, is_border, is_hidden}
 
 abbrev pub void_names : List (List ℕ)
 void_names = listed_names (codes "area base br col embed hr img input link meta source track wbr")

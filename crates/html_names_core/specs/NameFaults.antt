@@ -3,9 +3,7 @@
 use Rattle.std.specs.Prelude.{◌≡◌, ℕ, ◌==◌, List, ◌∷◌, if◌then◌else◌, Result, refl}
 use native.Mathlib.Decide.{ℕ_discrete}
 use mathlib.Core.HLevel.{×_discrete}
-use Rattle.html_names_core.specs.Endings.{GivesBy}
-use Rattle.html_names_core.specs.Equal.{discrete_by}
-use Rattle.html_names_core.specs.declared.fault.NameFault.{NameFault}
+use Rattle.html_names_core.specs.{Endings.{GivesBy}, Equal.{discrete_by}, declared.fault.NameFault.{NameFault}}
 use Rattle.html_names_core.specs.declared.fault.NameFault.TheVariants.{OutOfMemory, EmptyTag, BadTagChar, CustomStart, CustomCapital, Reserved, EmptyAttr, BadAttrChar}
 
 abbrev pub number_of : NameFault → ℕ

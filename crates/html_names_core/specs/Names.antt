@@ -1,9 +1,7 @@
 -- Lists of names, and the faults of a text as a name. Texts are lists of characters.
-use Rattle.std.specs.Cmp.Lexicographic.{slice_cmp}
-use Rattle.std.specs.Ordering.{nat_cmp, is_lt}
+use Rattle.std.specs.{Borrow.{Bor}, List.{find, list_any, list_all}, Ordering.{nat_cmp, is_lt}}
 use Rattle.std.specs.Prelude.{◌++◌, ◌≡◌, ◌<◌, ℕ, Bool, true, false, not, ◌||◌, ◌&&◌, ◌==◌, length, slice_index_or, nat_lt, List, [], ◌∷◌, bytes_eq, codes, map, slice_index, if◌then◌else◌, Option, Some, None}
-use Rattle.std.specs.Borrow.{Bor}
-use Rattle.std.specs.List.{find, list_any, list_all}
+use Rattle.std.specs.Cmp.Lexicographic.{slice_cmp}
 use Rattle.html_names_core.specs.Characters.{is_tag_char, is_attr_char, is_lower, is_capital, is_hyphen}
 use Rattle.html_names_core.specs.declared.fault.NameFault.{NameFault}
 use Rattle.html_names_core.specs.declared.fault.NameFault.TheVariants.{EmptyTag, BadTagChar, CustomStart, CustomCapital, Reserved, EmptyAttr, BadAttrChar}

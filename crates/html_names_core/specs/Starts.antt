@@ -1,7 +1,7 @@
 -- The index in a table of the first name with each first letter: 27 indices, the last of them the
 -- end of the names that begin with `z`.
-use Rattle.std.specs.Prelude.{ℕ, suc, Bool, true, false, ◌&&◌, ◌+◌, ◌-◌, nat_le, nat_lt, length, List, [], ◌∷◌, slice_index_or}
 use Rattle.std.specs.List.{list_all}
+use Rattle.std.specs.Prelude.{ℕ, suc, Bool, true, false, ◌&&◌, ◌+◌, ◌-◌, nat_le, nat_lt, length, List, [], ◌∷◌, slice_index_or}
 use Rattle.html_names_core.specs.Characters.{is_lower}
 
 -- whether the name begins with a lowercase letter, and its index is one of that letter's

@@ -1,8 +1,7 @@
 //! Kinds of attributes: known ones, and event handlers.
 
 ghost use Rattle.std.specs.Prelude.{◌≡◌};
-ghost use Rattle.html_names_core.specs.AttrKinds.{is_event_handler};
-ghost use Rattle.html_names_core.specs.Tables.{is_known_attr};
+ghost use Rattle.html_names_core.specs.{AttrKinds.{is_event_handler}, Tables.{is_known_attr}};
 
 use crate::html_attr::HtmlAttr;
 use crate::name::Name;

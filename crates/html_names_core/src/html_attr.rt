@@ -1,15 +1,11 @@
 //! Attribute names, and the rule for their characters (HTML Standard 13.1.2.3).
 
-ghost use Rattle.std.specs.Prelude.{◌≡◌, bytes_eq, chars, IfOk, IfErr, OnErr, IsTrue, false, not, option_to_list, None};
 ghost use Rattle.std.specs.List.{find, list_any};
-ghost use Rattle.html_names_core.specs.Held.{IsLookup};
-ghost use Rattle.html_names_core.specs.NameFaults.{Gives, OnOutOfMemory};
-ghost use Rattle.html_names_core.specs.Names.{attr_fault, is_ascii};
+ghost use Rattle.std.specs.Prelude.{◌≡◌, bytes_eq, chars, IfOk, IfErr, OnErr, IsTrue, false, not, option_to_list, None};
+ghost use Rattle.html_names_core.specs.{Held.{IsLookup}, NameFaults.{Gives, OnOutOfMemory}, Names.{attr_fault, is_ascii}};
 ghost use Rattle.std.specs.Cmp as cmp;
-ghost use Rattle.std.specs.Cmp.{on_equiv, on_per};
-ghost use Rattle.std.specs.Cmp.Lexicographic.{nat_list_eq_equiv};
-ghost use Rattle.html_names_core.specs.Tables.{known_attrs, is_known_attr};
-ghost use Rattle.html_names_core.specs.Characters.{IsOf, is_attr_char};
+ghost use Rattle.std.specs.{Cmp.{on_equiv, on_per}, Cmp.Lexicographic.{nat_list_eq_equiv}};
+ghost use Rattle.html_names_core.specs.{Characters.{IsOf, is_attr_char}, Tables.{known_attrs, is_known_attr}};
 
 use crate::charsets::is_valid_in_attribute_name;
 use crate::fault::NameFault;
@@ -34,9 +30,7 @@ impl Model for HtmlAttr {
 
     ghost Value = { List ℕ };
 
-    ghost use Rattle.html_names_core.specs.Held.{held_text, IsHeld};
-    ghost use Rattle.html_names_core.specs.Tables.{known_attrs, attr_count};
-    ghost use Rattle.html_names_core.specs.Characters.{is_attr_char};
+    ghost use Rattle.html_names_core.specs.{Characters.{is_attr_char}, Held.{held_text, IsHeld}, Tables.{known_attrs, attr_count}};
 
     ghost view = { λ t. held_text known_attrs t.name };
 
@@ -186,8 +180,7 @@ impl Eq for HtmlAttr {
 #[tactic(auto, using(crate::proofs::Lists::in_characters))]
 impl Hash for HtmlAttr {
     ghost use Rattle.std.specs.Hash as fed;
-    ghost use Rattle.std.specs.Cmp.Rules.{hashing};
-    ghost use Rattle.std.proofs.Common.{rules};
+    ghost use Rattle.std.{proofs.Common.{rules}, specs.Cmp.Rules.{hashing}};
     ghost use lib.Utf8.{encodes};
 
     ghost hash_input = { λ name. fed.str (encodes name) };

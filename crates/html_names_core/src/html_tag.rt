@@ -1,15 +1,11 @@
 //! Tag names, and the rules for their characters and for the names of custom elements.
 
-ghost use Rattle.std.specs.Prelude.{◌≡◌, ◌<◌, bytes_eq, chars, IfOk, IfErr, OnErr, false, not, option_to_list, slice_index, None};
 ghost use Rattle.std.specs.List.{find, list_any};
-ghost use Rattle.html_names_core.specs.Held.{IsLookup};
-ghost use Rattle.html_names_core.specs.NameFaults.{Gives, OnOutOfMemory};
-ghost use Rattle.html_names_core.specs.Names.{tag_fault, custom_fault, is_reserved};
+ghost use Rattle.std.specs.Prelude.{◌≡◌, ◌<◌, bytes_eq, chars, IfOk, IfErr, OnErr, false, not, option_to_list, slice_index, None};
+ghost use Rattle.html_names_core.specs.{Held.{IsLookup}, NameFaults.{Gives, OnOutOfMemory}, Names.{tag_fault, custom_fault, is_reserved}};
 ghost use Rattle.std.specs.Cmp as cmp;
-ghost use Rattle.std.specs.Cmp.{on_equiv, on_per};
-ghost use Rattle.std.specs.Cmp.Lexicographic.{nat_list_eq_equiv};
-ghost use Rattle.html_names_core.specs.Tables.{known_tags, is_known_tag};
-ghost use Rattle.html_names_core.specs.Characters.{IsOf, is_tag_char, is_hyphen, is_lower, is_capital};
+ghost use Rattle.std.specs.{Cmp.{on_equiv, on_per}, Cmp.Lexicographic.{nat_list_eq_equiv}};
+ghost use Rattle.html_names_core.specs.{Characters.{IsOf, is_tag_char, is_hyphen, is_lower, is_capital}, Tables.{known_tags, is_known_tag}};
 
 use crate::charsets::is_valid_in_tag_name;
 use crate::fault::NameFault;
@@ -34,9 +30,7 @@ impl Model for HtmlTag {
 
     ghost Value = { List ℕ };
 
-    ghost use Rattle.html_names_core.specs.Held.{held_text, IsHeld};
-    ghost use Rattle.html_names_core.specs.Tables.{known_tags, tag_count};
-    ghost use Rattle.html_names_core.specs.Characters.{is_tag_char};
+    ghost use Rattle.html_names_core.specs.{Characters.{is_tag_char}, Held.{held_text, IsHeld}, Tables.{known_tags, tag_count}};
 
     ghost view = { λ t. held_text known_tags t.name };
 
@@ -249,8 +243,7 @@ impl Eq for HtmlTag {
 #[tactic(auto, using(crate::proofs::Lists::in_characters))]
 impl Hash for HtmlTag {
     ghost use Rattle.std.specs.Hash as fed;
-    ghost use Rattle.std.specs.Cmp.Rules.{hashing};
-    ghost use Rattle.std.proofs.Common.{rules};
+    ghost use Rattle.std.{proofs.Common.{rules}, specs.Cmp.Rules.{hashing}};
     ghost use lib.Utf8.{encodes};
 
     ghost hash_input = { λ name. fed.str (encodes name) };

@@ -1,9 +1,7 @@
 //! Lookup of a text in a table of names, for this crate and those that build on it.
 
 ghost use Rattle.std.specs.Prelude.{◌≡◌, chars, IsTrue};
-ghost use Rattle.html_names_core.specs.Held.{IsLookup};
-ghost use Rattle.html_names_core.specs.Names.{are_ascii, stands_in, texts};
-ghost use Rattle.html_names_core.specs.Starts.{are_starts};
+ghost use Rattle.html_names_core.specs.{Held.{IsLookup}, Names.{are_ascii, stands_in, texts}, Starts.{are_starts}};
 
 /// Returns the index of the text in a table of ASCII names, if the table contains it.
 ///

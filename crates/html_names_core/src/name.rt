@@ -1,8 +1,7 @@
 //! The representation of a name: the index of a known one, or the text of any other.
 
 ghost use Rattle.std.specs.Prelude.{◌≡◌, OnErr, IfOk, length, chars, IsTrue, None};
-ghost use Rattle.html_names_core.specs.Names.{texts, are_ascii};
-ghost use Rattle.html_names_core.specs.Tables.{tag_count};
+ghost use Rattle.html_names_core.specs.{Names.{texts, are_ascii}, Tables.{tag_count}};
 
 use crate::property::Display;
 use crate::table::{DISPLAYS, KINDS};
@@ -17,9 +16,8 @@ pub(crate) enum Name {
 }
 
 impl Name {
-    ghost use Rattle.html_names_core.specs.Held.{held_text, IsWithin};
     ghost use Rattle.html_names_core.specs.ByNumber.{name_has, name_display};
-    ghost use Rattle.html_names_core.specs.Held.{IsMade, same_held, IsOwn, IsCopy};
+    ghost use Rattle.html_names_core.specs.Held.{held_text, IsWithin, IsMade, same_held, IsOwn, IsCopy};
 
     #[tactic(auto, using(crate::proofs::Held::known_text))]
     pub(crate) fn as_str(&self, table: &'static [&'static str]) -> &str

@@ -1,9 +1,7 @@
 //! A writer that appends characters, texts and numbers to a growing text.
 
-ghost use Rattle.std.specs.Prelude.{◌≡◌, ◌++◌, ◌∷◌, [], ◌<◌, OnOk, OnErr, chars, string_bytes, IsTrue, false};
-ghost use Rattle.std.specs.Fmt.{decimal, digits};
-ghost use Rattle.html_names_core.specs.Names.{is_ascii};
-ghost use Rattle.html_names_core.specs.Texts.{two_digits};
+ghost use Rattle.std.specs.{Fmt.{decimal, digits}, Prelude.{◌≡◌, ◌++◌, ◌∷◌, [], ◌<◌, OnOk, OnErr, chars, string_bytes, IsTrue, false}};
+ghost use Rattle.html_names_core.specs.{Names.{is_ascii}, Texts.{two_digits}};
 
 use std::alloc::{AllocError, Global};
 use std::marker::Model;

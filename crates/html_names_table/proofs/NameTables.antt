@@ -1,14 +1,8 @@
 -- Numbers of names, over lists of texts.
 use Rattle.std.proofs.Common.{◌≡◌, ℕ, zero, suc, ◌+◌, ◌<◌, ◌≤◌, Bool, true, false, if◌then◌else◌, List, [], ◌∷◌, ◌++◌, refl, sym, ap, ◌∙◌, length, get_or, arith, bytes_eq, add-one, append-nil, length-append, Some, Ok}
-use Rattle.std.proofs.lemmas.Bool.{eq-eqb}
-use Rattle.std.proofs.lemmas.List.{get_or_read_under}
-use Rattle.std.proofs.lemmas.Slice.Eq.{bytes_eq-Decides}
-use Rattle.std.proofs.Math.Bool.{or-true}
-use Rattle.html_names_core.specs.Names.{stands_in}
-use Rattle.html_names_table.specs.NameTables.{NamesView, Numbers, IsNumbered, number_in, with_name, name_at}
-use Rattle.html_names_table.specs.NumberMaps.{number_where}
-use Rattle.html_names_core.proofs.Ascending.{stands, stands_in-append}
-use Rattle.html_names_core.proofs.Basics.{bytes_eq-refl}
+use Rattle.std.proofs.{Math.Bool.{or-true}, lemmas.Bool.{eq-eqb}, lemmas.List.{get_or_read_under}, lemmas.Slice.Eq.{bytes_eq-Decides}}
+use Rattle.html_names_core.{proofs.Ascending.{stands, stands_in-append}, proofs.Basics.{bytes_eq-refl}, specs.Names.{stands_in}}
+use Rattle.html_names_table.specs.{NameTables.{NamesView, Numbers, IsNumbered, number_in, with_name, name_at}, NumberMaps.{number_where}}
 
 pub number_below : (names : List (List ℕ)) (name : List ℕ) → stands_in names name ≡ true →
     number_in names name < length names

@@ -1,10 +1,9 @@
 -- Names that get the next number.
 use Rattle.std.proofs.Common.{◌≡◌, ℕ, Bool, true, false, if◌then◌else◌, List, [], ◌∷◌, ◌++◌, refl, sym, length, arith, bytes_eq, length-append, Option, Some, None}
 use Rattle.std.proofs.lemmas.Slice.Eq.{bytes_eq-Decides}
-use Rattle.html_names_core.specs.Names.{stands_in}
-use Rattle.html_names_table.specs.NameTables.{number_in, name_at, IsNumbered}
-use Rattle.html_names_core.proofs.Ascending.{stands}
+use Rattle.html_names_core.{proofs.Ascending.{stands}, specs.Names.{stands_in}}
 use Rattle.html_names_table.proofs.NameTables.{number_next, name_at-append, name_at-last, number_in-append, number_in-last, stands_in-last}
+use Rattle.html_names_table.specs.NameTables.{number_in, name_at, IsNumbered}
 
 pub numbered : (names : List (List ℕ)) (name : List ℕ) → IsNumbered names →
     stands_in names name ≡ false → IsNumbered (names ++ name ∷ [])

@@ -1,25 +1,15 @@
 -- The numbers of names by place and by text, against the list of the names.
 use Rattle.std.proofs.Common.{◌≡◌, ℕ, ◌+◌, ◌<◌, true, false, List, [], ◌∷◌, ◌++◌, refl, sym, ap, ◌∙◌, ◌≤◌, chars, length, get_or, take, add-one, arith, bytes_eq, Option, None, Some, Result, Ok, Err, OnOk}
-use Rattle.std.specs.Prelude.{◌==◌, is_some}
-use Rattle.std.proofs.lemmas.Bool.{false≢true}
-use Rattle.std.specs.declared.alloc.AllocError.{AllocError}
-use Rattle.std.specs.BTreeMap.{get_by_text}
-use Rattle.std.specs.Str.{IsUtf8}
-use Rattle.std.proofs.lemmas.List.{get_or_read_under, get_or_default, length-take-le}
-use Rattle.std.proofs.Math.Seq.{take-suc}
-use Rattle.html_names_table.specs.declared.name_table.number_map.NumberMap.{NumberMap}
-use Rattle.html_names_table.specs.declared.name_table.own_numbers.OwnNumbers.{OwnNumbers}
-use Rattle.html_names_core.specs.Names.{stands_in, IsPlace}
-use Rattle.html_names_core.specs.Held.{IsLookup}
+use Rattle.std.proofs.{Math.Seq.{take-suc}, lemmas.Bool.{false≢true}, lemmas.List.{get_or_read_under, get_or_default, length-take-le}}
+use Rattle.std.specs.{BTreeMap.{get_by_text}, Prelude.{◌==◌, is_some}, Str.{IsUtf8}, declared.alloc.AllocError.{AllocError}}
+use Rattle.html_names_table.proofs.{NameTables.{guessed}, NumberMaps.{added_where, numbered}}
+use Rattle.html_names_table.proofs.OwnNumbers.{own_fresh, own_beside, own_next, not_before, free_slot, other_slot}
 use Rattle.html_names_table.specs.NameTables.{name_at, IsNumbered}
 use Rattle.html_names_table.specs.NumberMaps.{known_number, number_where, HoldsNone, PutsKnown, IsKnownNumbering, IsNumbering}
-use Rattle.html_names_table.specs.OwnNumbers.{slot_number, PutsText, IsOwnNumbering}
-use Rattle.html_names_core.proofs.Ascending.{stands, differs}
-use Rattle.html_names_core.proofs.Basics.{bytes_eq-sym}
-use Rattle.html_names_core.proofs.Lists.{bytes_eq-chars}
-use Rattle.html_names_table.proofs.NameTables.{guessed}
-use Rattle.html_names_table.proofs.NumberMaps.{added_where, numbered}
-use Rattle.html_names_table.proofs.OwnNumbers.{own_fresh, own_beside, own_next, not_before, free_slot, other_slot}
+use Rattle.html_names_table.specs.{OwnNumbers.{slot_number, PutsText, IsOwnNumbering}, declared.name_table.number_map.NumberMap.{NumberMap}}
+use Rattle.html_names_table.specs.declared.name_table.own_numbers.OwnNumbers.{OwnNumbers}
+use Rattle.html_names_core.proofs.{Ascending.{stands, differs}, Basics.{bytes_eq-sym}, Lists.{bytes_eq-chars}}
+use Rattle.html_names_core.specs.{Held.{IsLookup}, Names.{stands_in, IsPlace}}
 
 known_at : (table : List (List ℕ)) (name : List ℕ) (place : ℕ) → IsPlace table name place →
     stands_in table name ≡ true

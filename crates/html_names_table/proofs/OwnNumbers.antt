@@ -1,26 +1,17 @@
 -- The numbers of names that are not known, against the list of the names.
 use Rattle.std.proofs.Common.{◌≡◌, ℕ, ◌+◌, ◌<◌, ◌≤◌, ◌⊎◌, inl, inr, Bool, true, false, if◌then◌else◌, List, [], ◌∷◌, ◌++◌, refl, sym, ap, ◌∙◌, chars, length, get_or, take, drop, set, arith, bytes_eq, length-append, Some, None, string_bytes}
-use Rattle.std.specs.Str.{IsUtf8}
-use Rattle.std.specs.BTreeMap.{get_by_text, UpdatesBy}
-use Rattle.std.specs.String.{string_cmp}
-use Rattle.std.specs.Cmp.Lexicographic.{slice_cmp}
-use Rattle.std.specs.Ordering.{nat_cmp}
-use Rattle.std.proofs.lemmas.Map.Text.{btree_map_updates_text}
-use Rattle.std.proofs.lemmas.Bool.{false≢true}
+use Rattle.std.proofs.{Math.ListN.{get_or-eq_default}, lemmas.Bool.{false≢true}}
 use Rattle.std.proofs.lemmas.List.{take-append-drop, length-take-le, length-set, get_or_default, get_or-set_same, get_or-set_other}
-use Rattle.std.proofs.lemmas.Bool.Decides.{eqb_tells}
-use Rattle.std.proofs.Math.ListN.{get_or-eq_default}
-use Rattle.std.proofs.lemmas.Slice.Eq.{bytes_eq-Decides}
-use Rattle.html_names_table.specs.declared.name_table.own_numbers.OwnNumbers.{OwnNumbers}
-use Rattle.html_names_core.specs.Names.{stands_in}
-use Rattle.html_names_table.specs.NameTables.{number_in, name_at, IsNumbered}
-use Rattle.html_names_table.specs.NumberMaps.{number_where}
-use Rattle.html_names_table.specs.OwnNumbers.{slot_of, slot_number, HoldsNoText, TakesSlot, JoinsRest, IsFound, IsOwnNumbering}
-use Rattle.html_names_core.proofs.Ascending.{differs}
-use Rattle.html_names_core.proofs.Basics.{bytes_eq-refl}
-use Rattle.html_names_core.proofs.Lists.{bytes_eq-chars}
+use Rattle.std.proofs.lemmas.{Bool.Decides.{eqb_tells}, Map.Text.{btree_map_updates_text}, Slice.Eq.{bytes_eq-Decides}}
+use Rattle.std.specs.{BTreeMap.{get_by_text, UpdatesBy}, Ordering.{nat_cmp}, Str.{IsUtf8}, String.{string_cmp}}
+use Rattle.std.specs.Cmp.Lexicographic.{slice_cmp}
 use Rattle.html_names_table.proofs.NameTables.{number_below, number_next, name_at-number, number_in-append, number_in-last, stands_in-last}
 use Rattle.html_names_table.proofs.NumberMaps.{others_stand}
+use Rattle.html_names_table.specs.{NameTables.{number_in, name_at, IsNumbered}, NumberMaps.{number_where}}
+use Rattle.html_names_table.specs.OwnNumbers.{slot_of, slot_number, HoldsNoText, TakesSlot, JoinsRest, IsFound, IsOwnNumbering}
+use Rattle.html_names_table.specs.declared.name_table.own_numbers.OwnNumbers.{OwnNumbers}
+use Rattle.html_names_core.proofs.{Ascending.{differs}, Basics.{bytes_eq-refl}, Lists.{bytes_eq-chars}}
+use Rattle.html_names_core.specs.Names.{stands_in}
 
 pub own_fresh : (table : List (List ℕ)) (own : OwnNumbers) → HoldsNoText own →
     IsOwnNumbering table own []

@@ -1,10 +1,9 @@
 -- Numbers of names by their representation, and when they are the numbers in a list of names.
 use Rattle.std.specs.Prelude.{◌≡◌, ℕ, ◌<◌, ◌==◌, List, [], slice_index_or, if◌then◌else◌, Option, Some, None, Result, OnOk, OnErr}
 use Rattle.std.specs.declared.alloc.AllocError.{AllocError}
+use Rattle.html_names_table.specs.{NameTables.{number_in, IsNumbered}, OwnNumbers.{HoldsNoText, IsOwnNumbering}}
 use Rattle.html_names_table.specs.declared.name_table.number_map.NumberMap.{NumberMap}
 use Rattle.html_names_core.specs.Names.{stands_in}
-use Rattle.html_names_table.specs.NameTables.{number_in, IsNumbered}
-use Rattle.html_names_table.specs.OwnNumbers.{HoldsNoText, IsOwnNumbering}
 
 -- the number of the known name with that index, if it has one
 abbrev pub known_number : NumberMap → ℕ → Option ℕ

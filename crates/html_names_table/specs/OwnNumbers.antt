@@ -1,13 +1,10 @@
 -- Numbers of names that are not known, by a slot of their text or in a map, and when they are the
 -- numbers in a list of names.
+use Rattle.std.specs.{BTreeMap.{get_by_text}, List.{fold}}
 use Rattle.std.specs.Prelude.{◌≡◌, ℕ, ◌*◌, ◌-◌, ◌%◌, ◌^◌, ◌<◌, ◌≤◌, ◌⊎◌, true, false, List, chars, bytes_eq, slice_index, length, bit_and, bit_xor, if◌then◌else◌, Some, None, Result, OnOk, OnErr}
-use Rattle.std.specs.List.{fold}
-use Rattle.std.specs.Str.{IsUtf8}
-use Rattle.std.specs.declared.alloc.AllocError.{AllocError}
-use Rattle.std.specs.BTreeMap.{get_by_text}
-use Rattle.html_names_table.specs.declared.name_table.own_numbers.OwnNumbers.{OwnNumbers}
+use Rattle.std.specs.{Str.{IsUtf8}, declared.alloc.AllocError.{AllocError}}
+use Rattle.html_names_table.specs.{NameTables.{number_in}, declared.name_table.own_numbers.OwnNumbers.{OwnNumbers}}
 use Rattle.html_names_core.specs.Names.{stands_in}
-use Rattle.html_names_table.specs.NameTables.{number_in}
 
 -- the slot of a text among so many slots
 unfoldable pub slot_of : List ℕ → (count : ℕ) → ℕ

@@ -5,9 +5,8 @@ ghost use Rattle.html_names_core.specs.Names.{stands_in};
 ghost use Rattle.html_names_core.specs.Tables.{known_tags, is_known_tag, tag_count, known_attrs, is_known_attr, attr_count};
 ghost use Rattle.html_names_core.specs.Kinds as kinds;
 ghost use Rattle.html_names_core.specs.Displays.{default_display};
-ghost use Rattle.html_names_table.specs.NumberMaps.{number_where, IsNumbering};
-ghost use Rattle.html_names_table.specs.OwnNumbers.{IsOwnNumbering};
 ghost use Rattle.html_names_table.specs.NameTables.{Numbers, IsNumbered, no_names, name_at, with_tag, with_attr};
+ghost use Rattle.html_names_table.specs.{NumberMaps.{number_where, IsNumbering}, OwnNumbers.{IsOwnNumbering}};
 
 use html_names_core::property::Display;
 use html_names_core::{HtmlAttr, HtmlTag, Refused, tag};

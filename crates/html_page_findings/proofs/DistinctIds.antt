@@ -1,20 +1,14 @@
 -- The ids of a tree whose names differ are not repeated.
 use Rattle.std.proofs.Common.{◌≡◌, Bool, true, false, not, List, [], ◌∷◌, ◌++◌, refl, ap, ◌∙◌, arith}
-use Rattle.std.specs.Prelude.{if◌then◌else◌}
-use Rattle.std.proofs.lemmas.Bool.{and_parts}
-use Rattle.std.proofs.lemmas.List.{append-nil}
+use Rattle.std.{proofs.lemmas.Bool.{and_parts}, proofs.lemmas.List.{append-nil}, specs.Prelude.{if◌then◌else◌}}
 use Rattle.html_names_core.specs.Names.{stands_in}
 use Rattle.html_dom_tree.specs.Tree.{element_node, none, node, ElementView}
-use Rattle.html_links.specs.Distinct.{are_distinct, occurrences}
-use Rattle.html_links.specs.InDocument.{in_document}
+use Rattle.html_links.proofs.{Differing.{are_new, at_most_one, distinct_once, new_distinct, once_distinct}, InDocument.{document_occurs}}
+use Rattle.html_links.{proofs.ShownNames.{shown_count}, specs.Distinct.{are_distinct, occurrences}, specs.InDocument.{in_document}}
 use Rattle.html_links.specs.TreeNames.{Name, all_ids, element_names, nodes_names, with_used_name, gathered_names}
-use Rattle.html_links.proofs.ShownNames.{shown_count}
-use Rattle.html_links.proofs.Differing.{are_new, at_most_one, distinct_once, new_distinct, once_distinct}
-use Rattle.html_links.proofs.InDocument.{document_occurs}
-use Rattle.html_page_findings.specs.CheckLaws.{DistinctAreNotRepeated, texts_of}
-use Rattle.html_page_findings.specs.PlacedTexts.{Placed}
-use Rattle.html_page_findings.specs.RepeatedIds.{placed_ids, repeated, tree_ids}
 use Rattle.html_page_findings.proofs.TreeTexts.{placed_ids_are_ids}
+use Rattle.html_page_findings.specs.{CheckLaws.{DistinctAreNotRepeated, texts_of}, PlacedTexts.{Placed}}
+use Rattle.html_page_findings.specs.RepeatedIds.{placed_ids, repeated, tree_ids}
 
 none_repeated : (used : Name → Bool) (ps : List Placed) → are_new used (texts_of ps) ≡ true →
     repeated used ps ≡ []

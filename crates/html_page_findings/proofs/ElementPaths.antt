@@ -1,8 +1,6 @@
 -- The node at a place of a list that is held.
 use Rattle.std.proofs.Common.{◌≡◌, ℕ, zero, suc, ◌<◌, ◌≤◌, List, [], ◌∷◌, length, get_or, Some, None, refl, sym, ap, arith}
-use Rattle.html_dom_tree.specs.ByIndex.{node_at}
-use Rattle.html_dom_tree.specs.Views.{node_view, nodes_view}
-use Rattle.html_dom_tree.specs.declared.node.HtmlNode.{HtmlNode}
+use Rattle.html_dom_tree.specs.{ByIndex.{node_at}, Views.{node_view, nodes_view}, declared.node.HtmlNode.{HtmlNode}}
 
 pub node_within : (ns : List HtmlNode) (i : ℕ) (n : HtmlNode) → i < length ns → n ≡ get_or ns i n →
     node_at (nodes_view ns) i ≡ Some (node_view n)

@@ -1,22 +1,17 @@
 -- The path of what is found in elements leads to its element.
 use Rattle.std.proofs.Common.{◌≡◌, ℕ, zero, suc, ◌+◌, Bool, true, false, List, [], ◌∷◌, ◌++◌, Option, Some, None, refl, sym, ap, ◌∙◌, append_assoc, subst, arith}
-use Rattle.std.specs.List.{All, Contains}
-use Rattle.std.specs.Prelude.{not, if◌then◌else◌, option_and_then, option_map}
 use Rattle.std.proofs.lemmas.List.Elements.{All-append, All-cons, All-contains_itself, All-filter, All-head, All-map, All-nil, All-tail, All-weaker}
+use Rattle.std.specs.{List.{All, Contains}, Prelude.{not, if◌then◌else◌, option_and_then, option_map}}
 use Rattle.html_names_core.specs.Names.{stands_in}
-use Rattle.html_dom_tree.specs.ByIndex.{element_at_index}
-use Rattle.html_links.specs.Bases.{base_is_elsewhere}
-use Rattle.html_links.specs.InDocument.{document_places, in_document, kept, keeps, node_part, nodes_part}
-use Rattle.html_links.specs.Indicated.{leads}
-use Rattle.html_links.specs.TreeNames.{Name, with_used_name}
-use Rattle.html_dom_tree.specs.FrameFree.{ElementIsFrameFree, NodeIsFrameFree, NodesAreFrameFree}
+use Rattle.html_dom_tree.specs.{ByIndex.{element_at_index}, FrameFree.{ElementIsFrameFree, NodeIsFrameFree, NodesAreFrameFree}}
 use Rattle.html_dom_tree.specs.Tree.{TextPair, Head, NodeView, tag_node, text_node, element_node, frame_node, NodesView, none, node, ElementView}
-use Rattle.html_page_findings.specs.CheckLaws.{AllFindingsStand, StandsAt}
-use Rattle.html_page_findings.specs.ElementPaths.{element_at}
+use Rattle.html_links.specs.{Bases.{base_is_elsewhere}, InDocument.{document_places, in_document, kept, keeps, node_part, nodes_part}}
+use Rattle.html_links.specs.{Indicated.{leads}, TreeNames.{Name, with_used_name}}
+use Rattle.html_page_findings.proofs.TreeTexts.{without_frames}
+use Rattle.html_page_findings.specs.{CheckLaws.{AllFindingsStand, StandsAt}, ElementPaths.{element_at}}
 use Rattle.html_page_findings.specs.Fragments.{dead_among, fragments, fragment_links}
 use Rattle.html_page_findings.specs.PlacedTexts.{Placed, TextKind, element_placed, head_texts, node_placed, nodes_placed, of_elements, placed_at}
 use Rattle.html_page_findings.specs.RepeatedIds.{ids, placed_ids, repeated}
-use Rattle.html_page_findings.proofs.TreeTexts.{without_frames}
 
 -- the texts that elements have
 module _ (own : List ℕ → List TextPair → List (List ℕ)) where

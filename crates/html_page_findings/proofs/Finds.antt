@@ -1,10 +1,8 @@
 -- The ids that are found where one text more is taken.
-use Rattle.std.proofs.Common.{◌≡◌, Bool, true, false, ◌||◌, List, ◌∷◌, refl, ap, sym, ◌∙◌, bytes_eq}
-use Rattle.std.proofs.Math.Path.{fun_ext}
+use Rattle.std.proofs.{Common.{◌≡◌, Bool, true, false, ◌||◌, List, ◌∷◌, refl, ap, sym, ◌∙◌, bytes_eq}, Math.Path.{fun_ext}}
 use Rattle.std.proofs.lemmas.Slice.Eq.{bytes_eq-Decides}
 use Rattle.html_links.specs.TreeNames.{Name, with_used_name}
-use Rattle.html_page_findings.specs.PlacedTexts.{Placed}
-use Rattle.html_page_findings.specs.RepeatedIds.{repeated}
+use Rattle.html_page_findings.specs.{PlacedTexts.{Placed}, RepeatedIds.{repeated}}
 
 module _ (used : Name → Bool) where
   still_used : (n : Name) → used n ≡ true → with_used_name n used ≡ used

@@ -1,15 +1,12 @@
 -- A tree without hyperlinks has no link to a fragment, so none that is dead.
 use Rattle.std.proofs.Common.{◌≡◌, ℕ, suc, Bool, true, false, ◌&&◌, List, [], ◌∷◌, ◌++◌, Option, Some, None, codes, refl}
 use Rattle.std.specs.Prelude.{if◌then◌else◌, is_some}
-use Rattle.html_dom_tree.specs.Attributes.{first}
-use Rattle.html_dom_tree.specs.Tree.{Head, tag_node, text_node, element_node, frame_node, NodesView, none, node}
-use Rattle.html_page_findings.specs.CheckLaws.{NoHyperlinkNoDeadFragment}
-use Rattle.html_names_core.specs.Names.{stands_in}
-use Rattle.html_links.specs.Bases.{base_is_elsewhere}
-use Rattle.html_links.specs.InDocument.{document_places, kept, keeps, node_part, nodes_part}
-use Rattle.html_page_findings.specs.Fragments.{dead_among, fragment_links, fragments, fragments_of}
+use Rattle.html_dom_tree.specs.{Attributes.{first}, Tree.{Head, tag_node, text_node, element_node, frame_node, NodesView, none, node}}
+use Rattle.html_page_findings.specs.{CheckLaws.{NoHyperlinkNoDeadFragment}, Fragments.{dead_among, fragment_links, fragments, fragments_of}}
 use Rattle.html_page_findings.specs.Hyperlinks.{HeadIsNoHyperlink, NodesHaveNoHyperlink, may_link}
 use Rattle.html_page_findings.specs.PlacedTexts.{head_texts, node_placed, nodes_placed}
+use Rattle.html_names_core.specs.Names.{stands_in}
+use Rattle.html_links.specs.{Bases.{base_is_elsewhere}, InDocument.{document_places, kept, keeps, node_part, nodes_part}}
 
 no_fragment : (h : Head) → HeadIsNoHyperlink h → head_texts fragments h ≡ []
 no_fragment h e = by (may_link h.name) (first h.attrs (codes "href")) e

@@ -1,22 +1,18 @@
 -- What is found in a tree without frames is found in its normal form.
 use Rattle.std.proofs.Common.{◌≡◌, ℕ, Bool, true, false, not, cond, List, [], ◌∷◌, ◌++◌, Option, None, refl, ap, sym, ◌∙◌}
-use Rattle.std.specs.List.{filter}
-use Rattle.std.specs.Prelude.{if◌then◌else◌}
+use Rattle.std.specs.{List.{filter}, Prelude.{if◌then◌else◌}}
 use Rattle.html_names_core.specs.Names.{stands_in}
-use Rattle.html_dom_tree.specs.Attributes.{or_else}
-use Rattle.html_dom_tree.specs.FrameFree.{NodeIsFrameFree, NodesAreFrameFree, ElementIsFrameFree}
+use Rattle.html_dom_tree.specs.{Attributes.{or_else}, FrameFree.{NodeIsFrameFree, NodesAreFrameFree, ElementIsFrameFree}}
 use Rattle.html_dom_tree.specs.PlainTree.{Plain, words, branch, Plains, no_plains, plain, put_words, nodes_normal, element_normal}
 use Rattle.html_dom_tree.specs.Tree.{tag_node, text_node, element_node, frame_node, NodesView, none, node, ElementView}
 use Rattle.html_links.specs.Bases.{base_of, base_is_elsewhere, leads_away, node_base, nodes_base, own_base}
 use Rattle.html_links.specs.InDocument.{document_places, in_document, kept, keeps, node_part, nodes_part}
 use Rattle.html_links.specs.Indicated.{element_places, leads, nodes_places, place_names}
 use Rattle.html_links.specs.TreeNames.{Name, frame_names, with_used_name, gathered_names}
+use Rattle.html_page_findings.proofs.{FindingPlaces.{document_frame_free}, TreeTexts.{element_texts, gathered, nodes_texts}}
 use Rattle.html_page_findings.specs.CheckLaws.{NormalFormsAgree, texts_of}
-use Rattle.html_page_findings.specs.Fragments.{dead_among, dead_fragments, fragment_links, fragments}
-use Rattle.html_page_findings.specs.PlacedTexts.{Placed, TextKind}
+use Rattle.html_page_findings.specs.{Fragments.{dead_among, dead_fragments, fragment_links, fragments}, PlacedTexts.{Placed, TextKind}}
 use Rattle.html_page_findings.specs.RepeatedIds.{ids, placed_ids, repeated}
-use Rattle.html_page_findings.proofs.FindingPlaces.{document_frame_free}
-use Rattle.html_page_findings.proofs.TreeTexts.{element_texts, gathered, nodes_texts}
 
 module _ (kind : TextKind) where
   abbrev plains_texts : Plains → List Name

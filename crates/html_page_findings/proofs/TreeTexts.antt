@@ -1,10 +1,8 @@
 -- The texts of a tree, apart from their places.
-use Rattle.std.proofs.Common.{◌≡◌, ℕ, suc, List, [], ◌∷◌, ◌++◌, refl, ap, sym, ◌∙◌, append_assoc}
-use Rattle.std.proofs.lemmas.List.{append-nil, map-append}
+use Rattle.std.proofs.{Common.{◌≡◌, ℕ, suc, List, [], ◌∷◌, ◌++◌, refl, ap, sym, ◌∙◌, append_assoc}, lemmas.List.{append-nil, map-append}}
 use Rattle.html_dom_tree.specs.FrameFree.{NodeIsFrameFree, NodesAreFrameFree}
 use Rattle.html_dom_tree.specs.Tree.{tag_node, text_node, element_node, frame_node, NodesView, none, node, ElementView}
-use Rattle.html_links.specs.TreeNames.{shown_names, Name, gathered_names}
-use Rattle.html_links.specs.InDocument.{in_document}
+use Rattle.html_links.specs.{InDocument.{in_document}, TreeNames.{shown_names, Name, gathered_names}}
 use Rattle.html_page_findings.specs.CheckLaws.{PlacedIdsAreIds, texts_of}
 use Rattle.html_page_findings.specs.PlacedTexts.{Placed, TextKind, element_placed, head_texts, node_placed, nodes_placed, of_elements, placed_at}
 use Rattle.html_page_findings.specs.RepeatedIds.{ids}

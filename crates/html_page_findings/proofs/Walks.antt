@@ -1,9 +1,7 @@
 -- Walks over a tree: the texts at the places of nodes, one node after the other.
 use Rattle.std.proofs.Common.{◌≡◌, ℕ, ◌+◌, ◌≤◌, ◌<◌, false, List, [], ◌∷◌, ◌++◌, length, get_or, drop, ap, sym, ◌∙◌, add-one}
 use Rattle.std.proofs.lemmas.List.{drop_all}
-use Rattle.html_dom_tree.specs.Views.{node_view, nodes_view}
-use Rattle.html_dom_tree.specs.declared.node.HtmlNode.{HtmlNode}
-use Rattle.html_dom_tree.proofs.Nodes.{nodes_view-drop}
+use Rattle.html_dom_tree.{proofs.Nodes.{nodes_view-drop}, specs.Views.{node_view, nodes_view}, specs.declared.node.HtmlNode.{HtmlNode}}
 use Rattle.html_links.specs.InDocument.{node_part, nodes_part}
 use Rattle.html_page_findings.specs.PlacedTexts.{TextKind, node_placed, nodes_placed}
 

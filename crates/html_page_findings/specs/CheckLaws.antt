@@ -1,17 +1,9 @@
 -- Laws of dead fragments and of repeated ids.
-use Rattle.std.specs.List.{All, Contains}
-use Rattle.std.specs.Prelude.{◌≡◌, true, List, [], map, Some}
-use Rattle.html_dom_tree.specs.FrameFree.{ElementIsFrameFree}
-use Rattle.html_dom_tree.specs.PlainTree.{element_normal}
-use Rattle.html_dom_tree.specs.Tree.{ElementView}
-use Rattle.html_links.specs.Distinct.{are_distinct}
-use Rattle.html_links.specs.InDocument.{in_document}
-use Rattle.html_links.specs.TreeNames.{Name, element_names}
-use Rattle.html_page_findings.specs.ElementPaths.{element_at}
-use Rattle.html_page_findings.specs.Fragments.{dead_fragments, fragments}
-use Rattle.html_page_findings.specs.Hyperlinks.{ElementHasNoHyperlink}
-use Rattle.html_page_findings.specs.PlacedTexts.{Placed, TextKind, head_texts}
-use Rattle.html_page_findings.specs.RepeatedIds.{ids, placed_ids, repeated_ids, tree_ids}
+use Rattle.std.specs.{List.{All, Contains}, Prelude.{◌≡◌, true, List, [], map, Some}}
+use Rattle.html_dom_tree.specs.{FrameFree.{ElementIsFrameFree}, PlainTree.{element_normal}, Tree.{ElementView}}
+use Rattle.html_links.specs.{Distinct.{are_distinct}, InDocument.{in_document}, TreeNames.{Name, element_names}}
+use Rattle.html_page_findings.specs.{ElementPaths.{element_at}, Fragments.{dead_fragments, fragments}, Hyperlinks.{ElementHasNoHyperlink}}
+use Rattle.html_page_findings.specs.{PlacedTexts.{Placed, TextKind, head_texts}, RepeatedIds.{ids, placed_ids, repeated_ids, tree_ids}}
 
 -- the texts that are found, without their paths
 abbrev pub texts_of : List Placed → List Name

@@ -1,8 +1,7 @@
 -- Findings as pure values: a path, and a text of the node at that path.
 use Rattle.std.specs.Prelude.{List, map}
 use Rattle.html_names_core.specs.Texts.{text_view}
-use Rattle.html_page_findings.specs.PlacedTexts.{Placed}
-use Rattle.html_page_findings.specs.declared.fragments.DeadFragment.{DeadFragment}
+use Rattle.html_page_findings.specs.{PlacedTexts.{Placed}, declared.fragments.DeadFragment.{DeadFragment}}
 use Rattle.html_page_findings.specs.declared.repeated.RepeatedId.{RepeatedId}
 
 abbrev pub dead_fragment_view : DeadFragment → Placed

@@ -1,16 +1,10 @@
 -- Links to fragments of their own page that lead nowhere (HTML Standard 7.4.6.3: scrolling to a
 -- fragment).
-use Rattle.std.specs.List.{filter}
-use Rattle.std.specs.Prelude.{ℕ, Bool, not, List, [], codes, if◌then◌else◌, Option, Some, None}
+use Rattle.std.specs.{List.{filter}, Prelude.{ℕ, Bool, not, List, [], codes, if◌then◌else◌, Option, Some, None}}
 use Rattle.html_names_core.specs.Names.{stands_in}
-use Rattle.html_dom_tree.specs.Attributes.{first}
-use Rattle.html_dom_tree.specs.Tree.{ElementView}
-use Rattle.html_links.specs.Bases.{base_is_elsewhere}
-use Rattle.html_links.specs.InDocument.{document_places}
-use Rattle.html_links.specs.Indicated.{fragments_in, leads}
-use Rattle.html_links.specs.TreeNames.{Name}
-use Rattle.html_page_findings.specs.Hyperlinks.{may_link}
-use Rattle.html_page_findings.specs.PlacedTexts.{Placed, TextKind, document_placed, of_elements}
+use Rattle.html_dom_tree.specs.{Attributes.{first}, Tree.{ElementView}}
+use Rattle.html_links.specs.{Bases.{base_is_elsewhere}, InDocument.{document_places}, Indicated.{fragments_in, leads}, TreeNames.{Name}}
+use Rattle.html_page_findings.specs.{Hyperlinks.{may_link}, PlacedTexts.{Placed, TextKind, document_placed, of_elements}}
 
 abbrev pub fragments_of : (href : Option (List ℕ)) → List (List ℕ)
 fragments_of None = []

@@ -2,8 +2,7 @@
 -- 4.12.3: what a `template` contains is a tree of its own).
 use Rattle.std.specs.Prelude.{Bool, List, [], ◌∷◌, ◌++◌, codes, if◌then◌else◌, option_to_list}
 use Rattle.html_names_core.specs.Names.{stands_in}
-use Rattle.html_dom_tree.specs.Attributes.{first}
-use Rattle.html_dom_tree.specs.Tree.{element_node, node, none, ElementView}
+use Rattle.html_dom_tree.specs.{Attributes.{first}, Tree.{element_node, node, none, ElementView}}
 use Rattle.html_links.specs.TreeNames.{shown_names, Name, frame_names, with_used_name}
 use Rattle.html_page_findings.specs.PlacedTexts.{Placed, TextKind, document_placed}
 

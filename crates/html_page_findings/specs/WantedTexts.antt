@@ -2,10 +2,7 @@
 use Rattle.std.specs.Prelude.{ℕ, List, [], codes, if◌then◌else◌, Option, Some, None, option_to_list}
 use Rattle.html_dom_tree.specs.Attributes.{first}
 use Rattle.html_links.specs.Indicated.{link_name, unless_empty}
-use Rattle.html_page_findings.specs.Fragments.{fragments}
-use Rattle.html_page_findings.specs.Hyperlinks.{may_link}
-use Rattle.html_page_findings.specs.PlacedTexts.{TextKind, of_elements}
-use Rattle.html_page_findings.specs.RepeatedIds.{ids}
+use Rattle.html_page_findings.specs.{Fragments.{fragments}, Hyperlinks.{may_link}, PlacedTexts.{TextKind, of_elements}, RepeatedIds.{ids}}
 use Rattle.html_page_findings.specs.declared.wanted.Wanted.{Wanted}
 use Rattle.html_page_findings.specs.declared.wanted.Wanted.TheVariants as wanted
 

@@ -3,9 +3,7 @@
 ghost use Rattle.std.specs.Prelude.{◌≡◌, List, [], ◌++◌, IfOk};
 ghost use Rattle.html_dom_tree.specs.Views.{element_view};
 ghost use Rattle.html_links.specs.UsedNames.{used_in};
-ghost use Rattle.html_page_findings.specs.Findings.{dead_view};
-ghost use Rattle.html_page_findings.specs.Fragments.{dead_among, dead_fragments};
-ghost use Rattle.html_page_findings.specs.PlacedTexts.{Placed};
+ghost use Rattle.html_page_findings.specs.{Findings.{dead_view}, Fragments.{dead_among, dead_fragments}, PlacedTexts.{Placed}};
 
 use crate::text_sink::TextSink;
 use crate::walk::report_texts;

@@ -1,8 +1,7 @@
 //! The elements of a tree by their paths.
 
 ghost use Rattle.std.specs.Prelude.{◌≡◌, Some, option_map};
-ghost use Rattle.html_dom_tree.specs.ByIndex.{as_element, element_at_index};
-ghost use Rattle.html_dom_tree.specs.Views.{element_view, node_view, nodes_view};
+ghost use Rattle.html_dom_tree.specs.{ByIndex.{as_element, element_at_index}, Views.{element_view, node_view, nodes_view}};
 ghost use Rattle.html_page_findings.specs.ElementPaths.{element_at};
 
 use html_dom_tree::{HtmlElement, HtmlNode};

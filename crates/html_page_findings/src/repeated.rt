@@ -3,9 +3,7 @@
 ghost use Rattle.std.specs.Prelude.{◌≡◌, List, [], ◌++◌, IfOk};
 ghost use Rattle.html_dom_tree.specs.Views.{element_view};
 ghost use Rattle.html_links.specs.UsedNames.{used_in};
-ghost use Rattle.html_page_findings.specs.Findings.{repeated_view};
-ghost use Rattle.html_page_findings.specs.PlacedTexts.{Placed};
-ghost use Rattle.html_page_findings.specs.RepeatedIds.{repeated, repeated_ids};
+ghost use Rattle.html_page_findings.specs.{Findings.{repeated_view}, PlacedTexts.{Placed}, RepeatedIds.{repeated, repeated_ids}};
 
 use crate::text_sink::TextSink;
 use crate::walk::report_texts;

@@ -1,12 +1,9 @@
 //! The walk over a tree that finds its texts.
 
 ghost use Rattle.std.specs.Prelude.{◌≡◌, ◌++◌, [], ◌∷◌, ℕ, List, IfOk, OnOk, false, option_map, option_to_list};
-ghost use Rattle.html_dom_tree.specs.FrameViews.{anchors_view, html_frame_view};
-ghost use Rattle.html_dom_tree.specs.Taking.{Takes};
-ghost use Rattle.html_dom_tree.specs.Tree.{element_node};
+ghost use Rattle.html_dom_tree.specs.{FrameViews.{anchors_view, html_frame_view}, Taking.{Takes}, Tree.{element_node}};
 ghost use Rattle.html_dom_tree.specs.Views.{element_view, node_view, nodes_view, text_view};
-ghost use Rattle.html_links.specs.InDocument.{node_part, nodes_part};
-ghost use Rattle.html_links.specs.TreeNames.{anchor_names};
+ghost use Rattle.html_links.specs.{InDocument.{node_part, nodes_part}, TreeNames.{anchor_names}};
 ghost use Rattle.html_page_findings.specs.PlacedTexts.{document_placed, head_texts, node_placed, nodes_placed, placed_at};
 ghost use Rattle.html_page_findings.specs.WantedTexts.{kind_of};
 

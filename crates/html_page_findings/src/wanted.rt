@@ -3,9 +3,7 @@
 ghost use Rattle.std.specs.Prelude.{◌≡◌, IfOk, option_map, option_to_list};
 ghost use Rattle.html_dom_tree.specs.Views.{element_view, text_view};
 ghost use Rattle.html_links.specs.Indicated.{unless_empty};
-ghost use Rattle.html_page_findings.specs.Fragments.{fragments};
-ghost use Rattle.html_page_findings.specs.PlacedTexts.{head_texts};
-ghost use Rattle.html_page_findings.specs.Hyperlinks.{may_link};
+ghost use Rattle.html_page_findings.specs.{Fragments.{fragments}, Hyperlinks.{may_link}, PlacedTexts.{head_texts}};
 ghost use Rattle.html_page_findings.specs.WantedTexts.{filled, hrefs, kind_of};
 
 use html_dom_tree::HtmlElement;

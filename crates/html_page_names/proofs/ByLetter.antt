@@ -1,16 +1,10 @@
 -- A name is looked for among the references that begin with its first letter.
 use Rattle.std.proofs.Common.{◌≡◌, ℕ, zero, suc, ◌+◌, ◌<◌, ◌≤◌, Bool, true, false, ◌&&◌, List, [], ◌∷◌, ◌++◌, refl, sym, ap, ◌∙◌, length, get_or, arith, bytes_eq, chars, Option, None, option_map, ◌⊎◌, inl, inr}
-use Rattle.std.specs.Borrow.{Bor}
-use Rattle.std.specs.List.{list_all, flat_map}
-use Rattle.std.specs.Option.{option_or}
-use Rattle.std.specs.Str.{IsUtf8}
-use Rattle.std.proofs.lemmas.Bool.{ne_eqb}
-use Rattle.std.proofs.lemmas.Slice.Eq.{bytes_eq-Decides}
+use Rattle.std.proofs.lemmas.{Bool.{ne_eqb}, Slice.Eq.{bytes_eq-Decides}}
+use Rattle.std.specs.{Borrow.{Bor}, List.{list_all, flat_map}, Option.{option_or}, Str.{IsUtf8}}
 use mathlib.Core.Logic.{⊎_elim}
-use Rattle.html_names_core.specs.Names.{is_ascii}
-use Rattle.html_names_core.proofs.Lists.{bytes_eq-ascii}
-use Rattle.html_page_names.specs.NamedReferences.{value_in_groups}
-use Rattle.html_page_names.specs.ReferenceRow.{Row, value_in}
+use Rattle.html_names_core.{proofs.Lists.{bytes_eq-ascii}, specs.Names.{is_ascii}}
+use Rattle.html_page_names.specs.{NamedReferences.{value_in_groups}, ReferenceRow.{Row, value_in}}
 use Rattle.html_page_names.specs.ReferenceTables.{rows_view, groups_view, are_as_long, all_as_long, begins_with, are_grouped}
 use Rattle.html_page_names.specs.declared.reference_rows.Reference.{Reference}
 

@@ -1,14 +1,9 @@
 -- A name in small letters gets its capitals back by a table.
 use Rattle.std.proofs.Common.{◌≡◌, ℕ, zero, suc, ◌<◌, Bool, true, false, List, [], ◌∷◌, refl, sym, ap, ◌∙◌, length, get_or, arith, map, bytes_eq, Some, None, unwrap_or}
-use Rattle.std.specs.List.{find}
-use Rattle.std.specs.Borrow.{Bor}
-use Rattle.std.proofs.lemmas.Bool.{and_parts}
-use Rattle.std.proofs.lemmas.Slice.Eq.{bytes_eq-Decides}
-use Rattle.std.proofs.lemmas.List.{get_or-map, length-map}
-use Rattle.html_names_core.specs.Names.{stands_in, texts, rises, IsPlace}
-use Rattle.html_names_core.proofs.Ascending.{places_differ}
-use Rattle.html_page_names.specs.ForeignNames.{lowered}
-use Rattle.html_page_names.specs.Capitals.{is_name, are_names, IsWithCapitals}
+use Rattle.std.proofs.lemmas.{Bool.{and_parts}, List.{get_or-map, length-map}, Slice.Eq.{bytes_eq-Decides}}
+use Rattle.std.specs.{Borrow.{Bor}, List.{find}}
+use Rattle.html_names_core.{proofs.Ascending.{places_differ}, specs.Names.{stands_in, texts, rises, IsPlace}}
+use Rattle.html_page_names.specs.{Capitals.{is_name, are_names, IsWithCapitals}, ForeignNames.{lowered}}
 
 abbrev is_that : (text name : List ℕ) → Bool
 is_that text name = bytes_eq (lowered name) text

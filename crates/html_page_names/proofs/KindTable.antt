@@ -1,12 +1,8 @@
 -- The table of the kinds of names against the lists of names.
 use Rattle.std.proofs.Common.{◌≡◌, ℕ, zero, suc, ◌<◌, true, false, List, [], ◌∷◌, refl, arith, sym, ap, ◌∙◌, length, get_or, map}
 use Rattle.std.specs.List.{list_all}
-use Rattle.html_names_core.specs.Names.{stands_in, IsPlace, are_ascii}
-use Rattle.html_names_core.specs.Starts.{are_starts}
-use Rattle.html_names_core.proofs.ByTable.{outside}
-use Rattle.html_page_names.specs.PageNames.{kind_names, of}
-use Rattle.html_page_names.specs.Kinds.{has_bit, IsKindsOf}
-use Rattle.html_page_names.specs.declared.kind.Kind.{Kind}
+use Rattle.html_names_core.{proofs.ByTable.{outside}, specs.Names.{stands_in, IsPlace, are_ascii}, specs.Starts.{are_starts}}
+use Rattle.html_page_names.specs.{Kinds.{has_bit, IsKindsOf}, PageNames.{kind_names, of}, declared.kind.Kind.{Kind}}
 use Rattle.html_page_names.specs.declared.kind.Kind.TheVariants as kind
 use Rattle.html_page_names.specs.declared.kind_table.TheConstants.{NAMES, KIND_BITS, STARTS}
 

@@ -1,16 +1,11 @@
 -- Texts in small letters, in bytes and in characters.
 use Rattle.std.proofs.Common.{◌≡◌, ℕ, suc, ◌<◌, ◌≤◌, true, false, codes, List, [], ◌∷◌, ◌++◌, refl, sym, ap, ◌∙◌, inl, inr, length, get_or, arith, bytes_eq}
-use Rattle.std.specs.Char.{to_ascii_lowercase}
-use Rattle.std.specs.Str.{IsUtf8, chars}
-use Rattle.std.proofs.lemmas.Bool.{cases_lt}
-use Rattle.std.proofs.lemmas.List.{append-nil, map-append}
+use Rattle.std.proofs.lemmas.{Bool.{cases_lt}, List.{append-nil, map-append}}
 use Rattle.std.proofs.lemmas.Str.{inside_one, encode_ascii, encodes-chars, chars-encodes, scalars-chars}
-use Rattle.std.proofs.lemmas.Str.Ascii.{lowercase_is, lowercase_ascii}
+use Rattle.std.{proofs.lemmas.Str.Ascii.{lowercase_is, lowercase_ascii}, specs.Char.{to_ascii_lowercase}, specs.Str.{IsUtf8, chars}}
 use lib.Utf8.{scalar, scalars, encode, encodes, low_scalar}
 use Rattle.std.proofs.Math.Bool.{or-false}
-use Rattle.html_names_core.specs.Names.{stands_in}
-use Rattle.html_names_core.proofs.Basics.{bytes_eq-sym}
-use Rattle.html_names_core.proofs.Lists.{bytes_eq-chars}
+use Rattle.html_names_core.{proofs.Basics.{bytes_eq-sym}, proofs.Lists.{bytes_eq-chars}, specs.Names.{stands_in}}
 use Rattle.html_page_names.specs.ForeignNames.{lowered, is_html_encoding}
 
 high_stays : (c : ℕ) → 128 ≤ c → to_ascii_lowercase c ≡ c

@@ -1,9 +1,6 @@
 -- Tables of names that have capitals, which restore them to a name in lowercase.
-use Rattle.std.specs.Prelude.{◌≡◌, ℕ, Bool, true, false, ◌&&◌, List, [], ◌∷◌, Option, Some, None}
-use Rattle.std.specs.List.{list_all}
-use Rattle.std.specs.Borrow.{Bor}
-use Rattle.html_names_core.specs.Characters.{all, is_tag_char, is_attr_char}
-use Rattle.html_names_core.specs.Names.{is_ascii}
+use Rattle.std.specs.{Borrow.{Bor}, List.{list_all}, Prelude.{◌≡◌, ℕ, Bool, true, false, ◌&&◌, List, [], ◌∷◌, Option, Some, None}}
+use Rattle.html_names_core.specs.{Characters.{all, is_tag_char, is_attr_char}, Names.{is_ascii}}
 use Rattle.html_page_names.specs.ForeignNames.{with_capitals}
 
 -- whether a text may be the name of a tag and of an attribute

@@ -1,8 +1,6 @@
 -- Names in SVG and MathML that get their capitals back after all letters were made lowercase (HTML
 -- Standard 13.2.6.1 and 13.2.6.5).
-use Rattle.std.specs.Prelude.{ℕ, Bool, List, ◌++◌, codes, bytes_eq, map, unwrap_or}
-use Rattle.std.specs.Char.{to_ascii_lowercase}
-use Rattle.std.specs.List.{find}
+use Rattle.std.specs.{Char.{to_ascii_lowercase}, List.{find}, Prelude.{ℕ, Bool, List, ◌++◌, codes, bytes_eq, map, unwrap_or}}
 use Rattle.html_names_core.specs.Names.{listed_names, stands_in}
 
 -- a text in lowercase

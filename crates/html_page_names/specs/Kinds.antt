@@ -1,7 +1,6 @@
 -- The kinds of a name, each a bit.
 use Rattle.std.specs.Prelude.{◌≡◌, ℕ, ◌^◌, Bool, not, ◌==◌, bit_and, List}
-use Rattle.html_page_names.specs.PageNames.{of}
-use Rattle.html_page_names.specs.declared.kind.Kind.{Kind}
+use Rattle.html_page_names.specs.{PageNames.{of}, declared.kind.Kind.{Kind}}
 use Rattle.html_page_names.specs.declared.kind.Kind.TheVariants as kind
 use Rattle.html_page_names.specs.declared.kinds.Kinds.{Kinds}
 

@@ -1,9 +1,6 @@
 -- Named character references (HTML Standard 13.5).
-use Rattle.std.specs.Prelude.{ℕ, List, ◌∷◌, Option, option_map, option_to_list}
-use Rattle.std.specs.List.{flat_map}
-use Rattle.std.specs.Option.{option_or}
-use Rattle.html_page_names.specs.ReferenceRow.{Row, value_in}
-use Rattle.html_page_names.specs.ReferenceRows.{legacy_groups, other_groups}
+use Rattle.std.specs.{List.{flat_map}, Option.{option_or}, Prelude.{ℕ, List, ◌∷◌, Option, option_map, option_to_list}}
+use Rattle.html_page_names.specs.{ReferenceRow.{Row, value_in}, ReferenceRows.{legacy_groups, other_groups}}
 
 -- the characters for the name in a table
 unfoldable pub value_in_groups : List (List Row) → (name : List ℕ) → Option (List ℕ)

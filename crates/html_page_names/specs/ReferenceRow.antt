@@ -1,6 +1,5 @@
 -- Rows of named character references, as a text lists them.
-use Rattle.std.specs.Prelude.{ℕ, Bool, ◌==◌, List, map, find, bytes_eq, Option, option_map}
-use Rattle.std.specs.List.{before_first, after_first, slice_split}
+use Rattle.std.specs.{List.{before_first, after_first, slice_split}, Prelude.{ℕ, Bool, ◌==◌, List, map, find, bytes_eq, Option, option_map}}
 use Rattle.std.specs.Str.Parse.{digits_value}
 use Rattle.html_names_core.specs.Names.{listed_names}
 

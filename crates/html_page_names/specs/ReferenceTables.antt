@@ -1,10 +1,8 @@
 -- Tables of named character references, as they are stored.
+use Rattle.std.specs.{Borrow.{Bor}, List.{list_all}}
 use Rattle.std.specs.Prelude.{ℕ, suc, Bool, true, false, ◌&&◌, ◌==◌, nat_le, List, [], ◌∷◌, take, drop, length, option_to_list}
-use Rattle.std.specs.Borrow.{Bor}
-use Rattle.std.specs.List.{list_all}
 use Rattle.html_names_core.specs.Names.{is_ascii}
-use Rattle.html_page_names.specs.ReferenceRow.{Row}
-use Rattle.html_page_names.specs.declared.reference_rows.Reference.{Reference}
+use Rattle.html_page_names.specs.{ReferenceRow.{Row}, declared.reference_rows.Reference.{Reference}}
 
 -- the rows of names that are joined in one text
 abbrev pub rows_view : (names : List ℕ) → List Reference → List Row

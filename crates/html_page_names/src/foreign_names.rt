@@ -2,8 +2,7 @@
 //! Standard 13.2.6.1 and 13.2.6.5).
 
 ghost use Rattle.std.specs.Prelude.{◌≡◌, bytes_eq, chars, map, IfOk, IsTrue};
-ghost use Rattle.html_names_core.specs.Names.{texts, are_ascii, rises};
-ghost use Rattle.html_names_core.specs.Starts.{are_starts};
+ghost use Rattle.html_names_core.specs.{Names.{texts, are_ascii, rises}, Starts.{are_starts}};
 ghost use Rattle.html_page_names.specs.Capitals.{IsWithCapitals, are_names};
 ghost use Rattle.html_page_names.specs.ForeignNames.{lowered, svg_names, svg_attrs, math_attrs, with_capitals, is_encoding, is_font_attr, is_html_encoding};
 

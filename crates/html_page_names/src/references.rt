@@ -2,8 +2,7 @@
 
 ghost use Rattle.std.specs.Prelude.{◌≡◌, chars, IsTrue};
 ghost use Rattle.html_page_names.specs.NamedReferences.{found_chars, legacy_reference, named_reference, value_in_groups};
-ghost use Rattle.html_page_names.specs.ReferenceRow.{value_in};
-ghost use Rattle.html_page_names.specs.ReferenceRows.{other_groups};
+ghost use Rattle.html_page_names.specs.{ReferenceRow.{value_in}, ReferenceRows.{other_groups}};
 ghost use Rattle.html_page_names.specs.ReferenceTables.{all_as_long, are_as_long, are_grouped, groups_view, rows_view};
 
 use crate::reference_rows::{

@@ -1,15 +1,9 @@
 -- Names in small letters, of names that are ASCII.
 use Rattle.std.proofs.Common.{◌≡◌, ℕ, ◌<◌, true, false, ◌||◌, List, [], ◌∷◌, refl, sym, ap, ◌∙◌, length, get_or, map, bytes_eq, chars}
-use Rattle.std.proofs.lemmas.Bool.{and_parts, and_from, ltb-true, lt-ltb}
-use Rattle.std.proofs.lemmas.List.{get_or-map, length-map}
-use Rattle.std.proofs.lemmas.List.Folds.{list_any_at}
+use Rattle.std.proofs.lemmas.{Bool.{and_parts, and_from, ltb-true, lt-ltb}, List.{get_or-map, length-map}, List.Folds.{list_any_at}}
 use Rattle.std.proofs.lemmas.Str.Ascii.{lowercase_ascii}
-use Rattle.std.specs.Borrow.{Bor}
-use Rattle.std.specs.Char.{to_ascii_lowercase}
-use Rattle.std.specs.List.{list_any}
-use Rattle.std.specs.Str.{IsUtf8}
-use Rattle.html_names_core.proofs.Ascending.{ascii_at}
-use Rattle.html_names_core.proofs.Lists.{bytes_eq-ascii, chars_ascii}
+use Rattle.std.specs.{Borrow.{Bor}, Char.{to_ascii_lowercase}, List.{list_any}, Str.{IsUtf8}}
+use Rattle.html_names_core.proofs.{Ascending.{ascii_at}, Lists.{bytes_eq-ascii, chars_ascii}}
 use Rattle.html_names_core.specs.Names.{are_ascii, is_ascii, stands_in, texts}
 use Rattle.html_page_names.specs.ForeignNames.{lowered}
 

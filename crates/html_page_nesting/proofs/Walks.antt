@@ -1,18 +1,13 @@
 -- The walk finds what the definition says.
 use Rattle.std.proofs.Common.{◌≡◌, ℕ, suc, ◌+◌, ◌≤◌, ◌<◌, List, [], ◌∷◌, ◌++◌, refl, ap, sym, ◌∙◌, add-one, true≢false}
+use Rattle.std.proofs.lemmas.{Bool.{le-ltb, lt-ltb}, List.{append-nil}, Result.{IfOk-weaker}}
 use Rattle.std.specs.Prelude.{if◌then◌else◌, IfOk, IsOk, OnOk, Result, Ok, Err, Some}
-use Rattle.std.proofs.lemmas.Bool.{le-ltb, lt-ltb}
-use Rattle.std.proofs.lemmas.List.{append-nil}
-use Rattle.std.proofs.lemmas.Result.{IfOk-weaker}
+use Rattle.html_dom_tree.{proofs.Taking.{both_taken, same_taken}, specs.Taking.{Takes}}
 use Rattle.html_dom_tree.specs.Tree.{Head, NodeView, tag_node, text_node, element_node, frame_node, NodesView, none, node, ElementView}
-use Rattle.html_dom_tree.specs.Views.{node_view, nodes_view}
-use Rattle.html_dom_tree.specs.declared.node.HtmlNode.{HtmlNode}
-use Rattle.html_dom_tree.proofs.Taking.{both_taken, same_taken}
-use Rattle.html_dom_tree.specs.Taking.{Takes}
+use Rattle.html_dom_tree.specs.{Views.{node_view, nodes_view}, declared.node.HtmlNode.{HtmlNode}}
 use Rattle.html_page_nesting.specs.Ancestors.{Ancestor, ancestor}
 use Rattle.html_page_nesting.specs.Misnested.{Finding, found, misnested_nodes, node_misnested, nodes_misnested}
-use Rattle.html_page_nesting.specs.NestingRules.{element_misnesting, is_too_deep, root_misnesting}
-use Rattle.html_page_nesting.specs.Surroundings.{surroundings_of}
+use Rattle.html_page_nesting.specs.{NestingRules.{element_misnesting, is_too_deep, root_misnesting}, Surroundings.{surroundings_of}}
 use Rattle.html_page_nesting.specs.Walks.{node_walk, nodes_walk, surroundings_in}
 use Rattle.html_page_nesting.specs.declared.misnesting.Misnesting.TheVariants as rule
 use Rattle.html_page_nesting.specs.declared.surroundings.Surroundings.{Surroundings}

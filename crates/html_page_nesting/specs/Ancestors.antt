@@ -1,19 +1,16 @@
 -- The ancestors of a node, innermost first, as a parser of HTML reads them: its stack of open
 -- elements (HTML Standard 13.2.4.2), and the rules by which their content is read (13.2.6, the tree
 -- construction dispatcher).
-use Rattle.std.specs.List.{list_any}
-use Rattle.std.specs.Prelude.{ℕ, Bool, true, false, not, ◌&&◌, ◌||◌, List, [], ◌∷◌, codes, if◌then◌else◌}
+use Rattle.std.specs.{List.{list_any}, Prelude.{ℕ, Bool, true, false, not, ◌&&◌, ◌||◌, List, [], ◌∷◌, codes, if◌then◌else◌}}
 use Rattle.html_names_core.specs.Names.{listed_names, stands_in}
 use Rattle.html_dom_tree.specs.Tree.{TextPair, Head}
-use Rattle.html_page_names.specs.ForeignNames.{lowered, is_encoding, is_html_encoding}
-use Rattle.html_page_names.specs.PageNames.{of}
+use Rattle.html_page_names.specs.{ForeignNames.{lowered, is_encoding, is_html_encoding}, PageNames.{of}}
 use Rattle.html_page_names.specs.declared.kind.Kind.TheVariants as kind
 use Rattle.html_page_nesting.specs.declared.reading.Place.{Place}
 use Rattle.html_page_nesting.specs.declared.reading.Place.TheVariants as place
 use Rattle.html_page_nesting.specs.declared.reading.Reading.{Reading}
 use Rattle.html_page_nesting.specs.declared.reading.Reading.TheVariants as reading
-use Rattle.html_page_nesting.specs.declared.reading.Space.{Space}
-use Rattle.html_page_nesting.specs.declared.reading.Space.TheVariants.{Html, Svg, MathMl}
+use Rattle.html_page_nesting.specs.declared.reading.{Space.{Space}, Space.TheVariants.{Html, Svg, MathMl}}
 
 -- an element around a node, and its namespace
 pub record Ancestor : Type 0 where

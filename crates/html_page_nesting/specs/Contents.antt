@@ -1,13 +1,11 @@
 -- Content of an element that is not read as it is written.
 use Rattle.std.specs.List.{fold}
 use Rattle.std.specs.Prelude.{ℕ, Bool, true, false, not, ◌&&◌, ◌||◌, ◌==◌, List, [], ◌∷◌, codes, if◌then◌else◌, Option, Some, None}
-use Rattle.html_names_core.specs.Kinds.{is_foreign_self_closing, is_void}
-use Rattle.html_names_core.specs.Names.{listed_names, stands_in}
+use Rattle.html_names_core.specs.{Kinds.{is_foreign_self_closing, is_void}, Names.{listed_names, stands_in}}
 use Rattle.html_dom_tree.specs.Tree.{Head, NodeView, tag_node, text_node, element_node, frame_node, NodesView, none, node}
 use Rattle.html_page_names.specs.PageNames.{of}
 use Rattle.html_page_names.specs.declared.kind.Kind.TheVariants as kind
-use Rattle.html_page_nesting.specs.WrittenTexts.{is_plain_text}
-use Rattle.html_page_nesting.specs.declared.content.ScriptState.{ScriptState}
+use Rattle.html_page_nesting.specs.{WrittenTexts.{is_plain_text}, declared.content.ScriptState.{ScriptState}}
 use Rattle.html_page_nesting.specs.declared.content.ScriptState.TheVariants as state
 use Rattle.html_page_nesting.specs.declared.misnesting.Misnesting.{Misnesting}
 use Rattle.html_page_nesting.specs.declared.misnesting.Misnesting.TheVariants as why

@@ -4,8 +4,7 @@ use Rattle.std.specs.Prelude.{ℕ, suc, List, [], ◌∷◌, ◌++◌, if◌then
 use Rattle.html_dom_tree.specs.Tree.{NodeView, tag_node, text_node, element_node, frame_node, NodesView, none, node, ElementView}
 use Rattle.html_page_nesting.specs.Ancestors.{Ancestor, ancestor}
 use Rattle.html_page_nesting.specs.NestingRules.{element_misnesting, frame_misnesting, is_too_deep, root_misnesting, text_misnesting}
-use Rattle.html_page_nesting.specs.Surroundings.{surroundings_of}
-use Rattle.html_page_nesting.specs.declared.misnesting.Misnesting.{Misnesting}
+use Rattle.html_page_nesting.specs.{Surroundings.{surroundings_of}, declared.misnesting.Misnesting.{Misnesting}}
 use Rattle.html_page_nesting.specs.declared.misnesting.Misnesting.TheVariants as rule
 
 -- a finding: the index of each child on the way from the root to the node; its span; and the rule

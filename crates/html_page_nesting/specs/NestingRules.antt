@@ -4,24 +4,17 @@
 -- than be added.
 use Rattle.std.specs.List.{list_any}
 use Rattle.std.specs.Prelude.{ℕ, Bool, true, false, not, ◌&&◌, ◌||◌, nat_lt, List, codes, if◌then◌else◌, Option, Some, None}
-use Rattle.html_names_core.specs.Kinds.{is_void}
-use Rattle.html_names_core.specs.Names.{listed_names, stands_in}
-use Rattle.html_dom_tree.specs.Attributes.{or_else}
-use Rattle.html_dom_tree.specs.Tree.{Head, NodesView, ElementView}
-use Rattle.html_page_names.specs.ForeignNames.{is_font_attr}
-use Rattle.html_page_names.specs.PageNames.{of}
+use Rattle.html_names_core.specs.{Kinds.{is_void}, Names.{listed_names, stands_in}}
+use Rattle.html_dom_tree.specs.{Attributes.{or_else}, Tree.{Head, NodesView, ElementView}}
+use Rattle.html_page_names.specs.{ForeignNames.{is_font_attr}, PageNames.{of}}
 use Rattle.html_page_names.specs.declared.kind.Kind.TheVariants as kind
-use Rattle.html_page_nesting.specs.Ancestors.{is_read_as_html, space_of}
-use Rattle.html_page_nesting.specs.Contents.{are_plain, begin_with_feed, content_misnesting}
-use Rattle.html_page_nesting.specs.PageRoots.{is_page}
-use Rattle.html_page_nesting.specs.WrittenTags.{tag_misnesting}
-use Rattle.html_page_nesting.specs.WrittenTexts.{has_return, is_white}
+use Rattle.html_page_nesting.specs.{Ancestors.{is_read_as_html, space_of}, Contents.{are_plain, begin_with_feed, content_misnesting}}
+use Rattle.html_page_nesting.specs.{PageRoots.{is_page}, WrittenTags.{tag_misnesting}, WrittenTexts.{has_return, is_white}}
 use Rattle.html_page_nesting.specs.declared.misnesting.Misnesting.{Misnesting}
 use Rattle.html_page_nesting.specs.declared.misnesting.Misnesting.TheVariants as why
 use Rattle.html_page_nesting.specs.declared.reading.Place.{Place}
 use Rattle.html_page_nesting.specs.declared.reading.Place.TheVariants as place
-use Rattle.html_page_nesting.specs.declared.surroundings.Open.{Open}
-use Rattle.html_page_nesting.specs.declared.surroundings.Surroundings.{Surroundings}
+use Rattle.html_page_nesting.specs.declared.surroundings.{Open.{Open}, Surroundings.{Surroundings}}
 
 -- whether an element is more than 511 elements below `body`: browsers put it beside its parent
 abbrev pub is_too_deep : Surroundings → Bool

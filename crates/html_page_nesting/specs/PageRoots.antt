@@ -4,8 +4,7 @@ use Rattle.std.specs.Prelude.{ℕ, Bool, true, false, ◌&&◌, List, if◌then�
 use Rattle.html_dom_tree.specs.Tree.{NodeView, tag_node, text_node, element_node, frame_node, NodesView, none, node, ElementView}
 use Rattle.html_page_names.specs.PageNames.{of}
 use Rattle.html_page_names.specs.declared.kind.Kind.TheVariants as kind
-use Rattle.html_page_nesting.specs.WrittenTexts.{is_empty, is_white}
-use Rattle.html_page_nesting.specs.declared.page.Stage.{Stage}
+use Rattle.html_page_nesting.specs.{WrittenTexts.{is_empty, is_white}, declared.page.Stage.{Stage}}
 use Rattle.html_page_nesting.specs.declared.page.Stage.TheVariants as stage
 
 -- whether a node is not written

@@ -3,9 +3,7 @@ use Rattle.std.specs.Prelude.{suc, Bool, not, ◌&&◌, ◌||◌, List, length}
 use Rattle.html_page_names.specs.PageNames.{of}
 use Rattle.html_page_names.specs.declared.kind.Kind.TheVariants as kind
 use Rattle.html_page_nesting.specs.Ancestors.{Ancestor, bounds_button_scope, bounds_item, bounds_scope, hides_formatting, is_in, is_of, is_template, place_inside, place_of, reaches, reading_in, reading_of}
-use Rattle.html_page_nesting.specs.declared.surroundings.Open.{Open}
-use Rattle.html_page_nesting.specs.declared.surroundings.Parent.{Parent}
-use Rattle.html_page_nesting.specs.declared.surroundings.Surroundings.{Surroundings}
+use Rattle.html_page_nesting.specs.declared.surroundings.{Open.{Open}, Parent.{Parent}, Surroundings.{Surroundings}}
 
 -- the kinds of the parent
 abbrev pub parent_of : List Ancestor → Parent

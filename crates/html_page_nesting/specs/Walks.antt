@@ -1,8 +1,7 @@
 -- The same findings by a walk that keeps the surroundings of a node instead of its ancestors.
 use Rattle.std.specs.Prelude.{ℕ, suc, List, [], ◌∷◌, ◌++◌, if◌then◌else◌, Some}
 use Rattle.html_dom_tree.specs.Tree.{Head, NodeView, tag_node, text_node, element_node, frame_node, NodesView, none, node}
-use Rattle.html_page_nesting.specs.Ancestors.{space_of}
-use Rattle.html_page_nesting.specs.Misnested.{Finding, found}
+use Rattle.html_page_nesting.specs.{Ancestors.{space_of}, Misnested.{Finding, found}}
 use Rattle.html_page_nesting.specs.NestingRules.{element_misnesting, frame_misnesting, is_too_deep, text_misnesting}
 use Rattle.html_page_nesting.specs.Surroundings.{surroundings_with}
 use Rattle.html_page_nesting.specs.declared.misnesting.Misnesting.TheVariants as rule

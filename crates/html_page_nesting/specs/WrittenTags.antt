@@ -2,16 +2,12 @@
 -- 13.2.5.6 to 13.2.5.8, 13.2.5.33; 13.2.6.1, adjusted names).
 use Rattle.std.specs.List.{list_all, list_any}
 use Rattle.std.specs.Prelude.{ℕ, Bool, false, not, ◌&&◌, ◌||◌, List, [], ◌∷◌, bytes_eq, if◌then◌else◌, Option, Some, None}
-use Rattle.html_names_core.specs.Characters.{is_capital, is_lower}
-use Rattle.html_names_core.specs.Names.{stands_in}
-use Rattle.html_dom_tree.specs.Attributes.{names_differ}
-use Rattle.html_dom_tree.specs.Tree.{TextPair, Head}
+use Rattle.html_names_core.specs.{Characters.{is_capital, is_lower}, Names.{stands_in}}
+use Rattle.html_dom_tree.specs.{Attributes.{names_differ}, Tree.{TextPair, Head}}
 use Rattle.html_page_names.specs.ForeignNames.{lowered, math_attrs, svg_attrs, svg_names}
-use Rattle.html_page_nesting.specs.WrittenTexts.{has_return}
-use Rattle.html_page_nesting.specs.declared.misnesting.Misnesting.{Misnesting}
+use Rattle.html_page_nesting.specs.{WrittenTexts.{has_return}, declared.misnesting.Misnesting.{Misnesting}}
 use Rattle.html_page_nesting.specs.declared.misnesting.Misnesting.TheVariants as why
-use Rattle.html_page_nesting.specs.declared.reading.Space.{Space}
-use Rattle.html_page_nesting.specs.declared.reading.Space.TheVariants.{Html, Svg, MathMl}
+use Rattle.html_page_nesting.specs.declared.reading.{Space.{Space}, Space.TheVariants.{Html, Svg, MathMl}}
 
 -- the names that have capitals in the tree
 abbrev pub capital_tags : Space → List (List ℕ)

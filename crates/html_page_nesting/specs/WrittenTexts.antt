@@ -1,6 +1,5 @@
 -- Texts and their characters.
-use Rattle.std.specs.List.{list_all, list_any}
-use Rattle.std.specs.Prelude.{ℕ, Bool, true, false, not, ◌&&◌, ◌||◌, ◌==◌, List, [], ◌∷◌}
+use Rattle.std.specs.{List.{list_all, list_any}, Prelude.{ℕ, Bool, true, false, not, ◌&&◌, ◌||◌, ◌==◌, List, [], ◌∷◌}}
 
 abbrev pub is_empty : List ℕ → Bool
 is_empty [] = true

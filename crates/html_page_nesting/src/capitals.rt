@@ -1,10 +1,7 @@
 //! Names that have capitals in SVG and MathML (HTML Standard 13.2.6.1, 13.2.6.5).
 
-ghost use Rattle.std.specs.List.{list_any};
-ghost use Rattle.std.specs.Prelude.{◌≡◌, [], bytes_eq, chars, map, IsTrue};
-ghost use Rattle.html_names_core.specs.Characters.{is_capital};
-ghost use Rattle.html_names_core.specs.Names.{are_ascii, texts};
-ghost use Rattle.html_names_core.specs.Starts.{are_starts};
+ghost use Rattle.std.specs.{List.{list_any}, Prelude.{◌≡◌, [], bytes_eq, chars, map, IsTrue}};
+ghost use Rattle.html_names_core.specs.{Characters.{is_capital}, Names.{are_ascii, texts}, Starts.{are_starts}};
 ghost use Rattle.html_page_names.specs.ForeignNames.{lowered};
 ghost use Rattle.html_page_nesting.specs.WrittenTags.{capital_attrs, capital_tags, keeps_case};
 

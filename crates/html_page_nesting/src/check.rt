@@ -2,8 +2,7 @@
 
 ghost use Rattle.std.specs.Prelude.{◌≡◌, [], IfOk};
 ghost use Rattle.html_dom_tree.specs.Views.{element_view};
-ghost use Rattle.html_page_nesting.specs.MisnestedViews.{findings_view};
-ghost use Rattle.html_page_nesting.specs.Misnested.{misnested_nodes};
+ghost use Rattle.html_page_nesting.specs.{Misnested.{misnested_nodes}, MisnestedViews.{findings_view}};
 
 use crate::consumed::walk_tree_of;
 use crate::finding::Misnested;

@@ -1,11 +1,8 @@
 //! The walk over a tree that frees its nodes on the way.
 
 ghost use Rattle.std.specs.Prelude.{◌≡◌, ◌-◌, [], take, vec_len, IfOk, OnOk};
-ghost use Rattle.html_dom_tree.specs.Taking.{Takes};
-ghost use Rattle.html_dom_tree.specs.Tree.{element_node};
-ghost use Rattle.html_dom_tree.specs.Views.{element_view, node_view, nodes_view};
-ghost use Rattle.html_page_nesting.specs.Misnested.{misnested_nodes};
-ghost use Rattle.html_page_nesting.specs.Walks.{node_walk, nodes_walk};
+ghost use Rattle.html_dom_tree.specs.{Taking.{Takes}, Tree.{element_node}, Views.{element_view, node_view, nodes_view}};
+ghost use Rattle.html_page_nesting.specs.{Misnested.{misnested_nodes}, Walks.{node_walk, nodes_walk}};
 
 use crate::misnested_sink::MisnestedSink;
 use crate::misnesting::Misnesting;

@@ -1,7 +1,6 @@
 //! Content of an element that is not read as it is written.
 
-ghost use Rattle.std.specs.List.{fold};
-ghost use Rattle.std.specs.Prelude.{◌≡◌, chars};
+ghost use Rattle.std.specs.{List.{fold}, Prelude.{◌≡◌, chars}};
 ghost use Rattle.html_dom_tree.specs.Views.{element_view, node_view, nodes_view};
 ghost use Rattle.html_page_nesting.specs.Contents as content;
 

@@ -20,8 +20,7 @@ pub(crate) struct KnownElement<'a> {
 impl<'a> KnownElement<'a> {
     ghost use Rattle.html_page_names.specs.PageNames.{of};
     ghost use Rattle.html_page_nesting.specs.Ancestors.{begun_space, is_read_as_html, is_search, space_of};
-    ghost use Rattle.html_page_nesting.specs.Contents.{has_unread_end, is_listing, is_raw_when_read};
-    ghost use Rattle.html_page_nesting.specs.NestingRules.{is_selected_content};
+    ghost use Rattle.html_page_nesting.specs.{Contents.{has_unread_end, is_listing, is_raw_when_read}, NestingRules.{is_selected_content}};
 
     pub(crate) fn new(element: &'a HtmlElement) -> KnownElement<'a>
         ensures { result.element ≡ element.entry }

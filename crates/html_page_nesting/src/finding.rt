@@ -1,8 +1,7 @@
 //! A node that makes a browser build another tree.
 
 ghost use Rattle.std.specs.Prelude.{◌++◌, List};
-ghost use Rattle.html_page_nesting.specs.Misnested.{Finding};
-ghost use Rattle.html_page_nesting.specs.MisnestedViews.{findings_view};
+ghost use Rattle.html_page_nesting.specs.{Misnested.{Finding}, MisnestedViews.{findings_view}};
 
 use crate::misnested_sink::MisnestedSink;
 use crate::misnesting::Misnesting;

@@ -1,12 +1,10 @@
 //! The surroundings of an element's children.
 
-ghost use Rattle.std.specs.List.{list_any};
-ghost use Rattle.std.specs.Prelude.{◌≡◌, ◌<◌, ◌≤◌};
+ghost use Rattle.std.specs.{List.{list_any}, Prelude.{◌≡◌, ◌<◌, ◌≤◌}};
 ghost use Rattle.html_dom_tree.specs.Views.{attrs_view, element_view};
 ghost use Rattle.html_page_names.specs.PageNames.{of};
 ghost use Rattle.html_page_nesting.specs.Ancestors as ancestors;
-ghost use Rattle.html_page_nesting.specs.Surroundings.{open_with, parent_with, still};
-ghost use Rattle.html_page_nesting.specs.Walks.{surroundings_in};
+ghost use Rattle.html_page_nesting.specs.{Surroundings.{open_with, parent_with, still}, Walks.{surroundings_in}};
 
 use crate::element::KnownElement;
 use crate::reading::{Place, Reading, Space};

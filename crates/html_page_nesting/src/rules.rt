@@ -1,7 +1,6 @@
 //! The rules for each kind of node.
 
-ghost use Rattle.std.specs.List.{list_any};
-ghost use Rattle.std.specs.Prelude.{◌≡◌, chars};
+ghost use Rattle.std.specs.{List.{list_any}, Prelude.{◌≡◌, chars}};
 ghost use Rattle.html_dom_tree.specs.Views.{attrs_view, element_view};
 ghost use Rattle.html_page_names.specs.ForeignNames.{is_font_attr};
 ghost use Rattle.html_page_nesting.specs.NestingRules as rules;

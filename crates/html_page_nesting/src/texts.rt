@@ -1,7 +1,6 @@
 //! Texts and their characters.
 
-ghost use Rattle.std.specs.List.{list_all};
-ghost use Rattle.std.specs.Prelude.{◌≡◌, chars};
+ghost use Rattle.std.specs.{List.{list_all}, Prelude.{◌≡◌, chars}};
 ghost use Rattle.html_page_nesting.specs.WrittenTexts as texts;
 
 pub(crate) fn is_empty(text: &str) -> bool

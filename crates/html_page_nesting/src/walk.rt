@@ -1,13 +1,9 @@
 //! The walk over a tree that finds its misnested nodes.
 
 ghost use Rattle.std.specs.Prelude.{◌≡◌, ◌≤◌, ◌++◌, [], ◌∷◌, ℕ, List, IfOk, IsOk, OnOk, Some};
-ghost use Rattle.html_dom_tree.specs.Taking.{Takes};
-ghost use Rattle.html_dom_tree.specs.Tree.{element_node};
-ghost use Rattle.html_dom_tree.specs.Views.{element_view, node_view, nodes_view};
-ghost use Rattle.html_page_nesting.specs.Misnested.{found, misnested_nodes};
-ghost use Rattle.html_page_nesting.specs.NestingRules.{element_misnesting, root_misnesting};
-ghost use Rattle.html_page_nesting.specs.Surroundings.{surroundings_of};
-ghost use Rattle.html_page_nesting.specs.Walks.{node_walk, nodes_walk, surroundings_in};
+ghost use Rattle.html_dom_tree.specs.{Taking.{Takes}, Tree.{element_node}, Views.{element_view, node_view, nodes_view}};
+ghost use Rattle.html_page_nesting.specs.{Misnested.{found, misnested_nodes}, NestingRules.{element_misnesting, root_misnesting}};
+ghost use Rattle.html_page_nesting.specs.{Surroundings.{surroundings_of}, Walks.{node_walk, nodes_walk, surroundings_in}};
 
 use crate::element::KnownElement;
 use crate::misnested_sink::MisnestedSink;

@@ -1,11 +1,9 @@
 //! Names and values of a start tag.
 
-ghost use Rattle.std.specs.List.{list_any};
-ghost use Rattle.std.specs.Prelude.{◌≡◌, chars, map, not, ◌&&◌};
-ghost use Rattle.html_dom_tree.specs.Attributes.{has_name, names_differ};
-ghost use Rattle.html_dom_tree.specs.Views.{attrs_view, element_view, pair_view};
-ghost use Rattle.html_page_nesting.specs.WrittenTexts.{has_return};
+ghost use Rattle.std.specs.{List.{list_any}, Prelude.{◌≡◌, chars, map, not, ◌&&◌}};
+ghost use Rattle.html_dom_tree.specs.{Attributes.{has_name, names_differ}, Views.{attrs_view, element_view, pair_view}};
 ghost use Rattle.html_page_nesting.specs.WrittenTags.{attrs_misnesting, begins_with_letter, capital_attrs, keep_case, tag_misnesting};
+ghost use Rattle.html_page_nesting.specs.WrittenTexts.{has_return};
 
 use crate::capitals::{attr_keeps_case, tag_keeps_case};
 use crate::misnesting::Misnesting;

@@ -1,16 +1,10 @@
 -- What it takes that the front of a text is read at once.
 use Rattle.std.proofs.Common.{◌≡◌, ℕ, ◌+◌, ◌<◌, true, List, [], ◌∷◌, ◌++◌, chars, eqb, false, length, refl, sym, ap, subst, ◌∙◌, arith, append_assoc, length-append}
-use Rattle.std.proofs.lemmas.Bool.{and_parts, false≢true, ltb-true}
-use Rattle.std.proofs.lemmas.Bool.Decides.{nat_tests}
-use Rattle.std.proofs.lemmas.Str.{IsUtf8-past_char, encode_ascii}
-use Rattle.std.specs.Str.{IsUtf8}
-use Rattle.std.specs.Prelude.{nat_lt}
+use Rattle.std.proofs.lemmas.{Bool.{and_parts, false≢true, ltb-true}, Str.{IsUtf8-past_char, encode_ascii}, Bool.Decides.{nat_tests}}
+use Rattle.std.specs.{Prelude.{nat_lt}, Str.{IsUtf8}}
 use Rattle.html_names_core.specs.Names.{is_ascii}
 use Rattle.html_text.specs.Fronts.{BeginsWith}
-use Rattle.html_page_read.specs.Fronts.{begins_small}
-use Rattle.html_page_read.specs.PageReading.{run}
-use Rattle.html_page_read.specs.PageStretches.{ReadsFront}
-use Rattle.html_page_read.specs.PageTokens.{PageReader}
+use Rattle.html_page_read.specs.{Fronts.{begins_small}, PageReading.{run}, PageStretches.{ReadsFront}, PageTokens.{PageReader}}
 
 pub small_some : (cs : List ℕ) → begins_small cs ≡ true → eqb (length cs) 0 ≡ false
 small_some [] h = absurd (false≢true h)

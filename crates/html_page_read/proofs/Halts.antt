@@ -1,8 +1,6 @@
 -- Reading that stops does so whatever would follow.
 use Rattle.std.proofs.Common.{ap}
-use Rattle.html_page_stack.specs.Endings.{IsHalt}
-use Rattle.html_page_stack.specs.Pages.{Reads, ◌next◌}
-use Rattle.html_page_stack.specs.declared.fault.Halt.{Halt}
+use Rattle.html_page_stack.specs.{Endings.{IsHalt}, Pages.{Reads, ◌next◌}, declared.fault.Halt.{Halt}}
 use Rattle.html_page_stack.specs.declared.fault.Halt.TheVariants.{OutOfMemory, Refused}
 
 pub halt_next : {A B : Type 0} (x : Reads A) (f : A → Reads B) (e : Halt) → IsHalt x e →

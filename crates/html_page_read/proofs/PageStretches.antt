@@ -1,25 +1,18 @@
 -- Stretches of common characters are read as these characters one by one.
 use Rattle.std.proofs.Common.{◌≡◌, ℕ, ◌+◌, ◌-◌, ◌<◌, Bool, true, false, not, ◌&&◌, ◌||◌, List, [], ◌∷◌, ◌++◌, chars, length, eqb, ne_eqb, refl, sym, ap, ◌∙◌, arith, append_assoc, append-nil, Ok}
-use Rattle.std.proofs.lemmas.Bool.{and_parts, false≢true}
+use Rattle.std.proofs.lemmas.{Bool.{and_parts, false≢true}, Str.{len_utf8_ascii}}
 use Rattle.html_names_core.specs.Characters.{all}
-use Rattle.std.proofs.lemmas.Str.{len_utf8_ascii}
-use Rattle.html_text.specs.Fronts.{CutsAll, is_common}
-use Rattle.html_text.proofs.Fronts.{common_small}
+use Rattle.html_text.{proofs.Fronts.{common_small}, specs.Fronts.{CutsAll, is_common}}
+use Rattle.html_page_read.specs.{PageReaderViews.{state_at}, PageReading.{run}}
 use Rattle.html_page_read.specs.PageStretches.{behind_char, behind_chars, behind_stretch, in_data, in_quotes, ReadsFront, TakesCommon}
-use Rattle.html_page_read.specs.PageReading.{run}
 use Rattle.html_page_read.specs.PageTokens.{TagDraft, TokenState, Value, PageReader, Reading, goes, moved, step}
-use Rattle.html_page_read.specs.PageReaderViews.{state_at}
-use Rattle.html_page_read.specs.declared.reader.Reader.{Reader}
-use Rattle.html_page_read.specs.declared.reader.State.{State}
+use Rattle.html_page_read.specs.declared.reader.{Reader.{Reader}, State.{State}}
 use Rattle.html_page_read.specs.declared.reader.State.TheVariants as state
 use Rattle.html_page_read.specs.declared.reading.Reading as declared
-use Rattle.html_page_stack.specs.Pages.{Page, Char, ◌next◌}
-use Rattle.html_page_stack.specs.OpenElements.{mode}
-use Rattle.html_page_tree.specs.PageTrees.{is_foreign_token, is_unseen}
-use Rattle.html_page_stack.specs.declared.modes.Mode.{Mode}
+use Rattle.html_page_stack.specs.{OpenElements.{mode}, Pages.{Page, Char, ◌next◌}, declared.modes.Mode.{Mode}}
 use Rattle.html_page_stack.specs.declared.modes.Mode.TheVariants.{InText}
-use Rattle.html_page_tree.specs.TakenTexts.{mode_takes_text, takes_text}
 use Rattle.html_page_tree.proofs.TakenTexts.{text_taken}
+use Rattle.html_page_tree.specs.{PageTrees.{is_foreign_token, is_unseen}, TakenTexts.{mode_takes_text, takes_text}}
 use Rattle.html_page_read.proofs.Fronts.{front_read}
 
 -- a character of a kind is none that is not of it

@@ -1,13 +1,9 @@
 -- Places in a page, one character after the other.
 use Rattle.std.proofs.Common.{◌≡◌, ℕ, ◌+◌, ◌<◌, ◌≤◌, Bool, not, ◌&&◌, ◌||◌, eqb, List, [], ◌∷◌, ◌++◌, chars, refl, sym, ap, ◌∙◌, arith}
-use Rattle.std.specs.Prelude.{if◌then◌else◌}
-use Rattle.std.specs.Char.{len_utf8}
-use Rattle.std.proofs.lemmas.Bool.{le-leb, lt-leb}
+use Rattle.std.{proofs.lemmas.Bool.{le-leb, lt-leb}, specs.Char.{len_utf8}, specs.Prelude.{if◌then◌else◌}}
 use lib.Utf8.{encode}
-use Rattle.html_page_read.specs.PagePlaces.{next_place, place_from}
-use Rattle.html_page_read.specs.ReachedPlaces.{IsReached}
-use Rattle.html_text.specs.declared.place.Place.{Place}
-use Rattle.html_text.proofs.Places.{first_long}
+use Rattle.html_page_read.specs.{PagePlaces.{next_place, place_from}, ReachedPlaces.{IsReached}}
+use Rattle.html_text.{proofs.Places.{first_long}, specs.declared.place.Place.{Place}}
 
 line_at_most : (t : Bool) (n : ℕ) → (if t then n + 1 else n) ≤ n + 1
 line_at_most t n = grind arith

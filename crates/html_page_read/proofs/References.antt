@@ -1,15 +1,10 @@
 -- What stands since `&` is ASCII, and numbers above those of all characters are one as another.
 use Rattle.std.proofs.Common.{◌≡◌, ℕ, zero, suc, ◌+◌, ◌-◌, ◌*◌, ◌<◌, ◌≤◌, true, inl, inr, List, [], ◌∷◌, Option, Some, None, chars, drop, length, min, take, refl, sym, ap, ◌∙◌, arith}
-use Rattle.std.specs.Char.{digit_value}
-use Rattle.std.specs.Str.Parse.{digits_value, digits_value_after}
+use Rattle.std.specs.{Char.{digit_value}, Str.Parse.{digits_value, digits_value_after}}
 use native.Mathlib.Nat.{mul-le-mul_left, mul-one, min_comm, min-eq_left, min-le_left, le_refl}
-use Rattle.std.proofs.lemmas.Bool.{cases_lt}
+use Rattle.std.proofs.lemmas.{Bool.{cases_lt}, List.{take_all, drop_all}, Str.{IsAscii-take, IsAscii-drop, chars-IsAscii}}
 use Rattle.std.proofs.lemmas.Bool.Decides.{nat_tests}
-use Rattle.std.proofs.lemmas.List.{take_all, drop_all}
-use Rattle.std.proofs.lemmas.Str.{IsAscii-take, IsAscii-drop, chars-IsAscii}
-use Rattle.html_names_core.proofs.Basics.{is_ascii_is}
-use Rattle.html_names_core.proofs.Lists.{chars_ascii}
-use Rattle.html_names_core.specs.Names.{is_ascii}
+use Rattle.html_names_core.{proofs.Basics.{is_ascii_is}, proofs.Lists.{chars_ascii}, specs.Names.{is_ascii}}
 use Rattle.html_page_names.specs.NamedReferences.{legacy_reference}
 use Rattle.html_page_read.specs.PageReferences.{continues, continues_number, numbered, numbered_char, number_error, resolved_number, found_before, longest_legacy}
 

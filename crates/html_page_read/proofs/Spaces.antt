@@ -1,7 +1,6 @@
 -- The pieces of a document type that is spaced.
 use Rattle.std.proofs.Common.{◌≡◌, ℕ, Bool, true, false, List, [], ◌∷◌, ◌++◌, ap}
-use Rattle.std.specs.Char.{to_ascii_lowercase}
-use Rattle.std.specs.Prelude.{if◌then◌else◌}
+use Rattle.std.specs.{Char.{to_ascii_lowercase}, Prelude.{if◌then◌else◌}}
 use Rattle.html_page_read.specs.DocumentTypes.{spaced}
 use Rattle.html_page_tree.specs.PageBodies.{is_space}
 

@@ -1,29 +1,18 @@
 -- Names and end tags that are read at once are read as their characters one by one.
 use Rattle.std.proofs.Common.{◌≡◌, ℕ, ◌+◌, ◌-◌, Bool, true, false, List, [], ◌∷◌, ◌++◌, chars, length, eqb, refl, sym, ap, ◌∙◌, arith, append_assoc, length-append, Ok, Err, Some}
-use Rattle.std.specs.Char.{to_ascii_lowercase}
-use Rattle.std.specs.List.{list_all}
-use Rattle.std.specs.Result.{is_ok}
-use Rattle.std.proofs.lemmas.Bool.Decides.{nat_tests}
-use Rattle.std.proofs.lemmas.Bool.{and_parts, false≢true}
-use Rattle.std.proofs.lemmas.Str.{chars-IsAscii}
+use Rattle.std.proofs.lemmas.{Bool.{and_parts, false≢true}, Str.{chars-IsAscii}, Bool.Decides.{nat_tests}}
+use Rattle.std.specs.{Char.{to_ascii_lowercase}, List.{list_all}, Result.{is_ok}}
 use Rattle.html_names_core.specs.Characters.{all, is_lower, is_tag_char}
-use Rattle.html_text.specs.Fronts.{BeginsWith, CutsAll, is_name_char}
-use Rattle.html_text.proofs.Fronts.{name_ascii, name_small}
-use Rattle.html_page_read.specs.Fronts.{begins_small}
-use Rattle.html_page_read.specs.PageReading.{run}
-use Rattle.html_page_read.specs.PageReferences.{is_letter}
+use Rattle.html_text.{proofs.Fronts.{name_ascii, name_small}, specs.Fronts.{BeginsWith, CutsAll, is_name_char}}
+use Rattle.html_page_read.proofs.{Fronts.{begins_on, front_read}, PageStretches.{chars_form, chars_place, grow_run, other, plain_step}}
+use Rattle.html_page_read.proofs.TagNames.{name_from}
+use Rattle.html_page_read.specs.{Fronts.{begins_small}, PageReading.{run}, PageReferences.{is_letter}}
 use Rattle.html_page_read.specs.PageStretches.{behind_chars, in_data, in_quotes, ReadsFront}
 use Rattle.html_page_read.specs.PageTokens.{TagDraft, TokenState, PageReader, Reading, TagName, BeforeAttr, AttrName, Data, goes, is_name, moved, step, past_char}
 use Rattle.html_page_read.specs.TagFronts.{EndsOwn, behind_own_end, in_name, tag_open}
-use Rattle.html_page_read.proofs.Fronts.{begins_on, front_read}
-use Rattle.html_page_read.proofs.PageStretches.{chars_form, chars_place, grow_run, other, plain_step}
-use Rattle.html_page_read.proofs.TagNames.{name_from}
-use Rattle.html_page_stack.specs.OpenElements.{current_name}
-use Rattle.html_page_stack.specs.Pages.{Page, Reads, End, ◌next◌, closed}
-use Rattle.html_page_tree.specs.OwnEnds.{takes_own_end}
-use Rattle.html_page_tree.specs.PageBodies.{is_space}
-use Rattle.html_page_tree.specs.PageTrees.{token_read}
+use Rattle.html_page_stack.specs.{OpenElements.{current_name}, Pages.{Page, Reads, End, ◌next◌, closed}}
 use Rattle.html_page_tree.proofs.OwnEnds.{own_end_taken}
+use Rattle.html_page_tree.specs.{OwnEnds.{takes_own_end}, PageBodies.{is_space}, PageTrees.{token_read}}
 
 lowered : (c : ℕ) → is_name_char c ≡ true → to_ascii_lowercase c ≡ c
 lowered c h = grind (arith, nat_tests)

@@ -1,12 +1,9 @@
 -- Names of tags, by their bytes and by their characters.
 use Rattle.std.proofs.Common.{◌≡◌, ℕ, Bool, true, false, not, List, [], ◌∷◌, chars, eqb, length, sym, ap, subst, arith}
-use Rattle.std.specs.List.{list_all}
-use Rattle.std.specs.Str.{IsUtf8}
-use Rattle.std.proofs.lemmas.Bool.{and_from, and_parts, not-true}
-use Rattle.std.proofs.lemmas.Bool.Decides.{nat_tests}
+use Rattle.std.proofs.lemmas.{Bool.{and_from, and_parts, not-true}, Bool.Decides.{nat_tests}}
+use Rattle.std.specs.{List.{list_all}, Str.{IsUtf8}}
 use Rattle.html_names_core.specs.Characters.{IsOf, is_tag_char}
-use Rattle.html_text.proofs.Fronts.{all_of}
-use Rattle.html_text.proofs.TagNames.{name_is, name_listed}
+use Rattle.html_text.proofs.{Fronts.{all_of}, TagNames.{name_is, name_listed}}
 use Rattle.html_page_read.specs.PageTokens.{is_name}
 
 of_chars : (p : ℕ → Bool) (cs : List ℕ) → eqb (length cs) 0 ≡ false → list_all p cs ≡ true →

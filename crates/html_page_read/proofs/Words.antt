@@ -1,19 +1,11 @@
 -- Texts and words of ASCII, by bytes and by characters.
 use Rattle.std.proofs.Common.{◌≡◌, ℕ, zero, suc, ◌≤◌, true, List, [], ◌∷◌, ◌++◌, bytes_eq, chars, drop, eqb, length, map, take, refl, sym, ap, ◌∙◌, subst, arith, length-append}
-use Rattle.std.specs.Char.{to_ascii_lowercase}
-use Rattle.std.specs.List.{starts_with}
-use Rattle.std.specs.Str.{IsUtf8, IsAscii}
-use Rattle.std.proofs.lemmas.Bool.Decides.{Decides-eqb, nat_tests}
-use Rattle.std.proofs.lemmas.List.{length-map, take-append-drop, take_at}
-use Rattle.std.proofs.lemmas.Slice.Eq.{starts_is}
-use Rattle.std.proofs.lemmas.Str.{IsAscii-take, IsUtf8-from_ascii, chars-IsAscii, encodes-chars, encodes-IsAscii}
+use Rattle.std.proofs.lemmas.{Bool.Decides.{Decides-eqb, nat_tests}, List.{length-map, take-append-drop, take_at}}
+use Rattle.std.proofs.lemmas.{Str.{IsAscii-take, IsUtf8-from_ascii, chars-IsAscii, encodes-chars, encodes-IsAscii}, Slice.Eq.{starts_is}}
+use Rattle.std.specs.{Char.{to_ascii_lowercase}, List.{starts_with}, Str.{IsUtf8, IsAscii}}
 use lib.Utf8.{encodes}
-use Rattle.html_names_core.specs.Names.{is_ascii}
-use Rattle.html_names_core.proofs.Basics.{is_ascii_is}
-use Rattle.html_names_core.proofs.Lists.{chars_ascii, bytes_eq-chars}
-use Rattle.html_text.proofs.Words.{chars_after_word, front_ascii, word_before}
-use Rattle.html_text.proofs.RawEnds.{raised, same_tests}
-use Rattle.html_text.proofs.Places.{first_long}
+use Rattle.html_names_core.{proofs.Basics.{is_ascii_is}, proofs.Lists.{chars_ascii, bytes_eq-chars}, specs.Names.{is_ascii}}
+use Rattle.html_text.proofs.{Places.{first_long}, RawEnds.{raised, same_tests}, Words.{chars_after_word, front_ascii, word_before}}
 
 empty_of : (cs t : List ℕ) → encodes cs ≡ t → eqb (length cs) 0 ≡ eqb (length t) 0
 empty_of [] t e = ap (λ l. eqb (length l) 0) e

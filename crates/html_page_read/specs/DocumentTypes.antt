@@ -1,11 +1,9 @@
 -- What a document type means for tables: whether a page is in quirks mode (HTML Standard
 -- 13.2.6.4.1), as far as this project knows document types.
-use Rattle.std.specs.Prelude.{ℕ, Bool, true, false, List, [], ◌∷◌, ◌++◌, if◌then◌else◌, codes}
-use Rattle.std.specs.Char.{to_ascii_lowercase}
+use Rattle.std.specs.{Char.{to_ascii_lowercase}, Prelude.{ℕ, Bool, true, false, List, [], ◌∷◌, ◌++◌, if◌then◌else◌, codes}}
 use Rattle.html_names_core.specs.Names.{stands_in}
 use Rattle.html_page_tree.specs.PageBodies.{is_space}
-use Rattle.html_page_stack.specs.declared.modes.TableRule.{TableRule}
-use Rattle.html_page_stack.specs.declared.modes.TableRule.TheVariants.{ClosesP, Unknown}
+use Rattle.html_page_stack.specs.declared.modes.{TableRule.{TableRule}, TableRule.TheVariants.{ClosesP, Unknown}}
 
 -- the text in lowercase, with one space for neighbouring blanks, and none at the end;
 -- `behind_space` says whether a blank stands before the text

@@ -1,9 +1,7 @@
 -- The results of the reader's rules: the expected one, or the expected refusal. An allocation may
 -- fail before either.
 use Rattle.std.specs.Prelude.{◌≡◌, Result, Ok, OnOk, IfErr}
-use Rattle.html_page_stack.specs.Endings.{IsHalt}
-use Rattle.html_page_stack.specs.Pages.{Reads}
-use Rattle.html_page_stack.specs.declared.fault.Halt.{Halt}
+use Rattle.html_page_stack.specs.{Endings.{IsHalt}, Pages.{Reads}, declared.fault.Halt.{Halt}}
 use Rattle.html_page_read.specs.PageTokens.{TagDraft, Reading, PageReader}
 
 -- a call moves the reader past a character as expected

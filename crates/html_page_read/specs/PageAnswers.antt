@@ -1,28 +1,17 @@
 -- The results of reading a page: the element and the errors of the definition, or its refusal. An
 -- allocation may fail before either.
-use Rattle.std.specs.Prelude.{◌≡◌, ℕ, true, false, List, map, chars, take, Result, Ok, Err, IfOk, IfErr}
-use Rattle.std.specs.Str.{is_utf8}
+use Rattle.std.specs.{Prelude.{◌≡◌, ℕ, true, false, List, map, chars, take, Result, Ok, Err, IfOk, IfErr}, Str.{is_utf8}}
 use Rattle.std.specs.Str.Lossy.{utf8_valid_len}
-use Rattle.html_dom_tree.specs.Tree.{ElementView}
-use Rattle.html_dom_tree.specs.Views.{element_view}
-use Rattle.html_dom_tree.specs.declared.node.HtmlElement.{HtmlElement}
-use Rattle.html_page_stack.specs.Endings.{IsHalt}
-use Rattle.html_page_stack.specs.PageViews.{notes_of}
+use Rattle.html_dom_tree.specs.{Tree.{ElementView}, Views.{element_view}, declared.node.HtmlElement.{HtmlElement}}
+use Rattle.html_page_stack.specs.{Endings.{IsHalt}, PageViews.{notes_of}}
 use Rattle.html_page_stack.specs.Pages as pages
-use Rattle.html_page_stack.specs.Pages.{Reads}
-use Rattle.html_page_stack.specs.declared.error.PageError.{PageError}
-use Rattle.html_page_stack.specs.declared.fault.Halt.{Halt}
+use Rattle.html_page_stack.specs.{Pages.{Reads}, declared.error.PageError.{PageError}, declared.fault.Halt.{Halt}}
 use Rattle.html_page_stack.specs.declared.fault.Halt.TheVariants as halt
 use Rattle.html_page_stack.specs.declared.notes.Notes.{Notes}
-use Rattle.html_page_read.specs.PagePlaces.{place_at}
-use Rattle.html_page_read.specs.PageReading.{page_read}
-use Rattle.html_page_read.specs.PageTokens.{PageReader}
-use Rattle.html_page_read.specs.PageReaderViews.{reader_of}
+use Rattle.html_page_read.specs.{PagePlaces.{place_at}, PageReaderViews.{reader_of}, PageReading.{page_read}, PageTokens.{PageReader}}
 use Rattle.html_page_read.specs.declared.fault.PageFault.{PageFault}
 use Rattle.html_page_read.specs.declared.fault.PageFault.TheVariants as fault
-use Rattle.html_page_read.specs.declared.fault.PageNote.{PageNote}
-use Rattle.html_page_read.specs.declared.fault.PageNotes.{PageNotes}
-use Rattle.html_page_read.specs.declared.reader.Reader.{Reader}
+use Rattle.html_page_read.specs.declared.{fault.PageNote.{PageNote}, fault.PageNotes.{PageNotes}, reader.Reader.{Reader}}
 
 -- an error, with its place in the text
 abbrev pub placed : (text : List ℕ) → PageError × ℕ → PageNote

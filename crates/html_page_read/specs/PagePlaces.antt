@@ -1,9 +1,7 @@
 -- Places in a page. Lines and columns are those of the text with LF for its CR LF and CR, and
 -- without a byte order mark; offsets count the bytes of the text itself.
-use Rattle.std.specs.Prelude.{ℕ, ◌+◌, Bool, false, not, ◌&&◌, ◌||◌, ◌==◌, nat_le, List, [], ◌∷◌, if◌then◌else◌}
-use Rattle.std.specs.Char.{len_utf8}
-use Rattle.html_text.specs.Places.{beginning}
-use Rattle.html_text.specs.declared.place.Place.{Place}
+use Rattle.std.specs.{Char.{len_utf8}, Prelude.{ℕ, ◌+◌, Bool, false, not, ◌&&◌, ◌||◌, ◌==◌, nat_le, List, [], ◌∷◌, if◌then◌else◌}}
+use Rattle.html_text.specs.{Places.{beginning}, declared.place.Place.{Place}}
 
 -- the place behind one more character; a line feed behind a carriage return ends no other line, and
 -- a byte order mark at the beginning is no character of a line

@@ -4,18 +4,15 @@ use Rattle.html_dom_tree.specs.Views.{text_view, attrs_view}
 use Rattle.html_page_stack.specs.PageViews.{page_of}
 use Rattle.html_page_read.specs.PageReferences as references
 use Rattle.html_page_read.specs.PageTokens as tokens
-use Rattle.html_page_read.specs.declared.draft.Draft.{Draft}
-use Rattle.html_page_read.specs.declared.reader.Brackets.{Brackets}
+use Rattle.html_page_read.specs.declared.{draft.Draft.{Draft}, reader.Brackets.{Brackets}}
 use Rattle.html_page_read.specs.declared.reader.Brackets.TheVariants as brackets
 use Rattle.html_page_read.specs.declared.reader.Depth.{Depth}
 use Rattle.html_page_read.specs.declared.reader.Depth.TheVariants as depth
 use Rattle.html_page_read.specs.declared.reader.Holder.{Holder}
 use Rattle.html_page_read.specs.declared.reader.Holder.TheVariants as holder
-use Rattle.html_page_read.specs.declared.reader.Reader.{Reader}
-use Rattle.html_page_read.specs.declared.reader.State.{State}
+use Rattle.html_page_read.specs.declared.reader.{Reader.{Reader}, State.{State}}
 use Rattle.html_page_read.specs.declared.reader.State.TheVariants as state
-use Rattle.html_page_read.specs.declared.reading.Reading.{Reading}
-use Rattle.html_page_read.specs.declared.reference.Resolved.{Resolved}
+use Rattle.html_page_read.specs.declared.{reading.Reading.{Reading}, reference.Resolved.{Resolved}}
 
 abbrev pub reading_of : Reading → tokens.Reading
 reading_of r = record {

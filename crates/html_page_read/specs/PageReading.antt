@@ -2,8 +2,7 @@
 -- moved or made a second time.
 use Rattle.std.specs.Prelude.{ℕ, false, ◌==◌, List, [], ◌∷◌, if◌then◌else◌, Option, Some, None, Ok, Err}
 use Rattle.html_dom_tree.specs.Tree.{ElementView}
-use Rattle.html_page_stack.specs.OpenElements.{root_of}
-use Rattle.html_page_stack.specs.Pages.{Notes, Reads, ◌next◌, first_page, settled}
+use Rattle.html_page_stack.specs.{OpenElements.{root_of}, Pages.{Notes, Reads, ◌next◌, first_page, settled}}
 use Rattle.html_page_stack.specs.declared.fault.PageRefusal.TheVariants as refusal
 use Rattle.html_page_read.specs.PageTokens.{PageReader, Reading, Data, step, finished}
 

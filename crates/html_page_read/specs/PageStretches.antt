@@ -1,8 +1,6 @@
 -- Stretches of common characters, each of which is only appended to the current node or to a value.
-use Rattle.std.specs.Prelude.{◌≡◌, ℕ, ◌+◌, true, false, List, [], ◌∷◌, chars, length, ◌≤◌}
-use Rattle.std.specs.Str.{IsUtf8}
-use Rattle.html_page_read.specs.PageReading.{run}
-use Rattle.html_page_read.specs.PageTokens.{TagDraft, Data, Value, PageReader, Reading, beginning}
+use Rattle.std.specs.{Prelude.{◌≡◌, ℕ, ◌+◌, true, false, List, [], ◌∷◌, chars, length, ◌≤◌}, Str.{IsUtf8}}
+use Rattle.html_page_read.specs.{PageReading.{run}, PageTokens.{TagDraft, Data, Value, PageReader, Reading, beginning}}
 use Rattle.html_page_read.specs.declared.reader.Reader.{Reader}
 use Rattle.html_page_read.specs.declared.reader.State.TheVariants as state
 use Rattle.html_page_stack.specs.Pages.{with_char}

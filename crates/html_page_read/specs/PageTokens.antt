@@ -1,19 +1,14 @@
 -- The tokens of a page, read from left to right (HTML Standard 13.2.5): all states but those of
 -- U+0000, which is refused, and of PLAINTEXT.
+use Rattle.std.specs.{Char.{len_utf8, to_ascii_lowercase}, List.{list_all, starts_with}}
 use Rattle.std.specs.Prelude.{ℕ, zero, suc, ◌+◌, min, Bool, true, false, not, ◌&&◌, ◌||◌, ◌==◌, nat_lt, nat_le, List, [], ◌∷◌, ◌++◌, if◌then◌else◌, codes, bytes_eq, length, Option, Some, None, is_some, Ok, Err}
-use Rattle.std.specs.Char.{len_utf8, to_ascii_lowercase}
-use Rattle.std.specs.List.{list_all, starts_with}
-use Rattle.html_dom_tree.specs.Attributes.{has_name}
-use Rattle.html_dom_tree.specs.Tree.{TextPair}
-use Rattle.html_names_core.specs.Characters.{is_tag_char}
-use Rattle.html_names_core.specs.Names.{attr_fault}
-use Rattle.html_text.specs.ClosingTags.{is_tag_end, closing, before_closing}
-use Rattle.html_text.specs.RawEnds.{ends_in, ends_raw}
+use Rattle.html_dom_tree.specs.{Attributes.{has_name}, Tree.{TextPair}}
+use Rattle.html_names_core.specs.{Characters.{is_tag_char}, Names.{attr_fault}}
+use Rattle.html_text.specs.{ClosingTags.{is_tag_end, closing, before_closing}, RawEnds.{ends_in, ends_raw}}
 use Rattle.html_page_read.specs.DocumentTypes.{table_rule}
-use Rattle.html_page_names.specs.ForeignNames.{lowered}
+use Rattle.html_page_names.specs.{ForeignNames.{lowered}, PageNames.{of}}
 use Rattle.html_page_stack.specs.OpenElements.{OpenElement, current_name, is_at, is_in_foreign}
 use Rattle.html_page_tree.specs.PageBodies.{is_space}
-use Rattle.html_page_names.specs.PageNames.{of}
 use Rattle.html_page_names.specs.declared.kind.Kind.TheVariants as kind
 use Rattle.html_page_read.specs.PageReferences.{is_letter, continues, Resolved, resolved}
 use Rattle.html_page_tree.specs.PageTrees.{token_read, is_unseen}

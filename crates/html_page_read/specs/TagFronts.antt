@@ -2,11 +2,9 @@
 use Rattle.std.specs.Prelude.{◌≡◌, ℕ, ◌+◌, Bool, true, false, List, [], ◌∷◌, ◌++◌, Ok, Some}
 use Rattle.html_names_core.specs.Characters.{all}
 use Rattle.html_text.specs.Fronts.{BeginsWith, is_name_char}
-use Rattle.html_page_read.specs.Fronts.{begins_small}
-use Rattle.html_page_read.specs.PageStretches.{behind_chars, in_data}
+use Rattle.html_page_read.specs.{Fronts.{begins_small}, PageStretches.{behind_chars, in_data}}
 use Rattle.html_page_read.specs.PageTokens.{PageReader, Reading, TokenState, TagName, TagOpen, EndTagOpen}
-use Rattle.html_page_stack.specs.OpenElements.{current_name}
-use Rattle.html_page_stack.specs.Pages.{Reads, ◌next◌, closed}
+use Rattle.html_page_stack.specs.{OpenElements.{current_name}, Pages.{Reads, ◌next◌, closed}}
 use Rattle.html_page_tree.specs.OwnEnds.{takes_own_end}
 
 -- the state after `<` or `</`

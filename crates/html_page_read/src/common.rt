@@ -4,8 +4,8 @@ ghost use Rattle.std.specs.Prelude.{◌≡◌, ◌+◌, ◌++◌, ◌<◌, ◌^�
 ghost use Rattle.html_dom_tree.specs.Views.{text_view};
 ghost use Rattle.html_names_core.specs.Characters.{all};
 ghost use Rattle.html_text.specs.Fronts.{is_common};
-ghost use Rattle.html_page_read.specs.PageStretches.{behind_chars, behind_stretch, in_quotes, IsInQuotes, ReadsFront, TakesCommon};
 ghost use Rattle.html_page_read.specs.PageReaderViews.{draft_of, reader_of, reading_of};
+ghost use Rattle.html_page_read.specs.PageStretches.{behind_chars, behind_stretch, in_quotes, IsInQuotes, ReadsFront, TakesCommon};
 ghost use Rattle.html_page_stack.specs.declared.fault.Halt.TheVariants.{OutOfMemory};
 
 use crate::reader::{Reader, State};

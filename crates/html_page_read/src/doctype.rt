@@ -1,7 +1,6 @@
 //! What a document type means for tables (HTML Standard 13.2.6.4.1).
 
-ghost use Rattle.std.specs.Char.{to_ascii_lowercase};
-ghost use Rattle.std.specs.Prelude.{◌≡◌, ◌++◌, ◌∷◌, [], IfOk, OnOk, chars, true, if◌then◌else◌};
+ghost use Rattle.std.specs.{Char.{to_ascii_lowercase}, Prelude.{◌≡◌, ◌++◌, ◌∷◌, [], IfOk, OnOk, chars, true, if◌then◌else◌}};
 ghost use Rattle.html_dom_tree.specs.Views.{text_view};
 ghost use Rattle.html_page_read.specs.DocumentTypes as types;
 

@@ -1,16 +1,12 @@
 //! A tag under construction.
 
-ghost use Rattle.std.specs.Char.{to_ascii_lowercase};
-ghost use Rattle.std.specs.List.{list_all};
+ghost use Rattle.std.specs.{Char.{to_ascii_lowercase}, List.{list_all}};
 ghost use Rattle.std.specs.Prelude.{◌≡◌, ◌++◌, ◌∷◌, [], IfOk, MatchOption, OnOk, bytes_eq, chars, false, true, is_some, None};
-ghost use Rattle.html_dom_tree.specs.Attributes.{has_name};
-ghost use Rattle.html_dom_tree.specs.Views.{attrs_view, text_view};
-ghost use Rattle.html_names_core.specs.Characters.{is_tag_char};
-ghost use Rattle.html_names_core.specs.Names.{attr_fault};
+ghost use Rattle.html_dom_tree.specs.{Attributes.{has_name}, Views.{attrs_view, text_view}};
+ghost use Rattle.html_names_core.specs.{Characters.{is_tag_char}, Names.{attr_fault}};
 ghost use Rattle.html_page_read.specs.Endings.{Adds};
 ghost use Rattle.html_page_read.specs.PageTokens as tokens;
-ghost use Rattle.html_page_read.specs.PageTokens.{is_name};
-ghost use Rattle.html_page_read.specs.PageReaderViews.{draft_of, reading_of};
+ghost use Rattle.html_page_read.specs.{PageReaderViews.{draft_of, reading_of}, PageTokens.{is_name}};
 
 use crate::reading::Reading;
 use html_dom_tree::{HtmlAttrs, text};

@@ -1,11 +1,9 @@
 //! Markup after `<!`, and document types (HTML Standard 13.2.5.42, 13.2.5.53).
 
-ghost use Rattle.std.specs.Char.{to_ascii_lowercase};
-ghost use Rattle.std.specs.Prelude.{◌≡◌, ◌∷◌, ◌++◌, [], OnOk, IsTrue, bytes_eq, chars, codes, map};
+ghost use Rattle.std.specs.{Char.{to_ascii_lowercase}, Prelude.{◌≡◌, ◌∷◌, ◌++◌, [], OnOk, IsTrue, bytes_eq, chars, codes, map}};
 ghost use Rattle.html_dom_tree.specs.Views.{text_view};
 ghost use Rattle.html_names_core.specs.Names.{is_ascii};
-ghost use Rattle.html_page_read.specs.Endings.{Moves};
-ghost use Rattle.html_page_read.specs.PageTokens.{begins};
+ghost use Rattle.html_page_read.specs.{Endings.{Moves}, PageTokens.{begins}};
 ghost use Rattle.html_page_read.specs.PageTokens as tokens;
 ghost use Rattle.html_page_read.specs.PageReaderViews.{reader_of, reading_of};
 ghost use Rattle.html_page_names.specs.ForeignNames.{lowered};

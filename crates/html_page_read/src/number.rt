@@ -1,8 +1,6 @@
 //! Character references by number (HTML Standard 13.2.5.80).
 
-ghost use Rattle.std.specs.Char.{digit_value};
-ghost use Rattle.std.specs.Prelude.{◌≡◌, ◌≤◌, chars, min, unwrap_or};
-ghost use Rattle.std.specs.Str.Parse.{digits_value};
+ghost use Rattle.std.specs.{Char.{digit_value}, Prelude.{◌≡◌, ◌≤◌, chars, min, unwrap_or}, Str.Parse.{digits_value}};
 ghost use Rattle.html_names_core.specs.Characters as class;
 ghost use Rattle.html_page_read.specs.PageReferences as references;
 ghost use Rattle.html_page_tree.specs.PageBodies.{is_space};

@@ -1,7 +1,6 @@
 //! Places in a page.
 
-ghost use Rattle.std.specs.Char.{len_utf8};
-ghost use Rattle.std.specs.Prelude.{◌≡◌, ◌+◌, ◌^◌, ◌<◌, ◌≤◌, chars};
+ghost use Rattle.std.specs.{Char.{len_utf8}, Prelude.{◌≡◌, ◌+◌, ◌^◌, ◌<◌, ◌≤◌, chars}};
 ghost use Rattle.html_page_read.specs.PagePlaces as places;
 ghost use Rattle.html_page_read.specs.ReachedPlaces.{IsReached};
 

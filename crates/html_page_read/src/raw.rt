@@ -6,8 +6,7 @@ ghost use Rattle.html_names_core.specs.Characters.{IsOf, is_tag_char};
 ghost use Rattle.html_text.specs.ClosingTags.{closing};
 ghost use Rattle.html_page_read.specs.Endings.{Moves};
 ghost use Rattle.html_page_read.specs.PageTokens as tokens;
-ghost use Rattle.html_page_read.specs.PageRawEnds.{IsRawEnd};
-ghost use Rattle.html_page_read.specs.PageReaderViews.{depth_of, reader_of, reading_of};
+ghost use Rattle.html_page_read.specs.{PageRawEnds.{IsRawEnd}, PageReaderViews.{depth_of, reader_of, reading_of}};
 ghost use Rattle.html_page_stack.specs.PageViews.{page_of, stack_of};
 
 use crate::reader::{Depth, Holder, Reader, State};

@@ -1,8 +1,7 @@
 //! Reading a page as browsers do, from a text or bytes to its element and the errors in it.
 
 ghost use Rattle.std.specs.Prelude.{◌≡◌, ◌≤◌, ◌<◌, ◌+◌, ◌^◌, OnOk, IfOk, IfErr, chars, length};
-ghost use Rattle.html_page_read.specs.Endings.{Moves};
-ghost use Rattle.html_page_read.specs.PageAnswers.{ArePlaced, Begins, Gives, GivesBytes, ReadsText, fault_of, placed};
+ghost use Rattle.html_page_read.specs.{Endings.{Moves}, PageAnswers.{ArePlaced, Begins, Gives, GivesBytes, ReadsText, fault_of, placed}};
 ghost use Rattle.html_page_read.specs.PageReading as pages;
 ghost use Rattle.html_page_read.specs.PageReaderViews.{reader_of, reading_of};
 ghost use Rattle.html_page_stack.specs.PageViews.{notes_of};

@@ -1,9 +1,7 @@
 //! A reader of pages that takes one character after the other (HTML Standard 13.2.5).
 
-ghost use Rattle.std.specs.Char.{len_utf8};
-ghost use Rattle.std.specs.Prelude.{◌≡◌, ◌+◌, ◌<◌, ◌^◌, OnOk};
-ghost use Rattle.html_page_read.specs.Endings.{Emits, Moves};
-ghost use Rattle.html_page_read.specs.PageReading.{first_reader};
+ghost use Rattle.std.specs.{Char.{len_utf8}, Prelude.{◌≡◌, ◌+◌, ◌<◌, ◌^◌, OnOk}};
+ghost use Rattle.html_page_read.specs.{Endings.{Emits, Moves}, PageReading.{first_reader}};
 ghost use Rattle.html_page_read.specs.PageTokens as tokens;
 ghost use Rattle.html_page_read.specs.PageReaderViews.{reader_of, reading_of, state_at};
 

@@ -3,10 +3,8 @@
 ghost use Rattle.std.specs.Prelude.{◌≡◌, ◌+◌, ◌<◌, ◌^◌, [], false, true, Ok, IfErr, IfOk, IfSome, OnOk, chars, length};
 ghost use Rattle.html_names_core.specs.Characters.{all};
 ghost use Rattle.html_text.specs.Fronts.{is_name_char};
-ghost use Rattle.html_page_read.specs.Fronts.{begins_small};
-ghost use Rattle.html_page_read.specs.PageReaderViews.{draft_of, reader_of, reading_of};
-ghost use Rattle.html_page_read.specs.PageStretches.{in_quotes, ReadsFront};
-ghost use Rattle.html_page_read.specs.TagFronts.{EndsOwn, behind_own_end, in_name, tag_open};
+ghost use Rattle.html_page_read.specs.{Fronts.{begins_small}, PageReaderViews.{draft_of, reader_of, reading_of}};
+ghost use Rattle.html_page_read.specs.{PageStretches.{in_quotes, ReadsFront}, TagFronts.{EndsOwn, behind_own_end, in_name, tag_open}};
 ghost use Rattle.html_page_read.specs.declared.reader.State.TheVariants as state;
 ghost use Rattle.html_page_stack.specs.declared.fault.Halt.TheVariants.{OutOfMemory};
 

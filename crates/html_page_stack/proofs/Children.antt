@@ -1,8 +1,6 @@
 -- Elements with one child more: whether some child is an element, and texts that are not empty.
 use Rattle.std.proofs.Common.{◌≡◌, ℕ, true, false, List, [], ◌∷◌, refl, sym, ap, ◌∙◌, eqb, length, chars}
-use Rattle.std.specs.Str.{IsUtf8}
-use Rattle.std.proofs.lemmas.Bool.{false≢true}
-use Rattle.std.proofs.lemmas.Str.{encodes-chars}
+use Rattle.std.{proofs.lemmas.Bool.{false≢true}, proofs.lemmas.Str.{encodes-chars}, specs.Str.{IsUtf8}}
 use lib.Utf8.{encodes}
 use Rattle.html_dom_tree.specs.Tree.{Head, tag_node, text_node, element_node, frame_node, NodesView, none, node, with_last}
 use Rattle.html_page_stack.specs.OpenElements.{OpenElement, has_elements, with_text}

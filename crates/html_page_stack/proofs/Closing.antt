@@ -1,8 +1,6 @@
 -- Closing elements as long as the current node is such a node, once more and no more.
-use Rattle.std.proofs.Common.{◌≡◌, ℕ, zero, suc, ◌+◌, ◌-◌, ◌<◌, ◌≤◌, Bool, List, ap, arith, Ok, false}
-use Rattle.std.specs.Prelude.{if◌then◌else◌}
-use Rattle.html_page_stack.specs.OpenElements.{OpenElement}
-use Rattle.html_page_stack.specs.Pages.{Page, ◌next◌, closed, closed_while}
+use Rattle.std.{proofs.Common.{◌≡◌, ℕ, zero, suc, ◌+◌, ◌-◌, ◌<◌, ◌≤◌, Bool, List, ap, arith, Ok, false}, specs.Prelude.{if◌then◌else◌}}
+use Rattle.html_page_stack.specs.{OpenElements.{OpenElement}, Pages.{Page, ◌next◌, closed, closed_while}}
 
 pub while_once : (g : List OpenElement → Bool) (n k : ℕ) (p : Page) → k < n →
     closed_while g (n - k) p

@@ -1,16 +1,11 @@
 -- The insertion mode by what is known at the current node, and elements that come and go.
-use Rattle.std.proofs.Math.Bridge.{no_suc-le-zero}
-use Rattle.std.proofs.Math.Dec.{eqb-suc-zero}
 use Rattle.std.proofs.Common.{◌≡◌, ◌≤◌, ℕ, get_or, List, [], ◌∷◌, ◌++◌, length, map, reverse, Option, Some, None, refl, sym, ap, ◌∙◌}
+use Rattle.std.proofs.{Math.Bridge.{no_suc-le-zero}, Math.Dec.{eqb-suc-zero}, lemmas.List.{map-append, reverse-append}}
 use Rattle.std.specs.Prelude.{unwrap_or}
-use Rattle.std.proofs.lemmas.List.{map-append, reverse-append}
-use Rattle.html_page_stack.specs.Contexts.{AreKnown, brought_mode, context, context_of, contexts, own_mode, root_mode, some_or}
-use Rattle.html_page_stack.specs.OpenElements.{OpenElement, html_mode, mode, with_text}
-use Rattle.html_page_stack.specs.ElementViews.{element_of, list_of}
-use Rattle.html_page_stack.specs.declared.context.Context.{Context}
-use Rattle.html_page_stack.specs.declared.element.PageElement.{PageElement}
-use Rattle.html_page_stack.specs.declared.modes.Mode.{Mode}
 use Rattle.html_page_stack.proofs.Stacks.{last_first}
+use Rattle.html_page_stack.specs.Contexts.{AreKnown, brought_mode, context, context_of, contexts, own_mode, root_mode, some_or}
+use Rattle.html_page_stack.specs.{ElementViews.{element_of, list_of}, OpenElements.{OpenElement, html_mode, mode, with_text}}
+use Rattle.html_page_stack.specs.declared.{context.Context.{Context}, element.PageElement.{PageElement}, modes.Mode.{Mode}}
 
 inner_mode : (own m : Option Mode) (n : Mode) →
     unwrap_or own (unwrap_or m n) ≡ unwrap_or (some_or own m) n

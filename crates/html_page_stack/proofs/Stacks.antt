@@ -1,9 +1,6 @@
 -- The elements that are open, with the last of them first.
-use Rattle.std.proofs.Common.{◌≡◌, List, [], ◌∷◌, ◌++◌, map, reverse, refl, sym, ap, ◌∙◌}
-use Rattle.std.proofs.lemmas.List.{map-append, reverse-append}
-use Rattle.html_page_stack.specs.ElementViews.{element_of, list_of}
-use Rattle.html_page_stack.specs.OpenElements.{OpenElement, with_last_text}
-use Rattle.html_page_stack.specs.Pages.{Page, settled}
+use Rattle.std.proofs.{Common.{◌≡◌, List, [], ◌∷◌, ◌++◌, map, reverse, refl, sym, ap, ◌∙◌}, lemmas.List.{map-append, reverse-append}}
+use Rattle.html_page_stack.specs.{ElementViews.{element_of, list_of}, OpenElements.{OpenElement, with_last_text}, Pages.{Page, settled}}
 use Rattle.html_page_stack.specs.declared.element.PageElement.{PageElement}
 
 pub last_first : (es : List PageElement) (e : PageElement) →

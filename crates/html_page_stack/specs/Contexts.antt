@@ -7,11 +7,8 @@ use Rattle.std.proofs.Math.Bool.{Bool-discrete}
 use Rattle.html_names_core.specs.Equal.{discrete_by, option_discrete}
 use Rattle.html_page_names.specs.PageNames.{of}
 use Rattle.html_page_names.specs.declared.kind.Kind.TheVariants as kind
-use Rattle.html_page_stack.specs.OpenElements.{OpenElement, html_mode, in_scope, is_html, named_mode}
-use Rattle.html_page_stack.specs.ElementViews.{list_of}
-use Rattle.html_page_stack.specs.declared.context.Context.{Context}
-use Rattle.html_page_stack.specs.declared.element.PageElement.{PageElement}
-use Rattle.html_page_stack.specs.declared.modes.Mode.{Mode}
+use Rattle.html_page_stack.specs.{ElementViews.{list_of}, OpenElements.{OpenElement, html_mode, in_scope, is_html, named_mode}}
+use Rattle.html_page_stack.specs.declared.{context.Context.{Context}, element.PageElement.{PageElement}, modes.Mode.{Mode}}
 use Rattle.html_page_stack.specs.declared.modes.Mode.TheVariants.{BeforeHtml, BeforeHead, InHead, InHeadNoscript, AfterHead, InBody, InText, InTable, InCaption, InColumns, InSection, InRow, InCell}
 use Rattle.html_page_stack.specs.declared.modes.Scope.TheVariants.{Button}
 

@@ -1,8 +1,7 @@
 -- The program's open elements as those of the definition.
 use Rattle.std.specs.Prelude.{List, map, reverse}
 use Rattle.html_dom_tree.specs.Views.{element_view}
-use Rattle.html_page_stack.specs.OpenElements.{OpenElement}
-use Rattle.html_page_stack.specs.declared.element.PageElement.{PageElement}
+use Rattle.html_page_stack.specs.{OpenElements.{OpenElement}, declared.element.PageElement.{PageElement}}
 
 abbrev pub element_of : PageElement → OpenElement
 element_of e = let v = element_view e.element in

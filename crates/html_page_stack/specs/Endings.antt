@@ -1,14 +1,9 @@
 -- The results of steps: the expected page or turn, or the expected refusal. An allocation may fail
 -- before either.
 use Rattle.std.specs.Prelude.{◌≡◌, Option, Some, None, option_map, Result, Ok, Err, OnOk, IfOk, IfErr}
-use Rattle.html_dom_tree.specs.Views.{element_view}
-use Rattle.html_dom_tree.specs.declared.node.HtmlElement.{HtmlElement}
-use Rattle.html_page_stack.specs.OpenElements.{root_of}
-use Rattle.html_page_stack.specs.PageViews.{notes_of, token_of}
-use Rattle.html_page_stack.specs.Pages.{Page, Reads, Turn, Taken, Again, settled}
-use Rattle.html_page_stack.specs.declared.fault.Halt.{Halt}
-use Rattle.html_page_stack.specs.declared.fault.Halt.TheVariants.{OutOfMemory, Refused}
-use Rattle.html_page_stack.specs.declared.notes.Notes.{Notes}
+use Rattle.html_dom_tree.specs.{Views.{element_view}, declared.node.HtmlElement.{HtmlElement}}
+use Rattle.html_page_stack.specs.{OpenElements.{root_of}, PageViews.{notes_of, token_of}, Pages.{Page, Reads, Turn, Taken, Again, settled}}
+use Rattle.html_page_stack.specs.declared.{fault.Halt.{Halt}, fault.Halt.TheVariants.{OutOfMemory, Refused}, notes.Notes.{Notes}}
 use Rattle.html_page_stack.specs.declared.token.Token.{Token}
 
 -- reading stops as expected, unless an allocation failed

@@ -1,6 +1,5 @@
 -- The index of a lost name in a list in which the last one counts first.
-use Rattle.std.specs.Prelude.{◌≡◌, ℕ, ◌<◌, true, false, List, length, reverse, Option, Some, None}
-use Rattle.std.specs.List.{remove}
+use Rattle.std.specs.{List.{remove}, Prelude.{◌≡◌, ℕ, ◌<◌, true, false, List, length, reverse, Option, Some, None}}
 use Rattle.html_page_stack.specs.Pages.{is_lost, without_lost}
 
 pub record IsFound (name : List ℕ) (names : List (Option (List ℕ))) (place : ℕ) : Type 0 where

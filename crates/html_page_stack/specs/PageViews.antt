@@ -4,13 +4,10 @@ use Rattle.html_dom_tree.specs.Views.{attrs_view, text_view}
 use Rattle.html_page_names.specs.PageNames.{is, of}
 pub use Rattle.html_page_stack.specs.ElementViews.{element_of, list_of}
 use Rattle.html_page_stack.specs.OpenElements as elements
-use Rattle.html_page_stack.specs.OpenElements.{OpenElement, bounds, bounds_item, is_html, is_of, is_special}
-use Rattle.html_page_stack.specs.OpenElements.{is_foreign_of}
+use Rattle.html_page_stack.specs.OpenElements.{OpenElement, bounds, bounds_item, is_html, is_of, is_special, is_foreign_of}
 use Rattle.html_page_stack.specs.Pages as pages
 use Rattle.html_page_names.specs.declared.kind.Kind.TheVariants as kind
-use Rattle.html_page_stack.specs.declared.notes.Notes.{Notes}
-use Rattle.html_page_stack.specs.declared.page.Page.{Page}
-use Rattle.html_page_stack.specs.declared.search.Bound.{Bound}
+use Rattle.html_page_stack.specs.declared.{notes.Notes.{Notes}, page.Page.{Page}, search.Bound.{Bound}}
 use Rattle.html_page_stack.specs.declared.search.Bound.TheVariants as bound
 use Rattle.html_page_stack.specs.declared.search.Goal.{Goal}
 use Rattle.html_page_stack.specs.declared.search.Goal.TheVariants as goal
@@ -18,9 +15,7 @@ use Rattle.html_page_stack.specs.declared.search.Target.{Target}
 use Rattle.html_page_stack.specs.declared.search.Target.TheVariants as target
 use Rattle.html_page_stack.specs.declared.search.While.{While}
 use Rattle.html_page_stack.specs.declared.search.While.TheVariants as while
-use Rattle.html_page_stack.specs.declared.stack.Stack.{Stack}
-use Rattle.html_page_stack.specs.declared.token.StartTag.{StartTag}
-use Rattle.html_page_stack.specs.declared.token.Token.{Token}
+use Rattle.html_page_stack.specs.declared.{stack.Stack.{Stack}, token.StartTag.{StartTag}, token.Token.{Token}}
 use Rattle.html_page_stack.specs.declared.token.Token.TheVariants as token
 
 abbrev pub stack_of : Stack → List OpenElement

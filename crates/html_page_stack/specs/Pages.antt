@@ -9,10 +9,7 @@ use Rattle.html_page_stack.specs.declared.error.PageError.{PageError}
 use Rattle.html_page_stack.specs.declared.error.PageError.TheVariants as error
 use Rattle.html_page_stack.specs.declared.fault.PageRefusal.{PageRefusal}
 use Rattle.html_page_stack.specs.declared.fault.PageRefusal.TheVariants as refusal
-use Rattle.html_page_stack.specs.declared.modes.Scope.{Scope}
-use Rattle.html_page_stack.specs.declared.modes.Space.{Space}
-use Rattle.html_page_stack.specs.declared.modes.Space.TheVariants.{Html}
-use Rattle.html_page_stack.specs.declared.modes.TableRule.{TableRule}
+use Rattle.html_page_stack.specs.declared.modes.{Scope.{Scope}, Space.{Space}, TableRule.{TableRule}, Space.TheVariants.{Html}}
 use Rattle.html_page_stack.specs.declared.modes.TableRule.TheVariants as rule
 
 -- the errors that the reader recovered from: their number (at most that of 32 bits), and the first

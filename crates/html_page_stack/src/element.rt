@@ -1,8 +1,7 @@
 //! An open element of a page.
 
 ghost use Rattle.std.specs.Prelude.{◌≡◌, IfOk};
-ghost use Rattle.html_dom_tree.specs.Tree.{with_node};
-ghost use Rattle.html_dom_tree.specs.Views.{element_view, node_view};
+ghost use Rattle.html_dom_tree.specs.{Tree.{with_node}, Views.{element_view, node_view}};
 ghost use Rattle.html_page_names.specs.Kinds.{IsKindsOf};
 ghost use Rattle.html_page_stack.specs.OpenCounts.{has_child_elements};
 
@@ -53,13 +52,10 @@ pub struct PageElement {
 
 impl PageElement {
     ghost use Rattle.std.specs.Prelude.{bytes_eq};
-    ghost use Rattle.html_dom_tree.specs.Tree.{none};
-    ghost use Rattle.html_dom_tree.specs.Views.{attrs_view, text_view};
+    ghost use Rattle.html_dom_tree.specs.{Tree.{none}, Views.{attrs_view, text_view}};
     ghost use Rattle.html_page_names.specs.PageNames.{of};
-    ghost use Rattle.html_page_stack.specs.OpenElements.{completed, is_html, is_of, with_last_child, with_text};
-    ghost use Rattle.html_page_stack.specs.OpenElements.{is_foreign_of};
-    ghost use Rattle.html_page_stack.specs.PageViews.{element_of, target_test};
-    ghost use Rattle.html_page_stack.specs.Pages.{page_head};
+    ghost use Rattle.html_page_stack.specs.OpenElements.{completed, is_html, is_of, with_last_child, with_text, is_foreign_of};
+    ghost use Rattle.html_page_stack.specs.{PageViews.{element_of, target_test}, Pages.{page_head}};
 
     /// Creates an element without children, whose token starts at that offset in bytes.
     pub(crate) fn new(

@@ -1,8 +1,7 @@
 //! Open elements, the innermost last.
 
 ghost use Rattle.std.specs.Prelude.{◌≡◌};
-ghost use Rattle.html_page_stack.specs.Contexts.{own_mode, root_mode};
-ghost use Rattle.html_page_stack.specs.OpenElements.{at, html_mode, named_mode, reaches};
+ghost use Rattle.html_page_stack.specs.{Contexts.{own_mode, root_mode}, OpenElements.{at, html_mode, named_mode, reaches}};
 ghost use Rattle.html_page_stack.specs.PageViews.{bound_test, element_of, goal_test, list_of};
 
 use crate::element::PageElement;

@@ -1,8 +1,7 @@
 //! The formatting elements that a tag of another name closed.
 
 ghost use Rattle.std.specs.Prelude.{◌≡◌, ◌∷◌, [], OnOk, Some, None, reverse};
-ghost use Rattle.html_page_stack.specs.LostNames.{IsLookup};
-ghost use Rattle.html_page_stack.specs.Pages.{behind_marker, is_lost, loses_some, without_lost};
+ghost use Rattle.html_page_stack.specs.{LostNames.{IsLookup}, Pages.{behind_marker, is_lost, loses_some, without_lost}};
 
 use html_names_core::HtmlTag;
 use std::alloc::{AllocError, Global};

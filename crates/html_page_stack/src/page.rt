@@ -2,11 +2,9 @@
 
 ghost use Rattle.std.specs.Prelude.{◌≡◌, chars, length};
 ghost use Rattle.html_dom_tree.specs.Views.{attrs_view};
-ghost use Rattle.html_page_names.specs.Kinds.{IsKindsOf};
-ghost use Rattle.html_page_names.specs.PageNames.{of};
+ghost use Rattle.html_page_names.specs.{Kinds.{IsKindsOf}, PageNames.{of}};
 ghost use Rattle.html_page_names.specs.declared.kind.Kind.TheVariants as kind;
-ghost use Rattle.html_page_stack.specs.Endings.{Changes, Finishes, Steps};
-ghost use Rattle.html_page_stack.specs.OpenElements.{in_scope};
+ghost use Rattle.html_page_stack.specs.{Endings.{Changes, Finishes, Steps}, OpenElements.{in_scope}};
 ghost use Rattle.html_page_stack.specs.PageViews.{element_of, goal_test, page_of, target_test, while_test};
 ghost use Rattle.html_page_stack.specs.Pages as pages;
 

@@ -27,8 +27,7 @@ impl Stack {
     ghost use Rattle.html_page_names.specs.PageNames.{of};
     ghost use Rattle.html_page_names.specs.declared.kind.Kind.TheVariants as kind;
     ghost use Rattle.html_page_stack.specs.Contexts.{context};
-    ghost use Rattle.html_page_stack.specs.OpenElements.{at, current_name, in_scope, is_at, is_in_foreign};
-    ghost use Rattle.html_page_stack.specs.OpenElements.{current_space, mode, reaches, root_of, with_last_text, without_current};
+    ghost use Rattle.html_page_stack.specs.OpenElements.{at, current_name, in_scope, is_at, is_in_foreign, current_space, mode, reaches, root_of, with_last_text, without_current};
     ghost use Rattle.html_page_stack.specs.PageViews.{bound_test, element_of, goal_test, stack_of, target_test, while_test};
 
     /// Creates a stack without elements.

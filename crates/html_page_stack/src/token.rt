@@ -1,8 +1,7 @@
 //! The tokens that make a tree.
 
 ghost use Rattle.std.specs.Prelude.{◌≡◌, IfOk};
-ghost use Rattle.html_page_names.specs.Kinds.{IsKindsOf};
-ghost use Rattle.html_page_names.specs.PageNames.{of};
+ghost use Rattle.html_page_names.specs.{Kinds.{IsKindsOf}, PageNames.{of}};
 
 use html_dom_tree::HtmlAttrs;
 use html_names_core::HtmlTag;

@@ -1,11 +1,8 @@
 -- The parts of what is seen stand apart.
 use Rattle.std.proofs.Common.{◌≡◌, ℕ, Bool, true, false, List, [], ◌∷◌, not, Option, Some, None, refl, ap}
-use Rattle.std.specs.Prelude.{unwrap_or}
-use Rattle.std.proofs.lemmas.Bool.{and_from, false≢true}
-use Rattle.html_dom_tree.specs.PlainTree.{Plains, element_normal}
-use Rattle.html_dom_tree.specs.Tree.{ElementView}
-use Rattle.html_dom_shown.specs.Bodies.{tree_body}
-use Rattle.html_dom_shown.specs.Collapsing.{Piece, char, thing, line, edge, merged_edges, atoms_pieces, plains_atoms}
+use Rattle.std.{proofs.lemmas.Bool.{and_from, false≢true}, specs.Prelude.{unwrap_or}}
+use Rattle.html_dom_tree.specs.{PlainTree.{Plains, element_normal}, Tree.{ElementView}}
+use Rattle.html_dom_shown.specs.{Bodies.{tree_body}, Collapsing.{Piece, char, thing, line, edge, merged_edges, atoms_pieces, plains_atoms}}
 use Rattle.html_dom_shown.specs.SeenBodies.{seen_body}
 use Rattle.html_page_text.specs.PageTexts.{page_parts}
 use Rattle.html_page_text.specs.Parts.{Part, text_part, object_part, line_part, edge_part, put_text, joined_parts, begins_with_edge, stand_apart}

@@ -1,14 +1,12 @@
 -- One pass over the atoms gathers the parts of what is seen by the definition.
 use Rattle.std.proofs.Common.{◌≡◌, ℕ, Bool, true, false, List, [], ◌∷◌, ◌++◌, map, chars, length, eqb, refl, ap, ◌∙◌, sym, append_assoc}
-use Rattle.std.proofs.lemmas.List.{append-nil, map-append}
-use Rattle.std.specs.Str.{IsUtf8}
-use Rattle.html_dom_tree.specs.PlainTree.{nodes_normal}
-use Rattle.html_dom_tree.specs.Tree.{NodeView, NodesView, none, node}
-use Rattle.html_dom_shown.specs.Collapsing.{Atom, visible, ignorable, collapsible, kept, object, break, border, Piece, char, thing, line, edge, is_supported_by, atom_pieces, atoms_pieces, merged_edges, collapsed_pieces, plains_atoms}
+use Rattle.std.{proofs.lemmas.List.{append-nil, map-append}, specs.Str.{IsUtf8}}
+use Rattle.html_dom_tree.specs.{PlainTree.{nodes_normal}, Tree.{NodeView, NodesView, none, node}}
 use Rattle.html_dom_shown.proofs.NodeAtoms.{node_atoms, nodes_atoms, normal_atoms}
+use Rattle.html_dom_shown.specs.Collapsing.{Atom, visible, ignorable, collapsible, kept, object, break, border, Piece, char, thing, line, edge, is_supported_by, atom_pieces, atoms_pieces, merged_edges, collapsed_pieces, plains_atoms}
+use Rattle.html_page_text.proofs.Parts.{some_chars, put_twice, put_before}
 use Rattle.html_page_text.specs.Gathering.{GatheredPage, ended_parts, with_piece, with_pieces, Before, bare, support, blank, released, seen_at, past, Seen, nothing_seen, step, run, final}
 use Rattle.html_page_text.specs.Parts.{Part, object_part, line_part, edge_part, put_text, joined_parts, begins_with_text}
-use Rattle.html_page_text.proofs.Parts.{some_chars, put_twice, put_before}
 
 -- pieces one after the other
 

@@ -2,11 +2,9 @@
 use Rattle.std.proofs.Common.{◌≡◌, ℕ, Bool, [], refl, ap}
 use Rattle.html_names_core.specs.declared.text_writer.TextWriter.{TextWriter}
 use Rattle.html_dom_shown.specs.Collapsing.{ignorable, collapsible, char}
-use Rattle.html_page_text.specs.Gathering.{GatheredPage, with_piece, with_pieces, bare, support, released, step}
-use Rattle.html_page_text.specs.PageViews.{before_view}
-use Rattle.html_page_text.specs.declared.seen.Before.{Before}
-use Rattle.html_page_text.specs.declared.seen.Before.TheVariants.{Bare, Support, Blank}
 use Rattle.html_page_text.proofs.Gathering.{seen_of}
+use Rattle.html_page_text.specs.{Gathering.{GatheredPage, with_piece, with_pieces, bare, support, released, step}, PageViews.{before_view}}
+use Rattle.html_page_text.specs.declared.seen.{Before.{Before}, Before.TheVariants.{Bare, Support, Blank}}
 
 pub none_released : (supported : Bool) (b : Before) → ((x : TextWriter) → b ≡ Blank x → ⊥) →
     released supported (before_view b) ≡ []

@@ -1,12 +1,10 @@
 -- The program's parts, and texts before parts.
 use Rattle.std.proofs.Common.{◌≡◌, ℕ, false, List, [], ◌∷◌, ◌++◌, chars, length, eqb, refl, ap, ◌∙◌, sym, append_assoc}
-use Rattle.std.proofs.lemmas.List.{append-nil, map-append}
-use Rattle.std.proofs.lemmas.Bool.{false≢true}
-use Rattle.std.proofs.lemmas.Str.{encodes-chars}
+use Rattle.std.proofs.lemmas.{Bool.{false≢true}, List.{append-nil, map-append}, Str.{encodes-chars}}
 use Rattle.std.specs.Str.{IsUtf8}
 use lib.Utf8.{encodes}
-use Rattle.html_page_text.specs.Parts.{Part, text_part, object_part, line_part, edge_part, put_text, begins_with_text}
 use Rattle.html_page_text.specs.PageViews.{part_view, parts_view}
+use Rattle.html_page_text.specs.Parts.{Part, text_part, object_part, line_part, edge_part, put_text, begins_with_text}
 use Rattle.html_page_text.specs.declared.shown.Shown.{Shown}
 
 pub one_part : (old new : List Shown) (p : Shown) (x : Part) → new ≡ old ++ p ∷ [] →

@@ -1,8 +1,6 @@
 -- Parts without the edge that stands last.
-use Rattle.std.proofs.Common.{◌≡◌, Bool, true, false, List, [], ◌∷◌, ◌++◌, refl, ap, ◌∙◌}
-use Rattle.std.specs.Prelude.{if◌then◌else◌}
-use Rattle.html_page_text.specs.PlainTexts.{is_edge, before_edge}
-use Rattle.html_page_text.specs.declared.shown.Shown.{Shown}
+use Rattle.std.{proofs.Common.{◌≡◌, Bool, true, false, List, [], ◌∷◌, ◌++◌, refl, ap, ◌∙◌}, specs.Prelude.{if◌then◌else◌}}
+use Rattle.html_page_text.specs.{PlainTexts.{is_edge, before_edge}, declared.shown.Shown.{Shown}}
 
 first_of_both : (b : Bool) (x : Shown) (us vs : List Shown) →
     x ∷ (if b then us else vs) ≡ (if b then x ∷ us else x ∷ vs)

@@ -2,18 +2,14 @@
 use Rattle.std.proofs.Common.{◌≡◌, ℕ, Bool, true, false, ◌||◌, List, [], ◌∷◌, bytes_eq, codes, Option, Some, None, refl, ap, ◌∙◌, sym}
 use Rattle.std.specs.Prelude.{if◌then◌else◌, option_map, unwrap_or}
 use Rattle.html_names_core.specs.Kinds.{is_line_break, is_replaced}
-use Rattle.html_dom_tree.specs.Attributes.{or_else}
-use Rattle.html_dom_tree.specs.PlainTree.{nodes_normal}
+use Rattle.html_dom_tree.specs.{Attributes.{or_else}, PlainTree.{nodes_normal}}
 use Rattle.html_dom_tree.specs.Tree.{Head, TextPair, NodeView, NodesView, tag_node, text_node, element_node, frame_node, none, node}
-use Rattle.html_dom_shown.specs.Bodies.{body_children, body_in}
+use Rattle.html_dom_shown.{proofs.Bodies.{body_in_normal}, proofs.NodeAtoms.{normal_atoms}, specs.Bodies.{body_children, body_in}}
 use Rattle.html_dom_shown.specs.Collapsing.{Atom, object, break, border, Piece, preserves, has_border, bordered_atoms, element_atoms, plains_atoms}
 use Rattle.html_dom_shown.specs.SeenBodies.{seen_body}
-use Rattle.html_dom_shown.proofs.Bodies.{body_in_normal}
-use Rattle.html_dom_shown.proofs.NodeAtoms.{normal_atoms}
-use Rattle.html_page_text.specs.Gathering.{Seen, nothing_seen, step, run, border_atoms, final, past_node, past_nodes, with_pieces}
-use Rattle.html_page_text.specs.Parts.{Part, joined_parts}
-use Rattle.html_page_text.specs.Unseen.{is_unseen, seen_nodes}
 use Rattle.html_page_text.proofs.Gathering.{gathered_is_seen, run-append, past_all, past_one, past_first}
+use Rattle.html_page_text.specs.Gathering.{Seen, nothing_seen, step, run, border_atoms, final, past_node, past_nodes, with_pieces}
+use Rattle.html_page_text.specs.{Parts.{Part, joined_parts}, Unseen.{is_unseen, seen_nodes}}
 
 -- one node
 

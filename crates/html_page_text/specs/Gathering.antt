@@ -1,11 +1,9 @@
 -- The visible pieces, gathered in one pass over the atoms: a blank is held back until what follows
 -- decides whether it is visible.
 use Rattle.std.specs.Prelude.{ℕ, Bool, true, false, ◌||◌, List, [], ◌∷◌, ◌++◌, map, if◌then◌else◌}
-use Rattle.html_dom_tree.specs.PlainTree.{nodes_normal}
-use Rattle.html_dom_tree.specs.Tree.{NodeView, tag_node, text_node, element_node, frame_node, NodesView}
+use Rattle.html_dom_tree.specs.{PlainTree.{nodes_normal}, Tree.{NodeView, tag_node, text_node, element_node, frame_node, NodesView}}
 use Rattle.html_dom_shown.specs.Collapsing.{Atom, visible, ignorable, collapsible, kept, object, break, border, Piece, char, thing, line, edge, text_atoms, preserves, element_atoms, plains_atoms}
-use Rattle.html_page_text.specs.Parts.{Part, object_part, line_part, edge_part, put_text}
-use Rattle.html_page_text.specs.Unseen.{is_unseen, seen_nodes}
+use Rattle.html_page_text.specs.{Parts.{Part, object_part, line_part, edge_part, put_text}, Unseen.{is_unseen, seen_nodes}}
 
 -- complete parts, in which neighbouring edges are one, the text behind them, and whether the last
 -- part is an edge

@@ -1,11 +1,8 @@
 -- What is visible of a root's body in a browser.
 use Rattle.std.specs.Prelude.{List, [], Some, unwrap_or}
-use Rattle.html_dom_tree.specs.PlainTree.{element_normal}
-use Rattle.html_dom_tree.specs.Tree.{ElementView}
-use Rattle.html_dom_shown.specs.Collapsing.{Piece}
-use Rattle.html_dom_shown.specs.SeenBodies.{seen_tree}
-use Rattle.html_page_text.specs.Parts.{Part, joined_parts}
-use Rattle.html_page_text.specs.Unseen.{seen_element}
+use Rattle.html_dom_tree.specs.{PlainTree.{element_normal}, Tree.{ElementView}}
+use Rattle.html_dom_shown.specs.{Collapsing.{Piece}, SeenBodies.{seen_tree}}
+use Rattle.html_page_text.specs.{Parts.{Part, joined_parts}, Unseen.{seen_element}}
 
 -- what is visible in the body of the normal form of a root without its hidden elements; nothing is
 -- visible of a root without a body

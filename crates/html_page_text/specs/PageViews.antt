@@ -2,14 +2,9 @@
 use Rattle.std.specs.Prelude.{List, map}
 use Rattle.html_dom_tree.specs.Views.{text_view}
 use Rattle.html_page_text.specs.Gathering as gathering
-use Rattle.html_page_text.specs.Parts.{Part, text_part, object_part, line_part, edge_part}
-use Rattle.html_page_text.specs.declared.page.GatheredPage.{GatheredPage}
-use Rattle.html_page_text.specs.declared.seen.Before.{Before}
-use Rattle.html_page_text.specs.declared.seen.Before.TheVariants.{Bare, Support, Blank}
-use Rattle.html_page_text.specs.declared.seen.Seen.{Seen}
-use Rattle.html_page_text.specs.declared.shown.PageText.{PageText}
-use Rattle.html_page_text.specs.declared.shown.Shown.{Shown}
-use Rattle.html_page_text.specs.declared.shown.Shown.TheVariants.{Text, Object, LineBreak, Edge}
+use Rattle.html_page_text.specs.{Parts.{Part, text_part, object_part, line_part, edge_part}, declared.page.GatheredPage.{GatheredPage}}
+use Rattle.html_page_text.specs.declared.seen.{Before.{Before}, Seen.{Seen}, Before.TheVariants.{Bare, Support, Blank}}
+use Rattle.html_page_text.specs.declared.shown.{PageText.{PageText}, Shown.{Shown}, Shown.TheVariants.{Text, Object, LineBreak, Edge}}
 
 -- a part, whose text is its characters
 abbrev pub part_view : Shown → Part

@@ -1,9 +1,7 @@
 -- Parts as plain text, in UTF-8: a line break and an edge are line feeds, except a leading or
 -- trailing edge, and an object is U+FFFC.
-use Rattle.std.specs.Prelude.{ℕ, Bool, true, false, List, [], ◌∷◌, if◌then◌else◌, string_bytes}
-use Rattle.std.specs.List.{flat_map}
-use Rattle.html_page_text.specs.declared.shown.Shown.{Shown}
-use Rattle.html_page_text.specs.declared.shown.Shown.TheVariants.{Text, Object, LineBreak, Edge}
+use Rattle.std.specs.{List.{flat_map}, Prelude.{ℕ, Bool, true, false, List, [], ◌∷◌, if◌then◌else◌, string_bytes}}
+use Rattle.html_page_text.specs.declared.shown.{Shown.{Shown}, Shown.TheVariants.{Text, Object, LineBreak, Edge}}
 
 abbrev pub part_bytes : Shown → List ℕ
 part_bytes (Text text) = string_bytes text

@@ -2,8 +2,7 @@
 -- elements, gives `display: none`, except `noscript`, which is visible if scripting is disabled.
 -- What other css hides, such as that of a `dialog` that is not open, counts as visible.
 use Rattle.std.specs.Prelude.{ℕ, Bool, not, ◌&&◌, ◌||◌, List, codes, bytes_eq, if◌then◌else◌, Option, option_map}
-use Rattle.html_names_core.specs.Displays.{default_display, is_hidden}
-use Rattle.html_names_core.specs.Names.{listed_names, stands_in}
+use Rattle.html_names_core.specs.{Displays.{default_display, is_hidden}, Names.{listed_names, stands_in}}
 use Rattle.html_dom_tree.specs.Attributes.{first, has_name}
 use Rattle.html_dom_tree.specs.Tree.{TextPair, tag_node, text_node, element_node, frame_node, NodesView, none, node, ElementView}
 use Rattle.html_dom_shown.specs.Values.{is_text}

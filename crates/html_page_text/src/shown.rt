@@ -1,8 +1,7 @@
 //! The visible parts of a page.
 
 ghost use Rattle.std.specs.Prelude.{◌≡◌};
-ghost use Rattle.html_page_text.specs.PageViews.{page_text_view, parts_view};
-ghost use Rattle.html_page_text.specs.PlainTexts.{before_edge, is_edge, part_bytes, past_edge};
+ghost use Rattle.html_page_text.specs.{PageViews.{page_text_view, parts_view}, PlainTexts.{before_edge, is_edge, part_bytes, past_edge}};
 
 use html_names_core::HtmlTag;
 use std::fmt;

@@ -1,8 +1,7 @@
 //! What an element's name and style mean for white space in it.
 
 ghost use Rattle.std.specs.Prelude.{◌≡◌, ◌||◌, IsTrue};
-ghost use Rattle.html_names_core.specs.Kinds.{is_line_break};
-ghost use Rattle.html_names_core.specs.Names.{is_ascii};
+ghost use Rattle.html_names_core.specs.{Kinds.{is_line_break}, Names.{is_ascii}};
 ghost use Rattle.html_dom_tree.specs.Views.{element_view, attrs_view};
 ghost use Rattle.html_dom_shown.specs.Collapsing.{has_border, has_border_display, preserves, style_is};
 

@@ -1,14 +1,10 @@
 //! The walk over a page's nodes.
 
 ghost use Rattle.std.specs.Prelude.{◌≡◌, IsTrue, OnOk, IfOk, option_map};
-ghost use Rattle.html_dom_tree.specs.Tree.{element_node, node, none};
-ghost use Rattle.html_dom_tree.specs.Views.{element_view, node_view, nodes_view};
+ghost use Rattle.html_dom_tree.specs.{Tree.{element_node, node, none}, Views.{element_view, node_view, nodes_view}};
 ghost use Rattle.html_dom_shown.specs.Bodies.{body_children};
-ghost use Rattle.html_page_text.specs.Gathering.{past_node, past_nodes};
-ghost use Rattle.html_page_text.specs.PageTexts.{page_parts};
-ghost use Rattle.html_page_text.specs.PageViews.{page_text_view, seen_view};
-ghost use Rattle.html_page_text.specs.Parts.{stand_apart};
-ghost use Rattle.html_page_text.specs.Unseen.{seen_element, seen_nodes};
+ghost use Rattle.html_page_text.specs.{Gathering.{past_node, past_nodes}, PageTexts.{page_parts}, PageViews.{page_text_view, seen_view}};
+ghost use Rattle.html_page_text.specs.{Parts.{stand_apart}, Unseen.{seen_element, seen_nodes}};
 
 use crate::seen::Seen;
 use crate::shown::PageText;

@@ -1,17 +1,12 @@
 -- Such a start tag is read by the rules of a body.
 use Rattle.std.proofs.Common.{◌≡◌, Bool, true, false, not, ◌&&◌, ◌||◌, List, [], ◌∷◌, refl, ap, ◌∙◌}
-use Rattle.std.proofs.lemmas.Bool.{and_parts, false≢true, not-true}
-use Rattle.std.specs.Prelude.{if◌then◌else◌}
+use Rattle.std.{proofs.lemmas.Bool.{and_parts, false≢true, not-true}, specs.Prelude.{if◌then◌else◌}}
 use Rattle.html_page_names.specs.PageNames.{of}
 use Rattle.html_page_names.specs.declared.kind.Kind.TheVariants as kind
-use Rattle.html_page_stack.specs.OpenElements.{OpenElement, is_html, is_in_foreign, mode}
-use Rattle.html_page_stack.specs.Pages.{Page, Start, StartTag}
-use Rattle.html_page_stack.specs.declared.modes.Mode.{Mode}
-use Rattle.html_page_stack.specs.declared.modes.Mode.TheVariants.{InBody, InCell}
-use Rattle.html_page_stack.specs.declared.modes.Space.{Space}
+use Rattle.html_page_stack.specs.{OpenElements.{OpenElement, is_html, is_in_foreign, mode}, Pages.{Page, Start, StartTag}}
+use Rattle.html_page_stack.specs.declared.modes.{Mode.{Mode}, Space.{Space}, Mode.TheVariants.{InBody, InCell}}
 use Rattle.html_page_stack.specs.declared.modes.Space.TheVariants.{Html, Svg, MathMl}
-use Rattle.html_page_tree.specs.BodyStarts.{begins_in, begins_in_body}
-use Rattle.html_page_tree.specs.PageBodies.{in_body_start}
+use Rattle.html_page_tree.specs.{BodyStarts.{begins_in, begins_in_body}, PageBodies.{in_body_start}}
 use Rattle.html_page_tree.specs.PageTrees.{by_mode, holds_html_in, holds_svg_in, holds_text_in, in_foreign, is_foreign_token, turn}
 
 stands : (s : Space) (o : OpenElement) (b c : Bool) → not (not (is_html s)) ≡ true →

@@ -1,8 +1,7 @@
 -- Where a page takes the end tag of the current node's name, the tag closes it.
 use Rattle.std.proofs.Common.{◌≡◌, arith, ℕ, Bool, true, false, not, ◌&&◌, ◌||◌, List, [], ◌∷◌, inl, inr, refl, sym, ap, subst, ◌∙◌, Ok, Err}
 use Rattle.std.proofs.lemmas.Bool.{and_from, and_parts, and_right, cases_Bool, false≢true, not-true, or_left, or_parts}
-use Rattle.std.proofs.lemmas.Option.{none-some, same_Some}
-use Rattle.std.proofs.lemmas.Slice.Eq.{bytes_eq-Decides}
+use Rattle.std.proofs.lemmas.{Option.{none-some, same_Some}, Slice.Eq.{bytes_eq-Decides}}
 use Rattle.std.specs.Prelude.{Option, Some, None, codes, if◌then◌else◌}
 use Rattle.html_page_names.specs.PageNames.{is, of}
 use Rattle.html_page_names.specs.declared.kind.Kind.TheVariants as kind
@@ -10,9 +9,7 @@ use Rattle.html_page_stack.specs.OpenElements.{OpenElement, bounds, current_name
 use Rattle.html_page_stack.specs.Pages.{Page, Reads, Token, End, ◌next◌, closed, closed_in, closed_over, closed_to, implied_closed, is_lost, loses_some, no_name, noted, noted_if, opened, refused, taken, taken_with, without_lost}
 use Rattle.html_page_stack.specs.declared.error.PageError.TheVariants as error
 use Rattle.html_page_stack.specs.declared.fault.PageRefusal.TheVariants as refusal
-use Rattle.html_page_stack.specs.declared.modes.Mode.{Mode}
-use Rattle.html_page_stack.specs.declared.modes.Mode.TheVariants.{InBody, InTable, InSection, InRow, InCell}
-use Rattle.html_page_stack.specs.declared.modes.Scope.{Scope}
+use Rattle.html_page_stack.specs.declared.modes.{Mode.{Mode}, Scope.{Scope}, Mode.TheVariants.{InBody, InTable, InSection, InRow, InCell}}
 use Rattle.html_page_stack.specs.declared.modes.Scope.TheVariants as scope
 use Rattle.html_page_tree.specs.OwnEnds.{closes_in, closes_in_body, closes_in_cell, is_of_table, takes_own_end}
 use Rattle.html_page_tree.specs.PageBodies.{adopted, element_ended, in_body_end, other_closed, p_closed, p_ended}

@@ -1,12 +1,11 @@
 -- Where a page takes text, each character is added to the current node.
 use Rattle.std.proofs.Common.{◌≡◌, ℕ, Bool, true, false, not, ◌||◌, List, [], ◌∷◌, refl, sym, ◌∙◌, Ok}
 use Rattle.std.proofs.lemmas.Bool.{and_parts, false≢true, not-true}
-use Rattle.html_page_stack.specs.OpenElements.{OpenElement, mode}
-use Rattle.html_page_tree.specs.PageTrees.{by_mode, is_foreign_token, is_unseen, processed, token_read, turn}
-use Rattle.html_page_stack.specs.Pages.{Page, Char, Taken, loses_some, reconstructed, with_char}
-use Rattle.html_page_tree.specs.TakenTexts.{mode_takes_text, takes_text}
+use Rattle.html_page_stack.specs.{OpenElements.{OpenElement, mode}, Pages.{Page, Char, Taken, loses_some, reconstructed, with_char}}
 use Rattle.html_page_stack.specs.declared.modes.Mode.{Mode}
 use Rattle.html_page_stack.specs.declared.modes.Mode.TheVariants.{BeforeHtml, BeforeHead, InHead, InHeadNoscript, AfterHead, InBody, InText, InTable, InCaption, InColumns, InSection, InRow, InCell}
+use Rattle.html_page_tree.specs.PageTrees.{by_mode, is_foreign_token, is_unseen, processed, token_read, turn}
+use Rattle.html_page_tree.specs.TakenTexts.{mode_takes_text, takes_text}
 
 kept : (p : Page) → not (loses_some p.lost) ≡ true → reconstructed p ≡ Ok p
 kept p h = rw (not-true (loses_some p.lost) h) refl

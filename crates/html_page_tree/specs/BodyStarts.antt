@@ -2,9 +2,7 @@
 use Rattle.std.specs.Prelude.{ℕ, Bool, true, false, not, ◌&&◌, List}
 use Rattle.html_page_names.specs.PageNames.{of}
 use Rattle.html_page_names.specs.declared.kind.Kind.TheVariants as kind
-use Rattle.html_page_stack.specs.OpenElements.{is_in_foreign, mode}
-use Rattle.html_page_stack.specs.Pages.{Page}
-use Rattle.html_page_stack.specs.declared.modes.Mode.{Mode}
+use Rattle.html_page_stack.specs.{OpenElements.{is_in_foreign, mode}, Pages.{Page}, declared.modes.Mode.{Mode}}
 use Rattle.html_page_stack.specs.declared.modes.Mode.TheVariants.{InBody, InCell}
 
 abbrev pub begins_in : Mode → (name : List ℕ) → Bool

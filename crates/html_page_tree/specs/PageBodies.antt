@@ -2,18 +2,15 @@
 -- 13.2.6.4.6).
 use Rattle.std.specs.Prelude.{ℕ, Bool, true, false, not, ◌&&◌, ◌||◌, ◌==◌, List, [], length, if◌then◌else◌, codes, map, Ok}
 use Rattle.html_dom_tree.specs.Tree.{TextPair}
-use Rattle.html_page_names.specs.ForeignNames.{svg_names, svg_attrs, math_attrs, with_capitals}
+use Rattle.html_page_names.specs.{ForeignNames.{svg_names, svg_attrs, math_attrs, with_capitals}, PageNames.{is, of}}
 use Rattle.html_page_stack.specs.OpenElements.{is_at, has, in_scope, is_near, is_active, has_item}
-use Rattle.html_page_names.specs.PageNames.{is, of}
 use Rattle.html_page_stack.specs.Pages.{Page, StartTag, Token, Char, Start, End, Finish, Reads, ◌next◌, refused, noted, noted_if, with_char, opened, opened_in, closed, closed_to, implied_closed, no_name, closed_over, closed_in, is_lost, without_lost, reconstructed, Turn, Taken, Again, taken, again, taken_with}
 use Rattle.html_page_stack.specs.declared.error.PageError.TheVariants as error
 use Rattle.html_page_stack.specs.declared.fault.PageRefusal.TheVariants as refusal
 use Rattle.html_page_names.specs.declared.kind.Kind.{Kind}
 use Rattle.html_page_names.specs.declared.kind.Kind.TheVariants as kind
 use Rattle.html_page_stack.specs.declared.modes.Scope.TheVariants as scope
-use Rattle.html_page_stack.specs.declared.modes.Space.{Space}
-use Rattle.html_page_stack.specs.declared.modes.Space.TheVariants.{Html, Svg, MathMl}
-use Rattle.html_page_stack.specs.declared.modes.TableRule.{TableRule}
+use Rattle.html_page_stack.specs.declared.modes.{Space.{Space}, TableRule.{TableRule}, Space.TheVariants.{Html, Svg, MathMl}}
 use Rattle.html_page_stack.specs.declared.modes.TableRule.TheVariants as rule
 
 -- whether it is a tab, LF, FF, CR or space; a CR comes only from a reference

@@ -1,22 +1,18 @@
 -- The steps of a token in a table (HTML Standard 13.2.6.4.9 to 13.2.6.4.15), in SVG and MathML
 -- (13.2.6.5), and in a page (13.2.6).
-use Rattle.std.specs.Prelude.{ℕ, zero, suc, Bool, true, false, not, ◌&&◌, ◌||◌, List, [], ◌∷◌, if◌then◌else◌, codes, Ok}
-use Rattle.std.specs.List.{list_any}
+use Rattle.std.specs.{List.{list_any}, Prelude.{ℕ, zero, suc, Bool, true, false, not, ◌&&◌, ◌||◌, List, [], ◌∷◌, if◌then◌else◌, codes, Ok}}
 use Rattle.html_dom_tree.specs.Tree.{TextPair}
-use Rattle.html_page_names.specs.ForeignNames.{lowered, is_encoding, is_font_attr, is_html_encoding}
+use Rattle.html_page_names.specs.{ForeignNames.{lowered, is_encoding, is_font_attr, is_html_encoding}, PageNames.{is, of}}
 use Rattle.html_page_stack.specs.OpenElements.{OpenElement, at, is_html, reaches, is_at, has, in_scope, mode, current_space, is_foreign_of}
-use Rattle.html_page_tree.specs.PageBodies.{is_space, leaf, repeated, head_element, entered, in_body, in_body_start, in_body_end, left, before, in_head, in_head_noscript, after_head, in_text}
-use Rattle.html_page_names.specs.PageNames.{is, of}
 use Rattle.html_page_stack.specs.Pages.{Page, StartTag, Token, Char, Start, End, Finish, Reads, ◌next◌, refused, noted, noted_if, with_char, opened, closed, closed_to, closed_to_goal, implied_closed, no_name, without_lost, Turn, Taken, Again, taken, again, taken_with}
+use Rattle.html_page_tree.specs.PageBodies.{is_space, leaf, repeated, head_element, entered, in_body, in_body_start, in_body_end, left, before, in_head, in_head_noscript, after_head, in_text}
 use Rattle.html_page_stack.specs.declared.error.PageError.TheVariants as error
 use Rattle.html_page_stack.specs.declared.fault.PageRefusal.TheVariants as refusal
 use Rattle.html_page_names.specs.declared.kind.Kind.TheVariants as kind
 use Rattle.html_page_stack.specs.declared.modes.Mode.{Mode}
 use Rattle.html_page_stack.specs.declared.modes.Mode.TheVariants.{BeforeHtml, BeforeHead, InHead, InHeadNoscript, AfterHead, InBody, InText, InTable, InCaption, InColumns, InSection, InRow, InCell}
 use Rattle.html_page_stack.specs.declared.modes.Scope.TheVariants as scope
-use Rattle.html_page_stack.specs.declared.modes.Space.{Space}
-use Rattle.html_page_stack.specs.declared.modes.Space.TheVariants.{Html, Svg, MathMl}
-use Rattle.html_page_stack.specs.declared.modes.TableRule.{TableRule}
+use Rattle.html_page_stack.specs.declared.modes.{Space.{Space}, TableRule.{TableRule}, Space.TheVariants.{Html, Svg, MathMl}}
 use Rattle.html_page_stack.specs.declared.modes.TableRule.TheVariants as rule
 
 -- opens a part of a table before the start tag

@@ -1,10 +1,8 @@
 -- When a page takes any text as it is.
 use Rattle.std.specs.Prelude.{Bool, true, false, not, ◌&&◌, ◌||◌}
-use Rattle.html_page_stack.specs.OpenElements.{mode}
-use Rattle.html_page_tree.specs.PageTrees.{is_foreign_token, is_unseen}
-use Rattle.html_page_stack.specs.Pages.{Page, Char, loses_some}
-use Rattle.html_page_stack.specs.declared.modes.Mode.{Mode}
+use Rattle.html_page_stack.specs.{OpenElements.{mode}, Pages.{Page, Char, loses_some}, declared.modes.Mode.{Mode}}
 use Rattle.html_page_stack.specs.declared.modes.Mode.TheVariants.{InBody, InText, InCaption, InCell}
+use Rattle.html_page_tree.specs.PageTrees.{is_foreign_token, is_unseen}
 
 -- whether the rules of the mode append each character to the current node: those of a text always
 -- do, and those of a body, a caption and a cell do if no formatting element is lost

@@ -1,8 +1,7 @@
 //! Other tokens in a body (HTML Standard 13.2.6.4.7).
 
 ghost use Rattle.std.specs.Prelude.{[], codes};
-ghost use Rattle.html_page_stack.specs.Endings.{Steps, Turns};
-ghost use Rattle.html_page_stack.specs.PageViews.{page_of, token_of};
+ghost use Rattle.html_page_stack.specs.{Endings.{Steps, Turns}, PageViews.{page_of, token_of}};
 ghost use Rattle.html_page_stack.specs.Pages as pages;
 ghost use Rattle.html_page_tree.specs.PageBodies as bodies;
 

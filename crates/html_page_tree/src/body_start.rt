@@ -3,9 +3,7 @@
 ghost use Rattle.std.specs.Prelude.{◌≡◌, [], codes};
 ghost use Rattle.html_dom_tree.specs.Views.{attrs_view};
 ghost use Rattle.html_page_names.specs.PageNames.{of};
-ghost use Rattle.html_page_stack.specs.Endings.{Steps, Turns};
-ghost use Rattle.html_page_stack.specs.OpenElements.{is_active};
-ghost use Rattle.html_page_stack.specs.PageViews.{page_of, start_of};
+ghost use Rattle.html_page_stack.specs.{Endings.{Steps, Turns}, OpenElements.{is_active}, PageViews.{page_of, start_of}};
 ghost use Rattle.html_page_stack.specs.Pages as pages;
 ghost use Rattle.html_page_tree.specs.PageBodies as bodies;
 

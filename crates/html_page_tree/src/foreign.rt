@@ -1,11 +1,9 @@
 //! Tokens in SVG and MathML (HTML Standard 13.2.6.5).
 
-ghost use Rattle.std.specs.List.{list_any};
-ghost use Rattle.std.specs.Prelude.{◌≡◌, IfErr, IfOk};
+ghost use Rattle.std.specs.{List.{list_any}, Prelude.{◌≡◌, IfErr, IfOk}};
 ghost use Rattle.html_dom_tree.specs.Views.{attrs_view};
 ghost use Rattle.html_page_names.specs.ForeignNames.{is_font_attr};
-ghost use Rattle.html_page_stack.specs.Endings.{Steps, Turns};
-ghost use Rattle.html_page_stack.specs.PageViews.{element_of, page_of, start_of, token_of};
+ghost use Rattle.html_page_stack.specs.{Endings.{Steps, Turns}, PageViews.{element_of, page_of, start_of, token_of}};
 ghost use Rattle.html_page_stack.specs.declared.fault.Halt.TheVariants.{OutOfMemory};
 ghost use Rattle.html_page_tree.specs.PageBodies as bodies;
 ghost use Rattle.html_page_tree.specs.PageTrees as trees;

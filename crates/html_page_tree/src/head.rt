@@ -2,8 +2,7 @@
 //! (13.2.6.4.8).
 
 ghost use Rattle.std.specs.Prelude.{◌≡◌, codes};
-ghost use Rattle.html_page_stack.specs.Endings.{Turns};
-ghost use Rattle.html_page_stack.specs.PageViews.{page_of, token_of};
+ghost use Rattle.html_page_stack.specs.{Endings.{Turns}, PageViews.{page_of, token_of}};
 ghost use Rattle.html_page_tree.specs.PageBodies as bodies;
 
 use crate::body_start::{add_to_head, open, open_implied, repeat};

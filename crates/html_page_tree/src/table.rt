@@ -2,8 +2,7 @@
 
 ghost use Rattle.std.specs.Prelude.{◌≡◌, codes};
 ghost use Rattle.html_page_names.specs.PageNames.{of};
-ghost use Rattle.html_page_stack.specs.Endings.{Steps, Turns};
-ghost use Rattle.html_page_stack.specs.PageViews.{page_of, start_of, target_test, token_of};
+ghost use Rattle.html_page_stack.specs.{Endings.{Steps, Turns}, PageViews.{page_of, start_of, target_test, token_of}};
 ghost use Rattle.html_page_tree.specs.PageTrees as trees;
 
 use crate::body_end::{in_body, in_body_end};

@@ -1,9 +1,7 @@
 //! The steps of a token in a page (HTML Standard 13.2.6).
 
 ghost use Rattle.std.specs.Prelude.{◌≡◌};
-ghost use Rattle.html_page_stack.specs.Endings.{Changes, Steps, Turns};
-ghost use Rattle.html_page_stack.specs.OpenElements.{mode};
-ghost use Rattle.html_page_stack.specs.PageViews.{page_of, start_of, token_of};
+ghost use Rattle.html_page_stack.specs.{Endings.{Changes, Steps, Turns}, OpenElements.{mode}, PageViews.{page_of, start_of, token_of}};
 ghost use Rattle.html_page_stack.specs.Pages as pages;
 ghost use Rattle.html_page_tree.specs.BodyStarts.{begins_in_body};
 ghost use Rattle.html_page_tree.specs.PageTrees as trees;

@@ -1,11 +1,8 @@
 -- Closing tags stand where a `<` does.
 use Rattle.std.proofs.Common.{◌≡◌, ℕ, false, ◌||◌, eqb, Some, None, List, [], ◌∷◌, ◌++◌, length, take, drop, chars, ◌+◌, map, arith, refl, ap, ◌∙◌, sym}
-use Rattle.std.specs.Char.{to_ascii_lowercase}
-use Rattle.std.specs.Str.{IsUtf8, NonePass, IsCharBoundary}
-use Rattle.std.specs.Str.Pattern.{FindsChar}
-use Rattle.std.proofs.lemmas.Bool.Decides.{nat_tests}
-use Rattle.std.proofs.lemmas.List.{take-append-drop}
+use Rattle.std.proofs.lemmas.{Bool.Decides.{nat_tests}, List.{take-append-drop}}
 use Rattle.std.proofs.lemmas.Str.{IsCharBoundary-before_ascii, IsUtf8-take, IsUtf8-drop, IsUtf8-past_char, chars-append, chars_from_encodes, chars_past_char}
+use Rattle.std.specs.{Char.{to_ascii_lowercase}, Str.{IsUtf8, NonePass, IsCharBoundary}, Str.Pattern.{FindsChar}}
 use Rattle.html_text.specs.ClosingTags as ending
 use lib.Utf8.{encode}
 

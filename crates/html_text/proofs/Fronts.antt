@@ -1,17 +1,12 @@
 -- Fronts of texts, of bytes that a table has, and of the characters that these bytes make.
 use Rattle.std.proofs.Common.{◌≡◌, ℕ, ◌+◌, ◌/◌, ◌<◌, ◌≤◌, zero, suc, Bool, true, false, not, ◌&&◌, cond, List, [], ◌∷◌, ◌++◌, bit_and, chars, drop, get_or, length, length-append, take, refl, sym, ap, subst, ◌∙◌, arith}
-use Rattle.std.specs.Prelude.{◌==◌, if◌then◌else◌, nat_le, nat_lt}
-use Rattle.std.specs.List.{list_all}
-use Rattle.std.specs.Str.{IsUtf8, IsAscii, IsCharBoundary}
-use Rattle.std.proofs.lemmas.Bool.{agree_below, agree_below_at, and_from, and_parts, ltb-true}
-use Rattle.std.proofs.lemmas.Bool.Decides.{nat_tests}
-use Rattle.std.proofs.lemmas.List.{get_or_past, take-append-drop}
-use Rattle.std.proofs.lemmas.List.Folds.{list_all-append, list_all_more}
+use Rattle.std.proofs.lemmas.{Bool.{agree_below, agree_below_at, and_from, and_parts, ltb-true}, List.{get_or_past, take-append-drop}}
 use Rattle.std.proofs.lemmas.Str.{IsUtf8-take, IsUtf8-drop, IsUtf8-from_ascii, chars-IsAscii, chars-append, encodes-chars, scalars-chars}
-use Rattle.std.proofs.lemmas.Str.Ascii.{IsAscii-nil, IsAscii-cons}
+use Rattle.std.proofs.lemmas.{Bool.Decides.{nat_tests}, List.Folds.{list_all-append, list_all_more}, Str.Ascii.{IsAscii-nil, IsAscii-cons}}
+use Rattle.std.specs.{List.{list_all}, Prelude.{◌==◌, if◌then◌else◌, nat_le, nat_lt}, Str.{IsUtf8, IsAscii, IsCharBoundary}}
 use Rattle.html_names_core.specs.Characters.{all, is_tag_char}
-use Rattle.html_text.specs.Fronts.{BeginsWith, CutsAll, SplitsFront, StopsBetween, begins_with, has_byte, is_common, is_name_char}
 use Rattle.html_text.proofs.Words.{own_bytes}
+use Rattle.html_text.specs.Fronts.{BeginsWith, CutsAll, SplitsFront, StopsBetween, begins_with, has_byte, is_common, is_name_char}
 use lib.Dec.{ltb, leb}
 use lib.Utf8.{scalar, scalars, encode, encodes, next}
 

@@ -1,10 +1,8 @@
 -- Places, one character after the other.
 use Rattle.std.proofs.Common.{◌++◌, length, length-append, ◌≡◌, ℕ, zero, suc, ◌+◌, ◌-◌, ◌<◌, ◌≤◌, List, [], ◌∷◌, take, refl, ap, arith}
-use Rattle.std.specs.Char.{len_utf8}
-use Rattle.std.proofs.lemmas.Str.{length-encode, len_utf8_bounds}
+use Rattle.std.{proofs.lemmas.Str.{length-encode, len_utf8_bounds}, specs.Char.{len_utf8}}
 use lib.Utf8.{encode}
-use Rattle.html_text.specs.Places.{next_place, place_behind}
-use Rattle.html_text.specs.declared.place.Place.{Place}
+use Rattle.html_text.specs.{Places.{next_place, place_behind}, declared.place.Place.{Place}}
 
 -- of those that are to come, the first is passed
 pub one_more : (p : Place) (count done c : ℕ) (cs : List ℕ) → done < count →

@@ -1,18 +1,12 @@
 -- Closing tags at the end of a text, by its bytes and by its characters.
 use Rattle.std.proofs.Common.{◌≡◌, ℕ, suc, eqb, ◌+◌, ◌-◌, ◌<◌, ◌≤◌, Bool, true, List, [], ◌∷◌, ◌++◌, bytes_eq, chars, codes, drop, take, map, refl, sym, ap, ◌∙◌, subst, arith, length, get_or, length-append, length-drop}
-use Rattle.std.specs.Char.{to_ascii_lowercase}
-use Rattle.std.specs.Str.{IsUtf8, IsAscii, IsCharBoundary}
-use Rattle.std.proofs.lemmas.Bool.Decides.{nat_tests}
-use Rattle.std.proofs.lemmas.List.{take-append-drop, length-map, get_or-drop, take_rest}
-use Rattle.std.proofs.lemmas.Slice.Eq.{bytes_eq-Decides}
+use Rattle.std.proofs.lemmas.{Bool.Decides.{nat_tests}, List.{take-append-drop, length-map, get_or-drop, take_rest}}
 use Rattle.std.proofs.lemmas.Str.{chars-append, chars-IsAscii, encodes-chars, encodes-append, encodes-IsAscii, IsUtf8-take, IsCharBoundary-before_ascii}
-use Rattle.std.proofs.lemmas.Str.Ascii.{IsAscii-nil, IsAscii-cons, IsAscii-map, lowercase_ascii}
+use Rattle.std.proofs.lemmas.{Slice.Eq.{bytes_eq-Decides}, Str.Ascii.{IsAscii-nil, IsAscii-cons, IsAscii-map, lowercase_ascii}}
+use Rattle.std.specs.{Char.{to_ascii_lowercase}, Str.{IsUtf8, IsAscii, IsCharBoundary}}
 use lib.Utf8.{encodes}
-use Rattle.html_names_core.specs.Characters.{IsOf, is_tag_char}
-use Rattle.html_names_core.proofs.Basics.{last_dropped, last_taken}
-use Rattle.html_text.specs.ClosingTags.{is_tag_end, closing, ends_closing}
-use Rattle.html_text.specs.RawEnds.{EndsAt, ends_in}
-use Rattle.html_text.proofs.TagNames.{name_ascii}
+use Rattle.html_names_core.{proofs.Basics.{last_dropped, last_taken}, specs.Characters.{IsOf, is_tag_char}}
+use Rattle.html_text.{proofs.TagNames.{name_ascii}, specs.ClosingTags.{is_tag_end, closing, ends_closing}, specs.RawEnds.{EndsAt, ends_in}}
 
 -- what a slice to the end holds
 pub end_is : (xs ys : List ℕ) (k : ℕ) → ys ≡ xs → take (length ys - k) (drop k ys) ≡ drop k xs

@@ -1,12 +1,8 @@
 -- Names of tags, which are ASCII.
 use Rattle.std.proofs.Common.{◌≡◌, ℕ, Bool, true, List, [], ◌∷◌, chars, refl, sym, ◌∙◌, arith}
-use Rattle.std.specs.List.{list_all}
-use Rattle.std.specs.Str.{IsUtf8, IsAscii}
-use Rattle.std.proofs.lemmas.Bool.{and_from}
-use Rattle.std.proofs.lemmas.Str.{encodes-chars, encodes-IsAscii}
-use Rattle.html_names_core.specs.Characters.{IsOf, all, is_tag_char}
-use Rattle.html_names_core.proofs.Basics.{is_ascii_is}
-use Rattle.html_names_core.proofs.Faults.{tag_ascii}
+use Rattle.std.proofs.lemmas.{Bool.{and_from}, Str.{encodes-chars, encodes-IsAscii}}
+use Rattle.std.specs.{List.{list_all}, Str.{IsUtf8, IsAscii}}
+use Rattle.html_names_core.{proofs.Basics.{is_ascii_is}, proofs.Faults.{tag_ascii}, specs.Characters.{IsOf, all, is_tag_char}}
 
 pub name_ascii : (n : List ℕ) → IsOf is_tag_char n → IsAscii n
 name_ascii n h = is_ascii_is n (tag_ascii n h)

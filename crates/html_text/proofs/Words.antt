@@ -1,16 +1,11 @@
 -- Words of ASCII in a text, by its characters.
 use Rattle.std.proofs.Common.{◌≡◌, ℕ, ◌<◌, true, false, List, [], ◌∷◌, ◌++◌, drop, refl, sym, ap, ◌∙◌, arith, bytes_eq, chars, length, subst}
-use Rattle.std.specs.Str.{IsAscii, IsUtf8}
-use Rattle.std.specs.Str.Pattern.{HasCharAt}
-use Rattle.std.proofs.lemmas.Str.Ascii.{IsAscii-cons, IsAscii-nil}
-use Rattle.std.proofs.lemmas.Bool.{false_from_ne_true}
-use Rattle.std.proofs.lemmas.Bool.Decides.{Decides-eqb}
-use Rattle.std.proofs.lemmas.List.{take_at}
-use Rattle.std.proofs.lemmas.Slice.Eq.{starts_is}
+use Rattle.std.proofs.lemmas.{Bool.{false_from_ne_true}, List.{take_at}}
 use Rattle.std.proofs.lemmas.Str.{IsAscii-take, chars-IsAscii, chars-append, encodes-chars, encode_ascii, encodes-append, encodes-IsAscii, IsUtf8-from_ascii}
+use Rattle.std.proofs.lemmas.{Bool.Decides.{Decides-eqb}, Slice.Eq.{starts_is}, Str.Ascii.{IsAscii-cons, IsAscii-nil}}
+use Rattle.std.specs.{Str.{IsAscii, IsUtf8}, Str.Pattern.{HasCharAt}}
 use lib.Utf8.{encode, encodes}
-use Rattle.html_names_core.specs.Names.{is_ascii}
-use Rattle.html_names_core.proofs.Basics.{is_ascii_is, bytes_eq-same}
+use Rattle.html_names_core.{proofs.Basics.{is_ascii_is, bytes_eq-same}, specs.Names.{is_ascii}}
 use Rattle.html_text.specs.Words.{begins}
 
 pub chars_behind_word : (n s rest : List ℕ) → is_ascii n ≡ true → s ≡ n ++ rest →

@@ -1,7 +1,7 @@
 -- Where the text of a raw element ends: before the first `</`, the name in any ASCII case, and an
 -- ending character (HTML Standard 13.1.2.6).
-use Rattle.std.specs.Prelude.{ℕ, ◌-◌, Bool, false, ◌||◌, ◌&&◌, ◌==◌, List, [], ◌∷◌, ◌++◌, codes, bytes_eq, take, drop, length, map}
 use Rattle.std.specs.Char.{to_ascii_lowercase}
+use Rattle.std.specs.Prelude.{ℕ, ◌-◌, Bool, false, ◌||◌, ◌&&◌, ◌==◌, List, [], ◌∷◌, ◌++◌, codes, bytes_eq, take, drop, length, map}
 
 -- tab, LF, FF, CR, space, `>`, `/`
 unfoldable pub is_tag_end : ℕ → Bool

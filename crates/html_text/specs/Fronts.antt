@@ -1,6 +1,6 @@
 -- Fronts of texts: characters of a class, which are found by their bytes and taken at once.
-use Rattle.std.specs.Prelude.{◌≡◌, ℕ, ◌+◌, ◌≤◌, ◌==◌, Bool, true, false, not, ◌||◌, ◌&&◌, nat_le, List, [], ◌∷◌, ◌++◌, bit_and, chars, get_or, length}
 use Rattle.std.specs.List.{list_all}
+use Rattle.std.specs.Prelude.{◌≡◌, ℕ, ◌+◌, ◌≤◌, ◌==◌, Bool, true, false, not, ◌||◌, ◌&&◌, nat_le, List, [], ◌∷◌, ◌++◌, bit_and, chars, get_or, length}
 use Rattle.std.specs.Str.{IsUtf8}
 use Rattle.html_names_core.specs.Characters.{all, is_digit, is_hyphen, is_lower}
 

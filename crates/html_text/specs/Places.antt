@@ -1,6 +1,5 @@
 -- Places in a text.
-use Rattle.std.specs.Prelude.{ℕ, ◌+◌, ◌==◌, List, [], ◌∷◌, take, if◌then◌else◌}
-use Rattle.std.specs.Char.{len_utf8}
+use Rattle.std.specs.{Char.{len_utf8}, Prelude.{ℕ, ◌+◌, ◌==◌, List, [], ◌∷◌, take, if◌then◌else◌}}
 use Rattle.html_text.specs.declared.place.Place.{Place}
 
 -- the beginning of a text: no byte is before it, and lines and columns are counted from 1

@@ -1,6 +1,5 @@
 -- Where the text of a raw element ends, by its bytes.
-use Rattle.std.specs.Prelude.{◌≡◌, ℕ, ◌-◌, Bool, true, ◌&&◌, List, bytes_eq, chars, drop, length, map, take}
-use Rattle.std.specs.Char.{to_ascii_lowercase}
+use Rattle.std.specs.{Char.{to_ascii_lowercase}, Prelude.{◌≡◌, ℕ, ◌-◌, Bool, true, ◌&&◌, List, bytes_eq, chars, drop, length, map, take}}
 use Rattle.std.specs.Str.{IsCharBoundary}
 use Rattle.html_text.specs.ClosingTags.{is_tag_end, ends_closing, ends_exact, before_closing}
 

@@ -1,7 +1,6 @@
 //! Closing tags in a raw text, which would end it.
 
-ghost use Rattle.std.specs.Prelude.{◌≡◌, ◌∷◌, chars, map};
-ghost use Rattle.std.specs.Char.{to_ascii_lowercase};
+ghost use Rattle.std.specs.{Char.{to_ascii_lowercase}, Prelude.{◌≡◌, ◌∷◌, chars, map}};
 ghost use Rattle.html_text.specs.ClosingTags as ending;
 
 /// Returns whether a closing tag's name ends before the character.

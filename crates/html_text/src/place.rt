@@ -1,8 +1,6 @@
 //! Places in a text.
 
-ghost use Rattle.std.specs.Prelude.{◌≡◌, ◌+◌, ◌^◌, ◌<◌, ◌==◌, chars};
-ghost use Rattle.std.specs.Char.{len_utf8};
-ghost use Rattle.std.specs.List.{common_prefix_len};
+ghost use Rattle.std.specs.{Char.{len_utf8}, List.{common_prefix_len}, Prelude.{◌≡◌, ◌+◌, ◌^◌, ◌<◌, ◌==◌, chars}};
 ghost use Rattle.html_text.specs.Places.{next_place, place_at};
 
 use std::fmt;
@@ -21,8 +19,7 @@ pub struct Place {
 
 /// Formats the place as `line:column`, as in `3:14`.
 impl fmt::Display for Place {
-    ghost use Rattle.std.specs.Prelude.{◌++◌, codes, Some};
-    ghost use Rattle.std.specs.Fmt.{decimal};
+    ghost use Rattle.std.specs.{Fmt.{decimal}, Prelude.{◌++◌, codes, Some}};
 
     ghost output = { λ place. Some (decimal place.line ++ (codes ":" ++ decimal place.column)) };
 

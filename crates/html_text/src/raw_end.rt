@@ -1,9 +1,7 @@
 //! The end of the text of a raw element.
 
-ghost use Rattle.std.specs.Prelude.{◌≡◌, ◌↔◌, ◌<◌, ◌≤◌, IsTrue, MatchOption, false, chars, length, map};
-ghost use Rattle.std.specs.Char.{to_ascii_lowercase};
-ghost use Rattle.html_names_core.specs.Characters.{IsOf, is_tag_char};
-ghost use Rattle.html_names_core.specs.Names.{is_ascii};
+ghost use Rattle.std.specs.{Char.{to_ascii_lowercase}, Prelude.{◌≡◌, ◌↔◌, ◌<◌, ◌≤◌, IsTrue, MatchOption, false, chars, length, map}};
+ghost use Rattle.html_names_core.specs.{Characters.{IsOf, is_tag_char}, Names.{is_ascii}};
 ghost use Rattle.html_text.specs.ClosingTags as ending;
 ghost use Rattle.html_text.specs.RawEnds.{EndsAt, ends_in, ends_raw};
 

@@ -1,6 +1,5 @@
 -- The first and the last byte of a text are a comma just where its first and last characters are.
-use Rattle.std.proofs.Common.{◌≡◌, ℕ, ◌-◌, List, length, ◌==◌, chars, IsUtf8, arith}
-use Rattle.std.specs.Prelude.{slice_index}
+use Rattle.std.{proofs.Common.{◌≡◌, ℕ, ◌-◌, List, length, ◌==◌, chars, IsUtf8, arith}, specs.Prelude.{slice_index}}
 use Rattle.html_names_core.proofs.EndChars.{first_chars, last_chars}
 
 pub first_comma : (bs : List ℕ) → IsUtf8 bs

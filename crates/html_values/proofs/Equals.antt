@@ -1,12 +1,7 @@
 -- Texts are equal where their characters are, and candidates where their texts and widths are.
-use Rattle.std.proofs.Common.{◌≡◌, ◌==◌, ◌&&◌, ℕ, Bool}
-use Rattle.std.specs.Bool.{Decides}
-use Rattle.std.specs.Int.NonZero.{non_zero_u64_get}
-use Rattle.std.specs.Option.{option_eq}
-use Rattle.std.specs.String.{string_eq}
-use Rattle.std.proofs.lemmas.Bool.Decides.{Decides-eqb}
-use Rattle.html_values.specs.AttrTexts.{image_candidate_view}
-use Rattle.html_values.specs.declared.image.ImageCandidate.{ImageCandidate}
+use Rattle.std.proofs.{Common.{◌≡◌, ◌==◌, ◌&&◌, ℕ, Bool}, lemmas.Bool.Decides.{Decides-eqb}}
+use Rattle.std.specs.{Bool.{Decides}, Option.{option_eq}, String.{string_eq}, Int.NonZero.{non_zero_u64_get}}
+use Rattle.html_values.specs.{AttrTexts.{image_candidate_view}, declared.image.ImageCandidate.{ImageCandidate}}
 use Rattle.html_values_css.proofs.Equals.{options_decide, pairs_decide, text_decides}
 
 -- where a number decides a width

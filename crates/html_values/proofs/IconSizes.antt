@@ -1,9 +1,7 @@
 -- Arrays that are no pair.
 use Rattle.std.proofs.Common.{◌≡◌, ◌<◌, ◌≤◌, List, [], ◌∷◌, length, refl, arith}
-use Rattle.html_values.specs.Casts.{icon_size, refuses}
-use Rattle.html_values.specs.Values.{values_view}
+use Rattle.html_values.specs.{Casts.{icon_size, refuses}, Values.{values_view}, declared.value.Value.{Value}}
 use Rattle.html_values_css.specs.declared.cast_fault.CastFault.TheVariants.{WrongKind}
-use Rattle.html_values.specs.declared.value.Value.{Value}
 
 pub too_few : (vs : List Value) → length vs < 2 → icon_size (values_view vs) ≡ refuses WrongKind
 too_few [] h = refl

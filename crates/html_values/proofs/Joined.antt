@@ -1,8 +1,7 @@
 -- The texts of a list's items, made one by one.
 use Rattle.std.proofs.Common.{◌≡◌, ℕ, List, ◌++◌, Ok, Err, refl, subst}
-use Rattle.html_values_css.specs.CastFaults.{IsFirst}
+use Rattle.html_values_css.specs.{CastFaults.{IsFirst}, declared.cast_fault.CastFault.{CastFault}}
 use Rattle.html_values.specs.Casts.{CastAnswer, gives, nothing, refuses, answer_faults, Texts, item_answer}
-use Rattle.html_values_css.specs.declared.cast_fault.CastFault.{CastFault}
 
 -- texts that are made, and those of the items that are left
 abbrev pub after : List (List ℕ) → Texts → Texts

@@ -1,8 +1,6 @@
 -- Counts that are added one by one.
 use Rattle.std.proofs.Common.{◌≡◌, ℕ, zero, suc, ◌<◌, ◌^◌, List, [], ◌∷◌, ◌++◌, length, refl, ap, ◌∙◌, sym, append_assoc, arith}
-use Rattle.std.specs.Fmt.{decimal}
-use Rattle.std.proofs.lemmas.List.{length-append}
-use Rattle.std.proofs.lemmas.Fmt.{decimal_nonempty}
+use Rattle.std.{proofs.lemmas.Fmt.{decimal_nonempty}, proofs.lemmas.List.{length-append}, specs.Fmt.{decimal}}
 use Rattle.html_values.specs.AttrTexts.{gap_after, texts_with_gap, count_text}
 
 spaced-first : (ys : List ℕ) → texts_with_gap [] ys ≡ ys

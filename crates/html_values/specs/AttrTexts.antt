@@ -1,17 +1,13 @@
 -- The texts of typed values in attributes, each a list of characters (this project's table of
 -- values).
-use Rattle.std.specs.Prelude.{ℕ, ℤ, pos, negsuc, unsigned_abs, zero, suc, ltb, ◌&&◌, ◌/◌, ◌%◌, ◌==◌, List, [], ◌∷◌, ◌++◌, codes, Bool, true, false, if◌then◌else◌, Option, None, Some, option_map}
 use Rattle.std.specs.Fmt.{decimal}
+use Rattle.std.specs.Prelude.{ℕ, ℤ, pos, negsuc, unsigned_abs, zero, suc, ltb, ◌&&◌, ◌/◌, ◌%◌, ◌==◌, List, [], ◌∷◌, ◌++◌, codes, Bool, true, false, if◌then◌else◌, Option, None, Some, option_map}
 use Rattle.std.specs.Int.NonZero.{non_zero_u64_get}
 use Rattle.html_names_core.specs.Texts.{text_view, two_digits}
-use Rattle.html_values.specs.declared.image.ImageCandidate.{ImageCandidate}
-use Rattle.html_values_css.specs.declared.direction.Dir.{Dir}
-use Rattle.html_values_css.specs.declared.direction.Dir.TheVariants.{LTR, RTL, TTB, BTT}
-use Rattle.html_values.specs.declared.words.HorizontalDir.{HorizontalDir}
-use Rattle.jiff_core.specs.declared.civil.date.Date.{Date as CivilDate}
-use Rattle.jiff_core.specs.declared.civil.time.Time.{Time as CivilTime}
-use Rattle.html_values.specs.declared.moment.Moment.{Moment}
-use Rattle.html_values.specs.declared.moment.Moment.TheVariants.{Date, Time, DateTime}
+use Rattle.html_values.specs.declared.{image.ImageCandidate.{ImageCandidate}, moment.Moment.{Moment}}
+use Rattle.html_values.specs.declared.{moment.Moment.TheVariants.{Date, Time, DateTime}, words.HorizontalDir.{HorizontalDir}}
+use Rattle.html_values_css.specs.declared.direction.{Dir.{Dir}, Dir.TheVariants.{LTR, RTL, TTB, BTT}}
+use Rattle.jiff_core.specs.declared.civil.{date.Date.{Date as CivilDate}, time.Time.{Time as CivilTime}}
 
 -- the word for a Boolean
 abbrev pub word_of : List ℕ → List ℕ → Bool → List ℕ

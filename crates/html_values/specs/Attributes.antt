@@ -1,6 +1,5 @@
 -- The contract of a call that returns a text: the result is this text, unless the call fails.
-use Rattle.std.specs.Prelude.{ℕ, List, IfOk, ◌≡◌, Result, String}
-use Rattle.std.specs.declared.alloc.Global.{Global}
+use Rattle.std.specs.{Prelude.{ℕ, List, IfOk, ◌≡◌, Result, String}, declared.alloc.Global.{Global}}
 use Rattle.html_names_core.specs.Texts.{text_view}
 
 abbrev pub IsText : {E : Type 0} → Result (String Global) E → List ℕ → Type 0

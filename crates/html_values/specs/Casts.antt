@@ -1,24 +1,16 @@
 -- Casts: which values a type of attribute accepts, and the text, nothing, or refusal that each
 -- becomes (this project's table of casts).
+use Rattle.std.specs.{Fmt.{decimal, signed_decimal}, List.{join_by, list_any}}
 use Rattle.std.specs.Prelude.{ℕ, ℤ, pos, negsuc, zero, suc, ◌==◌, List, [], ◌∷◌, codes, Bool, true, false, ◌&&◌, ◌||◌, if◌then◌else◌, Option, None, Some, Result, Ok, Err, ◌≡◌, String, Vec, option_map, length, slice_index, ◌-◌}
-use Rattle.std.specs.Int.NonZero.{non_zero_u64_get}
-use Rattle.std.specs.Fmt.{decimal, signed_decimal}
-use Rattle.std.specs.List.{join_by, list_any}
-use Rattle.std.specs.declared.alloc.Global.{Global}
-use Rattle.html_names_core.specs.Names.{stands_in}
-use Rattle.html_names_core.specs.Texts.{text_view, texts_view}
-use Rattle.html_values_css.specs.CastFaults.{IsFirst}
-use Rattle.html_values_css.specs.Colors.{color_text}
-use Rattle.html_values_css.specs.Endings.{Gives}
-use Rattle.html_values_css.specs.declared.direction.Dir.{Dir}
-use Rattle.html_values_css.specs.declared.direction.Dir.TheVariants.{LTR, RTL, TTB, BTT}
+use Rattle.std.specs.{Int.NonZero.{non_zero_u64_get}, declared.alloc.Global.{Global}}
+use Rattle.html_names_core.specs.{Names.{stands_in}, Texts.{text_view, texts_view}}
+use Rattle.html_values_css.specs.{CastFaults.{IsFirst}, Colors.{color_text}, Endings.{Gives}, declared.cast_fault.CastFault.{CastFault}}
+use Rattle.html_values_css.specs.declared.cast_fault.CastFault.TheVariants.{WrongKind, NotInStrings, NumberRange, NotOneChar, VerticalDir, BadImageSource, SeparatorInItem, YearRange}
+use Rattle.html_values_css.specs.declared.direction.{Dir.{Dir}, Dir.TheVariants.{LTR, RTL, TTB, BTT}}
 use Rattle.html_values.specs.AttrTexts.{word_of, dir_text, has_year, moment_text, duration_text, size_text, candidate_text}
 use Rattle.html_values.specs.Types.{AttrTypeView, presence, native, strings, union, list, AttrTypesView, no_attr_types, attr_type}
 use Rattle.html_values.specs.Values.{ValueView, none_value, auto_value, bool_value, int_value, str_value, color_value, datetime_value, duration_value, dir_value, image_value, array_value, ValuesView, no_values, value}
-use Rattle.html_values.specs.declared.image.ImageCandidate.{ImageCandidate}
-use Rattle.html_values_css.specs.declared.cast_fault.CastFault.{CastFault}
-use Rattle.html_values_css.specs.declared.cast_fault.CastFault.TheVariants.{WrongKind, NotInStrings, NumberRange, NotOneChar, VerticalDir, BadImageSource, SeparatorInItem, YearRange}
-use Rattle.html_values.specs.declared.native_type.NativeType.{NativeType}
+use Rattle.html_values.specs.declared.{image.ImageCandidate.{ImageCandidate}, native_type.NativeType.{NativeType}}
 
 -- the result of casting a value to an attribute of a type
 pub data CastAnswer : Type 0 where

@@ -1,10 +1,7 @@
 -- Equality of moments.
 use Rattle.std.specs.Prelude.{ℕ, ℤ}
-use Rattle.jiff_core.specs.Date.{epoch_day}
-use Rattle.jiff_core.specs.Time.{time_nanos}
-use Rattle.jiff_core.specs.DateTime.{civil_nanos}
-use Rattle.html_values.specs.declared.moment.Moment.{Moment}
-use Rattle.html_values.specs.declared.moment.Moment.TheVariants.{Date, Time, DateTime}
+use Rattle.jiff_core.specs.{Date.{epoch_day}, DateTime.{civil_nanos}, Time.{time_nanos}}
+use Rattle.html_values.specs.declared.moment.{Moment.{Moment}, Moment.TheVariants.{Date, Time, DateTime}}
 
 -- a moment as a number: the day from 1970-01-01 on, the nanosecond of a day, or the nanosecond from
 -- 1970-01-01 on

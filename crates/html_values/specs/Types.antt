@@ -1,10 +1,8 @@
 -- Types of attributes, as pure values.
-use Rattle.std.specs.Prelude.{ℕ, List, [], ◌∷◌, map, Bool}
-use Rattle.std.specs.Box.{box_value}
+use Rattle.std.specs.{Box.{box_value}, Prelude.{ℕ, List, [], ◌∷◌, map, Bool}}
 use Rattle.html_names_core.specs.Texts.{texts_view}
+use Rattle.html_values.specs.declared.attr_type.{AttrType.{AttrType, AttrType-F, fold-AttrType}, ListType.{ListType, ListType-F}}
 use Rattle.html_values.specs.declared.native_type.NativeType.{NativeType}
-use Rattle.html_values.specs.declared.attr_type.AttrType.{AttrType, AttrType-F, fold-AttrType}
-use Rattle.html_values.specs.declared.attr_type.ListType.{ListType, ListType-F}
 
 mutual
   pub data AttrTypeView : Type 0 where

@@ -1,10 +1,8 @@
 -- Values of a document, as pure values.
 use Rattle.std.specs.Prelude.{ℕ, ℤ, List, [], ◌∷◌, map, Bool, Option}
 use Rattle.html_names_core.specs.Texts.{text_view}
-use Rattle.html_values_css.specs.declared.direction.Dir.{Dir}
-use Rattle.html_values_css.specs.declared.paint.Rgba.{Rgba}
-use Rattle.html_values.specs.declared.moment.Moment.{Moment}
-use Rattle.html_values.specs.declared.value.Value.{Value, Value-F, fold-Value}
+use Rattle.html_values_css.specs.declared.{direction.Dir.{Dir}, paint.Rgba.{Rgba}}
+use Rattle.html_values.specs.declared.{moment.Moment.{Moment}, value.Value.{Value, Value-F, fold-Value}}
 
 mutual
   pub data ValueView : Type 0 where

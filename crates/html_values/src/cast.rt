@@ -1,10 +1,8 @@
 //! Functions that casts share.
 
-ghost use Rattle.std.specs.Prelude.{◌≡◌, ◌++◌, ◌==◌, chars, IfOk, IfErr, OnOk, Ok, Err};
-ghost use Rattle.std.specs.List.{flat_map, join_by, list_any};
+ghost use Rattle.std.specs.{List.{flat_map, join_by, list_any}, Prelude.{◌≡◌, ◌++◌, ◌==◌, chars, IfOk, IfErr, OnOk, Ok, Err}};
 ghost use Rattle.std.specs.Str.{bytes_eq};
-ghost use Rattle.html_names_core.specs.Names.{stands_in};
-ghost use Rattle.html_names_core.specs.Texts.{text_view, texts_view};
+ghost use Rattle.html_names_core.specs.{Names.{stands_in}, Texts.{text_view, texts_view}};
 ghost use Rattle.html_values.specs.Attributes.{IsText};
 ghost use Rattle.html_values.specs.Casts.{option_answer, list_separator_text, item_answer, gives, GivesCast, text_answer, text_result, item_text, strings_cast};
 ghost use Rattle.html_values.specs.Values.{value_view};

@@ -1,10 +1,8 @@
 //! Spans of time, written as duration strings such as `1w 2d`.
 
 ghost use Rattle.std.specs.Prelude.{◌≡◌, ◌++◌, OnOk, codes, IsTrue};
-ghost use Rattle.html_names_core.specs.Names.{is_ascii};
-ghost use Rattle.html_names_core.specs.Texts.{text_view};
-ghost use Rattle.html_values.specs.AttrTexts.{counts_text, count_text, gap_after, texts_with_gap};
-ghost use Rattle.html_values.specs.Attributes.{IsText};
+ghost use Rattle.html_names_core.specs.{Names.{is_ascii}, Texts.{text_view}};
+ghost use Rattle.html_values.specs.{AttrTexts.{counts_text, count_text, gap_after, texts_with_gap}, Attributes.{IsText}};
 
 use crate::into_attr::IntoAttr;
 use crate::text::ascii;

@@ -1,7 +1,6 @@
 //! Icon sizes and image candidates, written `16x16` and `x.png 480w`.
 
-ghost use Rattle.std.specs.Prelude.{option_map};
-ghost use Rattle.std.specs.Int.NonZero.{non_zero_u64_get};
+ghost use Rattle.std.specs.{Int.NonZero.{non_zero_u64_get}, Prelude.{option_map}};
 ghost use Rattle.html_names_core.specs.Texts.{text_view};
 ghost use Rattle.html_values.specs.AttrTexts.{size_text, candidate_text};
 

@@ -1,12 +1,9 @@
 //! The trait of values with a text as an attribute, and the texts of strings, numbers and colours.
 
-ghost use Rattle.std.specs.Prelude.{ℕ, List, ◌∷◌, []};
-ghost use Rattle.std.specs.Fmt.{decimal, signed_decimal};
-ghost use Rattle.std.specs.Int.NonZero.{non_zero_i64_get, non_zero_u64_get};
+ghost use Rattle.std.specs.{Fmt.{decimal, signed_decimal}, Prelude.{ℕ, List, ◌∷◌, []}, Int.NonZero.{non_zero_i64_get, non_zero_u64_get}};
 ghost use Rattle.html_names_core.specs.Texts.{text_view};
 ghost use Rattle.html_values_css.specs.Colors.{color_text};
-ghost use Rattle.html_values.specs.AttrTexts.{dir_text};
-ghost use Rattle.html_values.specs.Attributes.{IsText};
+ghost use Rattle.html_values.specs.{AttrTexts.{dir_text}, Attributes.{IsText}};
 
 use crate::text::ascii;
 use html_names_core::text_writer::TextWriter;

@@ -3,8 +3,7 @@
 
 ghost use Rattle.std.specs.Prelude.{◌≡◌, ◌↔◌, IsTrue};
 ghost use Rattle.html_names_core.specs.Texts.{text_view};
-ghost use Rattle.html_values.specs.AttrTexts.{image_candidate_view};
-ghost use Rattle.html_values.specs.Moments.{moment_view};
+ghost use Rattle.html_values.specs.{AttrTexts.{image_candidate_view}, Moments.{moment_view}};
 
 use crate::duration::Duration;
 use crate::image::{IconSize, ImageCandidate};

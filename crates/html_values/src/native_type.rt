@@ -1,7 +1,7 @@
 //! Types of attributes that accept values of one kind, and how each casts a value to a text.
 
-ghost use Rattle.std.specs.Prelude.{◌≡◌, IfOk, IfErr, None, Some, length, slice_index, ◌-◌, ◌==◌, [], ◌∷◌, chars, option_map};
 ghost use Rattle.std.specs.Int.NonZero.{non_zero_u64_get};
+ghost use Rattle.std.specs.Prelude.{◌≡◌, IfOk, IfErr, None, Some, length, slice_index, ◌-◌, ◌==◌, [], ◌∷◌, chars, option_map};
 ghost use Rattle.html_names_core.specs.Texts.{text_view};
 ghost use Rattle.html_values.specs.AttrTexts.{horizontal_text, size_text};
 ghost use Rattle.html_values.specs.Casts.{candidate_answer, GivesCast, Finds, horizontal, icon_size, image, int_of, is_bad_source, native_cast, native_castable, natural, one_char, positive, text_answer, gives};

@@ -1,8 +1,7 @@
 //! Functions that create simple texts.
 
 ghost use Rattle.std.specs.Prelude.{◌≡◌, [], IsTrue};
-ghost use Rattle.html_names_core.specs.Names.{is_ascii};
-ghost use Rattle.html_names_core.specs.Texts.{text_view};
+ghost use Rattle.html_names_core.specs.{Names.{is_ascii}, Texts.{text_view}};
 ghost use Rattle.html_values.specs.Attributes.{IsText};
 
 use std::alloc::{AllocError, Global};

@@ -1,7 +1,6 @@
 -- Lists that begin with another.
 use Rattle.std.proofs.Common.{◌≡◌, List, [], ◌++◌, length, take, drop, sym, ap, ◌∙◌, append_assoc, append-nil}
-use Rattle.std.proofs.lemmas.List.{take-append-drop}
-use Rattle.std.proofs.Math.Seq.{take-append_seam}
+use Rattle.std.proofs.{Math.Seq.{take-append_seam}, lemmas.List.{take-append-drop}}
 use Rattle.html_values_css.specs.Sink.{StartsWith}
 
 pub StartsWith-same : {A : Type 0} (xs ys : List A) → ys ≡ xs → StartsWith ys xs

@@ -1,12 +1,8 @@
 -- A colour's text is ASCII.
 use Rattle.std.proofs.Common.{◌≡◌, ℕ, ◌<◌, ◌/◌, ◌%◌, [], ◌∷◌, ◌++◌, Bool, true, false, if◌then◌else◌, ◌==◌, codes, chars, arith}
-use Rattle.std.specs.Str.{IsAscii}
-use Rattle.std.specs.Fmt.{digit_glyph}
-use Rattle.std.proofs.lemmas.Bool.Decides.{nat_tests}
-use Rattle.std.proofs.lemmas.Str.{chars-IsAscii, IsAscii-append}
-use Rattle.std.proofs.lemmas.Str.Ascii.{IsAscii-nil, IsAscii-cons}
-use Rattle.html_values_css.specs.Colors.{hex_byte, alpha_text, color_text}
-use Rattle.html_values_css.specs.declared.paint.Rgba.{Rgba}
+use Rattle.std.proofs.lemmas.{Bool.Decides.{nat_tests}, Str.{chars-IsAscii, IsAscii-append}, Str.Ascii.{IsAscii-nil, IsAscii-cons}}
+use Rattle.std.specs.{Fmt.{digit_glyph}, Str.{IsAscii}}
+use Rattle.html_values_css.specs.{Colors.{hex_byte, alpha_text, color_text}, declared.paint.Rgba.{Rgba}}
 
 glyph_ascii : (d : ℕ) → d < 16 → digit_glyph false d < 128
 glyph_ascii d h = grind (arith, nat_tests)

@@ -2,11 +2,8 @@
 use Rattle.std.proofs.Common.{◌≡◌, ℕ, zero, suc, ◌<◌, ◌≤◌, ◌^◌, ◌/◌, ◌%◌, ◌-◌, ◌+◌, ◌*◌, List, [], ◌∷◌, ◌++◌, sub-one, append_assoc, append-nil, arith}
 use Rattle.std.proofs.Math.Nat.{one-le-pow, div-lt_iff_lt-mul, div-le_self}
 use native.Mathlib.Numerals.{unary_clauses}
-use Rattle.std.proofs.Common.{ℤ, pos, negsuc, chars}
-use Rattle.std.specs.Str.{IsAscii}
-use Rattle.std.proofs.lemmas.Str.{chars-IsAscii, IsAscii-append}
-use Rattle.std.proofs.lemmas.Str.Ascii.{IsAscii-nil, IsAscii-cons}
-use Rattle.std.proofs.lemmas.Fmt.{IsAscii-decimal}
+use Rattle.std.proofs.{Common.{ℤ, pos, negsuc, chars}, lemmas.Fmt.{IsAscii-decimal}, lemmas.Str.{chars-IsAscii, IsAscii-append}}
+use Rattle.std.{proofs.lemmas.Str.Ascii.{IsAscii-nil, IsAscii-cons}, specs.Str.{IsAscii}}
 use Rattle.html_values_css.specs.Quantities.{IsQuantity, nearest_hundreds, fraction_digits, point_text, sign_text, fixed_text}
 
 pub power_bound : (k : ℕ) → k < 5 → 10 ^ k < 2 ^ 64

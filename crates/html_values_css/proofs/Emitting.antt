@@ -1,13 +1,9 @@
 -- What is appended to a writer, one after another.
 use Rattle.std.proofs.Common.{◌≡◌, ℕ, List, [], ◌∷◌, ◌++◌, if◌then◌else◌, Result, Ok, Err, is_ok, refl, sym, ap, subst, ◌∙◌, chars, IsUtf8}
-use Rattle.std.specs.declared.alloc.AllocError.{AllocError}
-use Rattle.std.proofs.Math.Bool.{or-false}
+use Rattle.std.{proofs.Math.Bool.{or-false}, specs.declared.alloc.AllocError.{AllocError}}
 use Rattle.html_names_core.proofs.Texts.{chars_add}
-use Rattle.html_values_css.specs.Sink.{SinkAnswers}
-use Rattle.html_values_css.specs.Writer.{WriterState, Emits}
-use Rattle.html_values_css.specs.declared.sink.Warning.{Warning}
-use Rattle.html_values_css.proofs.Beginnings.{StartsWith-same, StartsWith-append}
-use Rattle.html_values_css.proofs.Giving.{not_begun, interrupted_more}
+use Rattle.html_values_css.proofs.{Beginnings.{StartsWith-same, StartsWith-append}, Giving.{not_begun, interrupted_more}}
+use Rattle.html_values_css.specs.{Sink.{SinkAnswers}, Writer.{WriterState, Emits}, declared.sink.Warning.{Warning}}
 
 both_none : (first second : List Warning) → first ++ second ≡ [] → (first ≡ []) × (second ≡ [])
 both_none [] second none = (refl, none)

@@ -3,19 +3,12 @@ use Rattle.std.proofs.Common.{◌≡◌, List, [], ◌∷◌, map, Bool, ◌++�
 use Rattle.std.specs.Hash as fed
 use Rattle.std.proofs.lemmas.Str.{encodes-chars, IsUtf8-string_bytes}
 use lib.Utf8.{encodes}
-use Rattle.html_names_core.specs.Hashes.{pair_writes, pairs_writes}
-use Rattle.html_names_core.proofs.Equals.{hashed}
-use Rattle.std.specs.Bool.{Decides}
-use Rattle.std.specs.String.{string_eq}
-use Rattle.std.proofs.lemmas.Slice.Eq.{bytes_eq-Decides}
-use Rattle.std.specs.Option.{option_eq}
-use Rattle.std.proofs.lemmas.Bool.Decides.{Decides-and}
-use Rattle.std.proofs.lemmas.Option.{none-some, same_Some}
+use Rattle.html_names_core.{proofs.Equals.{hashed}, specs.Hashes.{pair_writes, pairs_writes}}
+use Rattle.std.proofs.lemmas.{Bool.Decides.{Decides-and}, Option.{none-some, same_Some}, Slice.Eq.{bytes_eq-Decides}}
+use Rattle.std.specs.{Bool.{Decides}, Option.{option_eq}, String.{string_eq}}
 use lib.Pointwise.{pointwise}
-use Rattle.html_names_core.specs.Texts.{text_view}
-use Rattle.html_names_core.proofs.Texts.{text_views}
-use Rattle.html_values_css.specs.Properties.{property_view, list_view}
-use Rattle.html_values_css.specs.declared.property.Property.{Property}
+use Rattle.html_names_core.{proofs.Texts.{text_views}, specs.Texts.{text_view}}
+use Rattle.html_values_css.specs.{Properties.{property_view, list_view}, declared.property.Property.{Property}}
 use Rattle.html_values_css.specs.contracts.property.PropertyPartialEq.TheImpl as block
 use Rattle.html_values_css.specs.contracts.property.PropertyHash.TheImpl as hashing
 

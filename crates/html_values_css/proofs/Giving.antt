@@ -2,8 +2,8 @@
 use Rattle.std.proofs.Common.{◌≡◌, List, [], ◌∷◌, ◌++◌, Result, Ok, Err, inl, inr, sym, ap, subst, ◌∙◌, append_assoc, append-nil, Vec, Global, Option}
 use base.Fml.{GName}
 use Rattle.std.specs.declared.alloc.AllocError.{AllocError}
-use Rattle.html_values_css.specs.Sink.{SinkAnswers, TakesWarning, Given, Interrupted, Hands, KeepsWarning, AddsAtMost, StartsWith, GivenVector, HandsBegin}
 use Rattle.html_values_css.proofs.Beginnings.{StartsWith-same, StartsWith-append, StartsWith-trans}
+use Rattle.html_values_css.specs.Sink.{SinkAnswers, TakesWarning, Given, Interrupted, Hands, KeepsWarning, AddsAtMost, StartsWith, GivenVector, HandsBegin}
 use Rattle.html_values_css.specs.declared.sink.Warning.{Warning}
 
 module _ {S : Type 0} (takes : SinkAnswers S) where

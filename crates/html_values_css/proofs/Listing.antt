@@ -2,18 +2,12 @@
 -- Each pair is seen by
 -- a view of what the list holds.
 use Rattle.std.proofs.Common.{◌≡◌, ℕ, zero, suc, ◌+◌, ◌<◌, ◌≤◌, List, [], ◌∷◌, length, map, get_or, set, refl, ap, ◌∙◌, Bool, true, false, cond, arith}
+use Rattle.std.proofs.lemmas.{Cmp.{tied_back}, List.Sorted.{searchable_from_sorted}, Map.Keys.{sorted_head, sorted_tail}}
+use Rattle.std.specs.{BTreeMap.{insert_entry, is_at}, Cmp.{IsTotalOrder}, List.{AllByRecursion, AllWithin, HoldsAt, insert, remove}}
+use Rattle.std.specs.{Map.{keys_of, remove_entry}, Ordering.{match_ordering, is_lt, ordering_reverse}}
 use Rattle.std.specs.Prelude.{Result, Ok, Err, MatchResult}
-use Rattle.std.specs.List.{AllByRecursion, AllWithin, HoldsAt, insert, remove}
-use Rattle.std.specs.List.Sorted.{IsStrictlySortedBy, IsBinarySearchResult, IsSearchInRange, IsSortedBy}
-use Rattle.std.specs.Map.{keys_of, remove_entry}
-use Rattle.std.specs.BTreeMap.{insert_entry, is_at}
-use Rattle.std.specs.declared.cmp.Ordering.{Ordering}
+use Rattle.std.specs.{List.Sorted.{IsStrictlySortedBy, IsBinarySearchResult, IsSearchInRange, IsSortedBy}, declared.cmp.Ordering.{Ordering}}
 use Rattle.std.specs.declared.cmp.Ordering.TheVariants.{Less, Equal, Greater}
-use Rattle.std.specs.Ordering.{match_ordering, is_lt, ordering_reverse}
-use Rattle.std.specs.Cmp.{IsTotalOrder}
-use Rattle.std.proofs.lemmas.Cmp.{tied_back}
-use Rattle.std.proofs.lemmas.List.Sorted.{searchable_from_sorted}
-use Rattle.std.proofs.lemmas.Map.Keys.{sorted_head, sorted_tail}
 use Rattle.html_values_css.specs.Search.{IsFound, IsGap}
 
 module _ {A K X : Type 0} {R : K → K → Ordering} (o : IsTotalOrder R) (f : A → K × X) where

@@ -1,17 +1,11 @@
 -- The byte order of names.
 use Rattle.std.proofs.Common.{◌≡◌, ℕ, zero, suc, ◌<◌, ◌≤◌, List, [], ◌∷◌, arith, ap, ◌∙◌, chars, IsUtf8, String, Global, Result, Ok, Err}
-use Rattle.std.specs.Result.{OnOk, OnErr}
-use Rattle.std.specs.List.{AllWithin, HoldsAt}
-use Rattle.std.specs.List.Sorted.{IsStrictlySortedBy}
+use Rattle.std.proofs.lemmas.{Cmp.{on_total, nat_cmp_total}, Str.{encodes-chars}}
+use Rattle.std.specs.{Cmp.{IsTotalOrder}, List.{AllWithin, HoldsAt}, Ordering.{nat_cmp}, Result.{OnOk, OnErr}}
+use Rattle.std.specs.{Cmp.Lexicographic.{slice_cmp, lists_total}, List.Sorted.{IsStrictlySortedBy}}
 use Rattle.std.specs.declared.cmp.Ordering.TheVariants.{Less, Equal, Greater}
-use Rattle.html_names_core.specs.Texts.{TextPair}
-use Rattle.html_names_core.specs.declared.refused.Refused.{Refused}
+use Rattle.html_names_core.specs.{Texts.{TextPair}, declared.refused.Refused.{Refused}}
 use Rattle.html_values_css.proofs.Listing.{drop_found, drop_gap, listed_with, listed_without}
-use Rattle.std.specs.Cmp.{IsTotalOrder}
-use Rattle.std.specs.Cmp.Lexicographic.{slice_cmp, lists_total}
-use Rattle.std.specs.Ordering.{nat_cmp}
-use Rattle.std.proofs.lemmas.Cmp.{on_total, nat_cmp_total}
-use Rattle.std.proofs.lemmas.Str.{encodes-chars}
 use lib.Utf8.{encodes}
 use Rattle.html_values_css.specs.Properties.{by_name, IsListed, list_view, property_name, property_view, with_property, without}
 use Rattle.html_values_css.specs.declared.property.Property.{Property}

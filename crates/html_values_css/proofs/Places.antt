@@ -1,20 +1,15 @@
 -- What stands before a place of a text that grows, and what stands after it.
 use Rattle.std.proofs.Common.{◌≡◌, ℕ, ◌≤◌, List, [], ◌++◌, length, take, drop, Bool, false, ◌||◌, Result, Ok, Err, refl, sym, ap, subst, ◌∙◌, append_assoc, append-nil, codes, chars, IsUtf8, arith}
+use Rattle.std.proofs.Math.{Bool.{or-false}, Seq.{drop-append_seam}}
 use Rattle.std.proofs.lemmas.List.{take-append-drop, take-append-le, drop_all, append_cancel_left, length-append, length-take-le}
-use Rattle.std.proofs.Math.Seq.{drop-append_seam}
-use Rattle.std.proofs.lemmas.Str.{chars-nil, chars-append, encodes-chars, encodes-append}
-use Rattle.std.specs.Result.{OnOk, OnErr}
+use Rattle.std.{proofs.lemmas.Str.{chars-nil, chars-append, encodes-chars, encodes-append}, specs.Result.{OnOk, OnErr}}
 use Rattle.std.specs.declared.alloc.AllocError.{AllocError}
-use Rattle.std.proofs.Math.Bool.{or-false}
 use lib.Utf8.{encodes}
 use Rattle.html_names_core.proofs.Lists.{chars_ascii}
-use Rattle.html_values_css.specs.Calc.{next_part_text, with_opening}
-use Rattle.html_values_css.specs.Sums.{Part, Parts, Zero, One, More, with_part}
-use Rattle.html_values_css.specs.Sink.{StartsWith, SinkAnswers, Hands}
-use Rattle.html_values_css.specs.Writer.{WriterState, Emits, SumsUp, fails}
+use Rattle.html_values_css.proofs.{Beginnings.{StartsWith-append, StartsWith-trans, rest_of}, Giving.{hands_then}}
+use Rattle.html_values_css.specs.{Calc.{next_part_text, with_opening}, Sink.{StartsWith, SinkAnswers, Hands}}
+use Rattle.html_values_css.specs.{Sums.{Part, Parts, Zero, One, More, with_part}, Writer.{WriterState, Emits, SumsUp, fails}}
 use Rattle.html_values_css.specs.declared.sink.Warning.{Warning}
-use Rattle.html_values_css.proofs.Giving.{hands_then}
-use Rattle.html_values_css.proofs.Beginnings.{StartsWith-append, StartsWith-trans, rest_of}
 
 grown : (b d : List ℕ) → IsUtf8 b → IsUtf8 d → StartsWith (chars d) (chars b) → d ≡ b
     ++ encodes (drop (length (chars b)) (chars d))

@@ -1,32 +1,21 @@
 -- Pushes as steps of a finite map, and that their order does not matter.
 use Rattle.std.proofs.Common.{◌≡◌, arith, ℕ, length, List, [], ◌∷◌, Bool, true, false, cond, ◌&&◌, bytes_eq, Option, Some, None, refl, sym, ap, ◌∙◌, subst, is_some, true≢false}
-use Rattle.std.specs.Prelude.{T}
-use Rattle.std.specs.Bool.{Decides, one_answer}
-use Rattle.std.specs.List.{AllByRecursion, IsDistinct, Contains}
-use Rattle.std.specs.List.Sorted.{IsPermutation}
-use Rattle.std.specs.Map.{keys_of, lookup}
-use Rattle.std.specs.BTreeMap.{is_at}
-use Rattle.std.specs.Option.{option_or}
-use Rattle.std.specs.declared.cmp.Ordering.{Ordering}
-use Rattle.std.specs.declared.cmp.Ordering.TheVariants.{Less, Equal, Greater}
-use Rattle.std.specs.Ordering.{eq_by_cmp, match_ordering}
-use Rattle.std.specs.Cmp.{IsEquivalence, Equal-is}
-use Rattle.std.specs.FinMap.Entries.{find, put, is_sorted, below_all, by_order, find-put, same_entries}
-use Rattle.std.proofs.lemmas.Cmp.{tied_itself, eq_by_cmp_equiv}
-use Rattle.std.proofs.lemmas.Map.{lookup-none, lookup-remove_entry}
-use Rattle.std.proofs.lemmas.Map.Keys.{IsDistinct-from_sorted, IsDistinct-IsPermutation, IsDistinct-tail, sorted_head, sorted_tail}
-use Rattle.std.proofs.lemmas.Map.Entries.{place_from_lookup, lookup_from_place, none_past_head}
-use Rattle.std.proofs.lemmas.Map.Lookups.{exact_bytes}
-use Rattle.std.proofs.lemmas.Option.{slice_get_within, slice_get_read, get_or_from_slice_get}
+use Rattle.std.proofs.lemmas.{Cmp.{tied_itself, eq_by_cmp_equiv}, Map.{lookup-none, lookup-remove_entry}}
+use Rattle.std.proofs.lemmas.{Option.{slice_get_within, slice_get_read, get_or_from_slice_get}, Str.{encodes_same}}
 use Rattle.std.proofs.lemmas.List.Sorted.{IsPermutation-map, IsPermutation-sym, Contains-permutation}
-use Rattle.std.proofs.lemmas.Slice.Eq.{bytes_eq-Decides}
-use Rattle.std.proofs.lemmas.Str.{encodes_same}
+use Rattle.std.proofs.lemmas.Map.Entries.{place_from_lookup, lookup_from_place, none_past_head}
+use Rattle.std.proofs.lemmas.Map.Keys.{IsDistinct-from_sorted, IsDistinct-IsPermutation, IsDistinct-tail, sorted_head, sorted_tail}
+use Rattle.std.proofs.lemmas.{Map.Lookups.{exact_bytes}, Slice.Eq.{bytes_eq-Decides}}
+use Rattle.std.specs.{BTreeMap.{is_at}, Bool.{Decides, one_answer}, Cmp.{IsEquivalence, Equal-is}}
+use Rattle.std.specs.{List.{AllByRecursion, IsDistinct, Contains}, Map.{keys_of, lookup}, Option.{option_or}}
+use Rattle.std.specs.{Ordering.{eq_by_cmp, match_ordering}, Prelude.{T}}
+use Rattle.std.specs.{FinMap.Entries.{find, put, is_sorted, below_all, by_order, find-put, same_entries}, List.Sorted.{IsPermutation}}
+use Rattle.std.specs.declared.cmp.{Ordering.{Ordering}, Ordering.TheVariants.{Less, Equal, Greater}}
 use lib.Utf8.{encodes}
 use Rattle.html_names_core.specs.Texts.{TextPair}
+use Rattle.html_values_css.proofs.{Listing.{listed_with}, Names.{by_name_total}}
 use Rattle.html_values_css.specs.Properties.{by_name, IsListed, value_of, with_property, inline_text}
 use Rattle.html_values_css.specs.PropertyLaws.{properties_after, AnyOrder, PushSets, RemoveClears, ValuesDecide}
-use Rattle.html_values_css.proofs.Names.{by_name_total}
-use Rattle.html_values_css.proofs.Listing.{listed_with}
 
 -- names compare alike where they are equal
 exact : (a b : List ℕ) → by_name a b ≡ Equal → a ≡ b

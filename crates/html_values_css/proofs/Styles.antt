@@ -1,10 +1,9 @@
 -- The text of a `style` attribute in bytes.
 use Rattle.std.proofs.Common.{◌≡◌, ℕ, List, [], ◌∷◌, ◌++◌, codes, chars, IsUtf8, string_bytes, refl, ap, ◌∙◌}
-use Rattle.std.specs.List.{flat_map}
 use Rattle.std.proofs.lemmas.Str.{chars-append, chars-nil, IsUtf8-append, encodes-append, encodes-chars, IsUtf8-string_bytes}
+use Rattle.std.specs.List.{flat_map}
 use lib.Utf8.{encodes}
-use Rattle.html_names_core.specs.Texts.{text_view}
-use Rattle.html_names_core.proofs.Lists.{chars_ascii}
+use Rattle.html_names_core.{proofs.Lists.{chars_ascii}, specs.Texts.{text_view}}
 use Rattle.html_values_css.specs.Properties.{property_view, list_view, declaration, following_pairs, inline_text}
 use Rattle.html_values_css.specs.declared.property.Property.{Property}
 

@@ -1,13 +1,9 @@
 -- What a sum writes part by part is its text.
 use Rattle.std.proofs.Common.{◌≡◌, arith, ℕ, ℤ, List, [], ◌∷◌, ◌++◌, not, Result, Ok, Err, refl, ap, subst, ◌∙◌, append_assoc, append-nil, codes}
-use Rattle.std.specs.List.{filter, flat_map}
-use Rattle.std.specs.declared.alloc.AllocError.{AllocError}
-use Rattle.html_values_css.specs.Quantities.{is_zero}
+use Rattle.std.specs.{List.{filter, flat_map}, declared.alloc.AllocError.{AllocError}}
+use Rattle.html_values_css.{proofs.Giving.{handed_none}, specs.Quantities.{is_zero}, specs.Sink.{StartsWith, SinkAnswers}}
 use Rattle.html_values_css.specs.Sums.{Part, Parts, Zero, One, More, following_part, whole_sum, sum_text, written_sum, next_parts, next_text, next_warnings, sum_end, quantity_part}
-use Rattle.html_values_css.specs.Writer.{WriterState, Emits, SumsUp}
-use Rattle.html_values_css.specs.Sink.{StartsWith, SinkAnswers}
-use Rattle.html_values_css.specs.declared.sink.Warning.{Warning}
-use Rattle.html_values_css.proofs.Giving.{handed_none}
+use Rattle.html_values_css.specs.{Writer.{WriterState, Emits, SumsUp}, declared.sink.Warning.{Warning}}
 
 abbrev shown : List Part → List Part
 shown ps = filter (λ p. not (is_zero p.number)) ps

@@ -1,15 +1,10 @@
 -- A quantity's text has its value.
 use Rattle.std.proofs.Common.{◌≡◌, ℕ, zero, suc, ◌+◌, ◌*◌, ◌<◌, ◌/◌, ◌%◌, ◌^◌, ◌==◌, ℤ, pos, negsuc, neg_ℤ, List, [], ◌∷◌, ◌++◌, length, take, drop, true, false, Some, option_map, refl, ap, ◌∙◌, codes, append_assoc, arith}
-use Rattle.std.proofs.Math.Seq.{take-append_seam, drop-append_seam}
-use Rattle.std.proofs.lemmas.Bool.Decides.{nat_tests}
-use Rattle.std.proofs.lemmas.Fmt.{decimal_is_IsNumeral}
-use Rattle.std.specs.List.{prefix_len}
-use Rattle.std.specs.Char.{digit_value}
-use Rattle.std.specs.Fmt.{decimal}
-use Rattle.std.specs.Str.Parse.{AllDigits, digits_value}
-use Rattle.html_values_css.specs.Quantities.{IsQuantity, nearest_hundreds, fraction_digits, point_text, sign_text, fixed_text, abs_text, em_text, ratio_text}
-use Rattle.html_values_css.specs.Lengths.{Amounts, nothing, negative_amounts, is_digit, digits_of, after_digits, decimals, in_unit, behind, unsigned_value, part_value, round}
+use Rattle.std.proofs.{Math.Seq.{take-append_seam, drop-append_seam}, lemmas.Bool.Decides.{nat_tests}, lemmas.Fmt.{decimal_is_IsNumeral}}
+use Rattle.std.specs.{Char.{digit_value}, Fmt.{decimal}, List.{prefix_len}, Str.Parse.{AllDigits, digits_value}}
 use Rattle.html_values_css.proofs.Digits.{whole_fits, leading_digit, power_above}
+use Rattle.html_values_css.specs.Lengths.{Amounts, nothing, negative_amounts, is_digit, digits_of, after_digits, decimals, in_unit, behind, unsigned_value, part_value, round}
+use Rattle.html_values_css.specs.Quantities.{IsQuantity, nearest_hundreds, fraction_digits, point_text, sign_text, fixed_text, abs_text, em_text, ratio_text}
 
 -- what no number begins with
 abbrev pub Ends : List ℕ → Type 0

@@ -1,17 +1,14 @@
 -- The text of a sum is worth the sum of its parts.
 use Rattle.std.proofs.Common.{◌≡◌, ℕ, zero, suc, ◌<◌, ◌/◌, ◌%◌, ◌^◌, ◌==◌, ℤ, pos, negsuc, neg_ℤ, List, [], ◌∷◌, ◌++◌, length, map, Bool, true, false, not, cond, if◌then◌else◌, Some, option_map, refl, sym, ap, ◌∙◌, codes, append_assoc, append-nil, arith}
-use Rattle.std.specs.List.{AllByRecursion, filter, flat_map}
-use Rattle.std.specs.Fmt.{decimal}
-use Rattle.std.specs.Str.Parse.{AllDigits}
-use Rattle.std.proofs.lemmas.Bool.Decides.{nat_tests}
-use Rattle.std.proofs.lemmas.Fmt.{decimal_is_IsNumeral}
+use Rattle.std.proofs.lemmas.{Bool.Decides.{nat_tests}, Fmt.{decimal_is_IsNumeral}}
+use Rattle.std.specs.{Fmt.{decimal}, List.{AllByRecursion, filter, flat_map}, Str.Parse.{AllDigits}}
 use lib.IntN.{+ℤ_idl, +ℤ_idr}
 use Rattle.html_names_core.specs.Names.{listed_names}
-use Rattle.html_values_css.specs.Quantities.{IsQuantity, is_zero, is_negative, nearest_hundreds, point_text, sign_text, fixed_text}
-use Rattle.html_values_css.specs.Sums.{Part, following_part, whole_sum, sum_text, quantity_part}
-use Rattle.html_values_css.specs.Lengths.{Amounts, nothing, negative_amounts, amounts_sum, both, part_value, value_with_sign, terms, sum_value, before_close, of_body, css_value, round, LengthValue, RelValue}
 use Rattle.html_values_css.proofs.Digits.{whole_fits, power_above}
 use Rattle.html_values_css.proofs.Values.{of_abs, of_em, of_ratio, abs_value, em_value, ratio_value, fraction_all}
+use Rattle.html_values_css.specs.Lengths.{Amounts, nothing, negative_amounts, amounts_sum, both, part_value, value_with_sign, terms, sum_value, before_close, of_body, css_value, round, LengthValue, RelValue}
+use Rattle.html_values_css.specs.Quantities.{IsQuantity, is_zero, is_negative, nearest_hundreds, point_text, sign_text, fixed_text}
+use Rattle.html_values_css.specs.Sums.{Part, following_part, whole_sum, sum_text, quantity_part}
 
 abbrev pub IsWord : List ℕ → Type 0
 IsWord = AllByRecursion (λ c. (c == 32) ≡ false)

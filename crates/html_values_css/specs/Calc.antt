@@ -1,9 +1,7 @@
 -- The text that a sum has written, and the text before it.
 use Rattle.std.specs.Prelude.{◌≡◌, ◌≤◌, ℕ, ℤ, List, ◌++◌, codes, take, drop, length, chars, string_bytes}
-use Rattle.html_values_css.specs.Sums.{Part, Parts, Zero, One, More, following_part}
-use Rattle.html_values_css.specs.Writer.{WriterState}
-use Rattle.html_values_css.specs.declared.sink.Warning.{Warning}
-use Rattle.html_values_css.specs.declared.writer.CssWriter.{CssWriter}
+use Rattle.html_values_css.specs.{Sums.{Part, Parts, Zero, One, More, following_part}, Writer.{WriterState}}
+use Rattle.html_values_css.specs.declared.{sink.Warning.{Warning}, writer.CssWriter.{CssWriter}}
 
 -- the text of the writer before a sum, and what the sum has written, as a writer of its own
 abbrev pub text_before : {S : Type 0} → ℕ → CssWriter S → List ℕ

@@ -1,14 +1,10 @@
 -- The parts of a call's text (CSS Values 4, functional notation).
-use Rattle.std.specs.Prelude.{◌≡◌, ℕ, List, [], Bool, if◌then◌else◌, codes, Result}
-use Rattle.std.specs.Borrow.{Fml, RattleType, MutBor, RestsIfErr}
+use Rattle.std.specs.{Borrow.{Fml, RattleType, MutBor, RestsIfErr}, Prelude.{◌≡◌, ℕ, List, [], Bool, if◌then◌else◌, codes, Result}}
 use Rattle.std.specs.declared.alloc.AllocError.{AllocError}
-use Rattle.html_values_css.specs.declared.call.Separator.{Separator}
-use Rattle.html_values_css.specs.declared.call.Separator.TheVariants.{Space, Slash}
-use Rattle.html_values_css.specs.declared.call.Call.{Call}
+use Rattle.html_values_css.specs.declared.call.{Call.{Call}, Separator.{Separator}, Separator.TheVariants.{Space, Slash}}
 use Rattle.html_values_css.specs.declared.writer.CssWriter.{CssWriter}
 use Rattle.html_values_css.specs.contracts.writer.CssWriter as writer
-use Rattle.html_values_css.specs.Sink.{StartsWith}
-use Rattle.html_values_css.specs.Writer.{WriterState, writer_state}
+use Rattle.html_values_css.specs.{Sink.{StartsWith}, Writer.{WriterState, writer_state}}
 
 abbrev pub separator_text : Separator → List ℕ
 separator_text Space = codes " "

@@ -1,6 +1,5 @@
 -- The css text of a colour (CSS Color 4, section 5.2, hexadecimal notation).
-use Rattle.std.specs.Prelude.{ℕ, ◌/◌, ◌%◌, ◌==◌, List, [], ◌∷◌, ◌++◌, codes, if◌then◌else◌, false}
-use Rattle.std.specs.Fmt.{digit_glyph}
+use Rattle.std.specs.{Fmt.{digit_glyph}, Prelude.{ℕ, ◌/◌, ◌%◌, ◌==◌, List, [], ◌∷◌, ◌++◌, codes, if◌then◌else◌, false}}
 use Rattle.html_values_css.specs.declared.paint.Rgba.{Rgba}
 
 -- a byte in two lowercase hexadecimal digits

@@ -1,12 +1,10 @@
 -- The value of a length's css text (CSS Values 4: dimensions, percentages and `calc()`), in whole
 -- millionths.
+use Rattle.std.specs.{Char.{digit_value}, List.{take_while, prefix_len}}
 use Rattle.std.specs.Prelude.{◌≡◌, ℕ, suc, ◌≤◌, ◌<◌, ◌+◌, ◌*◌, ◌/◌, nat_lt, ◌==◌, ℤ, pos, negsuc, neg_ℤ, ◌+ℤ◌, List, [], ◌∷◌, codes, take, drop, bytes_eq, Bool, if◌then◌else◌, Option, Some, None, option_map}
-use Rattle.std.specs.List.{take_while, prefix_len}
-use Rattle.std.specs.Char.{digit_value}
 use Rattle.std.specs.Str.Parse.{digits_value}
 use Rattle.html_names_core.specs.Names.{listed_names}
-use Rattle.html_values_css.specs.Quantities.{IsQuantity}
-use Rattle.html_values_css.specs.Sums.{length_text, rel_text}
+use Rattle.html_values_css.specs.{Quantities.{IsQuantity}, Sums.{length_text, rel_text}}
 
 -- amounts by unit: millionths of one, of an em, of a point
 pub record Amounts : Type 0 where

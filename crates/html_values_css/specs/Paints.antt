@@ -1,12 +1,8 @@
 -- The css text of a paint.
-use Rattle.std.specs.Prelude.{◌≡◌, ℕ, List, [], ◌∷◌, Result}
-use Rattle.std.specs.declared.alloc.AllocError.{AllocError}
-use Rattle.html_values_css.specs.Colors.{color_text}
-use Rattle.html_values_css.specs.Sink.{AddsAtMost, SinkAnswers}
-use Rattle.html_values_css.specs.declared.sink.Warning.{Warning}
+use Rattle.std.specs.{Prelude.{◌≡◌, ℕ, List, [], ◌∷◌, Result}, declared.alloc.AllocError.{AllocError}}
+use Rattle.html_values_css.specs.{Colors.{color_text}, Sink.{AddsAtMost, SinkAnswers}, declared.sink.Warning.{Warning}}
 use Rattle.html_values_css.specs.declared.sink.Warning.TheVariants as warning
-use Rattle.html_values_css.specs.declared.paint.Paint.{Paint}
-use Rattle.html_values_css.specs.declared.paint.Paint.TheVariants.{Solid, Gradient, Tiling}
+use Rattle.html_values_css.specs.declared.paint.{Paint.{Paint}, Paint.TheVariants.{Solid, Gradient, Tiling}}
 
 abbrev pub paint_text : Paint → List ℕ
 paint_text (Solid c) = color_text c

@@ -1,18 +1,12 @@
 -- Css properties: a finite map from names to texts, listed by name, and the text of a `style`
 -- attribute (CSS Style Attributes, section 3).
-use Rattle.std.specs.Prelude.{ℕ, List, [], ◌∷◌, ◌++◌, codes, map, Option}
-use Rattle.std.specs.List.{flat_map}
-use Rattle.std.specs.List.Sorted.{IsStrictlySortedBy}
-use Rattle.std.specs.Map.{lookup, remove_entry, keys_of}
-use Rattle.std.specs.BTreeMap.{insert_entry, is_at}
+use Rattle.std.specs.{BTreeMap.{insert_entry, is_at}, List.{flat_map}, Map.{lookup, remove_entry, keys_of}, Ordering.{nat_cmp}}
+use Rattle.std.specs.{Prelude.{ℕ, List, [], ◌∷◌, ◌++◌, codes, map, Option}, Cmp.Lexicographic.{slice_cmp}, List.Sorted.{IsStrictlySortedBy}}
 use Rattle.std.specs.declared.cmp.Ordering.{Ordering}
-use Rattle.std.specs.Ordering.{nat_cmp}
-use Rattle.std.specs.Cmp.Lexicographic.{slice_cmp}
 use lib.Utf8.{encodes}
 use Rattle.html_names_core.specs.Texts.{text_view, TextPair}
 use Rattle.std.specs.Arc.{arc_value}
-use Rattle.html_values_css.specs.declared.property.Property.{Property}
-use Rattle.html_values_css.specs.declared.property_list.PropertyList.{PropertyList}
+use Rattle.html_values_css.specs.declared.{property.Property.{Property}, property_list.PropertyList.{PropertyList}}
 use Rattle.html_values_css.specs.declared.property_list.PropertyList.TheVariants as several
 
 abbrev pub property_view : Property → TextPair

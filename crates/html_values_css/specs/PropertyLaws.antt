@@ -1,8 +1,6 @@
 -- Laws of all property maps.
-use Rattle.std.specs.Prelude.{◌≡◌, ℕ, List, [], ◌∷◌, bytes_eq, Some, None, if◌then◌else◌}
-use Rattle.std.specs.List.{IsDistinct}
+use Rattle.std.specs.{List.{IsDistinct}, Map.{keys_of}, Prelude.{◌≡◌, ℕ, List, [], ◌∷◌, bytes_eq, Some, None, if◌then◌else◌}}
 use Rattle.std.specs.List.Sorted.{IsPermutation}
-use Rattle.std.specs.Map.{keys_of}
 use Rattle.html_names_core.specs.Texts.{TextPair}
 use Rattle.html_values_css.specs.Properties.{IsListed, value_of, with_property, without, inline_text}
 

@@ -1,6 +1,6 @@
 -- Whole millionths, and their css texts (CSS Values 4, section 5 and 6: a number with its unit).
-use Rattle.std.specs.Prelude.{ℕ, zero, suc, ◌+◌, ◌/◌, ◌%◌, ◌^◌, ◌≤◌, ℤ, unsigned_abs, pos, negsuc, List, [], ◌∷◌, ◌++◌, codes, Bool, true, false}
 use Rattle.std.specs.Fmt.{decimal}
+use Rattle.std.specs.Prelude.{ℕ, zero, suc, ◌+◌, ◌/◌, ◌%◌, ◌^◌, ◌≤◌, ℤ, unsigned_abs, pos, negsuc, List, [], ◌∷◌, ◌++◌, codes, Bool, true, false}
 
 -- a number of millionths whose absolute value is at most 10^15
 abbrev pub IsQuantity : ℤ → Type 0

@@ -1,7 +1,5 @@
 -- The index of a name among sorted properties, or the index where it belongs.
-use Rattle.std.specs.Prelude.{◌≡◌, ℕ, ◌<◌, ◌≤◌, List, length}
-use Rattle.std.specs.List.{AllWithin, HoldsAt}
-use Rattle.std.specs.declared.cmp.Ordering.{Ordering}
+use Rattle.std.specs.{List.{AllWithin, HoldsAt}, Prelude.{◌≡◌, ℕ, ◌<◌, ◌≤◌, List, length}, declared.cmp.Ordering.{Ordering}}
 use Rattle.std.specs.declared.cmp.Ordering.TheVariants.{Less, Equal, Greater}
 
 module _ {A K : Type 0} (cmp : K → K → Ordering) (key : A → K) where

@@ -1,10 +1,7 @@
 -- The css text of a sum (CSS Values 4, section 10.1, `calc()`).
-use Rattle.std.specs.Prelude.{◌≡◌, ℕ, ℤ, neg_ℤ, List, [], ◌∷◌, ◌++◌, codes, not, if◌then◌else◌}
-use Rattle.std.specs.List.{filter, flat_map}
-use Rattle.html_values_css.specs.Quantities.{is_zero, is_negative, abs_text, em_text, ratio_text}
-use Rattle.html_values_css.specs.declared.sink.Warning.{Warning}
-pub use Rattle.html_values_css.specs.declared.calc.Parts.{Parts}
-pub use Rattle.html_values_css.specs.declared.calc.Parts.TheVariants.{Zero, One, More}
+use Rattle.std.specs.{List.{filter, flat_map}, Prelude.{◌≡◌, ℕ, ℤ, neg_ℤ, List, [], ◌∷◌, ◌++◌, codes, not, if◌then◌else◌}}
+use Rattle.html_values_css.specs.{Quantities.{is_zero, is_negative, abs_text, em_text, ratio_text}, declared.sink.Warning.{Warning}}
+pub use Rattle.html_values_css.specs.declared.calc.{Parts.{Parts}, Parts.TheVariants.{Zero, One, More}}
 
 -- a part: its number, its text, its warnings, and the last two of the negated part
 pub record Part : Type 0 where

@@ -2,8 +2,7 @@
 use Rattle.std.specs.Prelude.{◌≡◌, ℕ, List, [], ◌∷◌, ◌++◌, Bool, true, false, ◌||◌, Result, OnOk, OnErr}
 use Rattle.std.specs.declared.alloc.AllocError.{AllocError}
 use Rattle.html_names_core.specs.Texts.{text_view}
-use Rattle.html_values_css.specs.Sink.{StartsWith, SinkAnswers, Hands}
-use Rattle.html_values_css.specs.declared.sink.Warning.{Warning}
+use Rattle.html_values_css.specs.{Sink.{StartsWith, SinkAnswers, Hands}, declared.sink.Warning.{Warning}}
 use Rattle.html_values_css.specs.declared.writer.CssWriter.{CssWriter}
 
 -- a writer as its callers see it: its text, whether a value failed, and its sink

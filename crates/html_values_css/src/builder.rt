@@ -1,9 +1,7 @@
 //! A builder of css properties from typed values, which passes their warnings to a sink.
 
 ghost use Rattle.std.specs.Prelude.{◌≡◌, [], chars, if◌then◌else◌, OnOk, OnErr, IfOk, IfErr};
-ghost use Rattle.html_values_css.specs.Properties.{with_property};
-ghost use Rattle.html_values_css.specs.Sink.{TakesWarning, Hands, Given, Interrupted};
-ghost use Rattle.html_values_css.specs.Writer.{fails};
+ghost use Rattle.html_values_css.specs.{Properties.{with_property}, Sink.{TakesWarning, Hands, Given, Interrupted}, Writer.{fails}};
 
 use crate::properties::Properties;
 use crate::sink::{WarningSink, pass_on};

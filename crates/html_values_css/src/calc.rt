@@ -1,7 +1,6 @@
 //! Sums in css, with `calc(..)` around two parts or more, and the trait of their parts.
 
-ghost use Rattle.std.specs.Prelude.{◌≡◌, ◌≤◌, ◌++◌, ℤ, neg_ℤ, codes, OnOk, OnErr, take, drop, length, string_bytes};
-ghost use Rattle.std.specs.Str.{IsUtf8};
+ghost use Rattle.std.specs.{Prelude.{◌≡◌, ◌≤◌, ◌++◌, ℤ, neg_ℤ, codes, OnOk, OnErr, take, drop, length, string_bytes}, Str.{IsUtf8}};
 ghost use Rattle.html_values_css.specs.Quantities.{is_zero, is_negative};
 
 use crate::sink::WarningSink;
@@ -126,9 +125,7 @@ pub struct Calc<'a, S> {
 
 impl<S: WarningSink> CssWriter<S> {
     ghost use Rattle.std.specs.Prelude.{[]};
-    ghost use Rattle.html_values_css.specs.Calc.{text_before, written_from};
-    ghost use Rattle.html_values_css.specs.Sums.{Zero};
-    ghost use Rattle.html_values_css.specs.Writer.{writer_state, text_of};
+    ghost use Rattle.html_values_css.specs.{Calc.{text_before, written_from}, Sums.{Zero}, Writer.{writer_state, text_of}};
 
     /// Begins a sum: `calc(..)` around two parts or more, a single part alone, and `0` for none.
     /// Drops parts that are exactly zero.
@@ -149,10 +146,9 @@ impl<S: WarningSink> CssWriter<S> {
 }
 
 impl<S: WarningSink> Calc<'_, S> {
-    ghost use Rattle.html_values_css.specs.Calc.{text_before, written_from, part_of};
+    ghost use Rattle.html_values_css.specs.{Calc.{text_before, written_from, part_of}, Sink.{StartsWith, TakesWarning}};
     ghost use Rattle.html_values_css.specs.Sums.{next_parts, next_text, next_warnings, sum_end};
     ghost use Rattle.html_values_css.specs.Writer.{writer_state, text_of, Emits, SumsUp};
-    ghost use Rattle.html_values_css.specs.Sink.{StartsWith, TakesWarning};
     ghost use Rattle.std.specs.Prelude.{[]};
 
     /// Adds a part, unless it is exactly zero.
@@ -194,10 +190,8 @@ impl<S: WarningSink> Calc<'_, S> {
 }
 
 impl<S: WarningSink> CssWriter<S> {
-    ghost use Rattle.html_values_css.specs.Calc.{written_from, KeepsFront, part_of, next_part_text, with_opening};
-    ghost use Rattle.html_values_css.specs.Sink.{TakesWarning};
-    ghost use Rattle.html_values_css.specs.Sums.{with_part, part_warnings};
-    ghost use Rattle.html_values_css.specs.Writer.{writer_state, Emits, SumsUp};
+    ghost use Rattle.html_values_css.specs.{Calc.{written_from, KeepsFront, part_of, next_part_text, with_opening}, Sink.{TakesWarning}};
+    ghost use Rattle.html_values_css.specs.{Sums.{with_part, part_warnings}, Writer.{writer_state, Emits, SumsUp}};
     ghost use Rattle.std.specs.Prelude.{[]};
 
     /// Adds a nonzero part to the sum that begins at `start`.

@@ -1,10 +1,8 @@
 //! Function calls in css, written one argument after the other.
 
-ghost use Rattle.std.specs.Prelude.{◌≡◌, ◌++◌, codes, chars, [], true, false, IfOk, Ok};
-ghost use Rattle.html_values_css.specs.Sink.{TakesWarning};
-ghost use Rattle.std.specs.Borrow.{sem};
+ghost use Rattle.std.specs.{Borrow.{sem}, Prelude.{◌≡◌, ◌++◌, codes, chars, [], true, false, IfOk, Ok}};
+ghost use Rattle.html_values_css.specs.{Call.{separator_text, before_argument, writer_rests}, Sink.{TakesWarning}};
 ghost use Rattle.html_values_css.specs.Writer.{writer_state, Emits};
-ghost use Rattle.html_values_css.specs.Call.{separator_text, before_argument, writer_rests};
 
 use crate::sink::WarningSink;
 use crate::to_css::ToCss;

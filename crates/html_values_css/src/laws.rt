@@ -1,9 +1,7 @@
 //! Laws of all css values. The contract of each function is a law.
 
-ghost use Rattle.html_values_css.specs.Lengths.{LengthValue, Nearest, RelValue};
-ghost use Rattle.html_values_css.specs.Properties.{property_view};
-ghost use Rattle.html_values_css.specs.PropertyLaws.{AnyOrder, PushSets, RemoveClears, ValuesDecide};
-ghost use Rattle.html_values_css.specs.Sink.{GivenVector, HandsBegin};
+ghost use Rattle.html_values_css.specs.{Lengths.{LengthValue, Nearest, RelValue}, Properties.{property_view}};
+ghost use Rattle.html_values_css.specs.{PropertyLaws.{AnyOrder, PushSets, RemoveClears, ValuesDecide}, Sink.{GivenVector, HandsBegin}};
 ghost use Rattle.html_values_css.specs.Sums.{SumWritten};
 ghost use Rattle.std.specs.Prelude.{◌≡◌, ◌↔◌, IsTrue};
 

@@ -2,9 +2,7 @@
 
 ghost use Rattle.std.specs.Prelude.{◌≡◌, ℕ, [], IfOk, OnOk, ◌++◌, ◌<◌, string_bytes};
 ghost use Rattle.html_names_core.specs.Texts.{text_view};
-ghost use Rattle.html_values_css.specs.Colors.{hex_byte, alpha_text};
-ghost use Rattle.html_values_css.specs.Sink.{TakesWarning};
-ghost use Rattle.html_values_css.specs.Writer.{writer_state, Emits};
+ghost use Rattle.html_values_css.specs.{Colors.{hex_byte, alpha_text}, Sink.{TakesWarning}, Writer.{writer_state, Emits}};
 
 use crate::sink::{Warning, WarningSink};
 use crate::to_css::ToCss;

@@ -2,9 +2,8 @@
 
 ghost use Rattle.std.specs.Prelude.{◌≡◌, List, [], ◌∷◌, Ok, Option, Result, Some, None};
 ghost use base.Fml.{GName};
-ghost use Rattle.html_values_css.specs.declared.sink.Warning.{Warning};
+ghost use Rattle.html_values_css.specs.{Sink.{AddsAtMost, KeepsWarning, TakesWarning, Hands}, declared.sink.Warning.{Warning}};
 ghost use Rattle.std.specs.declared.alloc.AllocError.{AllocError};
-ghost use Rattle.html_values_css.specs.Sink.{AddsAtMost, KeepsWarning, TakesWarning, Hands};
 
 use std::alloc::AllocError;
 use thiserror::Error;

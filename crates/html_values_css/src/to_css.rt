@@ -1,11 +1,8 @@
 //! The trait of values with a css text, and the css of plain texts and of `display`.
 
 ghost use Rattle.std.specs.Prelude.{◌≡◌, ℕ, List, [], IfOk, chars, codes, ◌++◌};
-ghost use Rattle.html_names_core.specs.Texts.{text_view};
-ghost use Rattle.html_names_core.specs.Displays.{display_text};
-ghost use Rattle.html_values_css.specs.Sink.{TakesWarning, Hands};
-ghost use Rattle.html_values_css.specs.Writer.{writer_state, Emits};
-ghost use Rattle.html_values_css.specs.declared.sink.Warning.{Warning};
+ghost use Rattle.html_names_core.specs.{Displays.{display_text}, Texts.{text_view}};
+ghost use Rattle.html_values_css.specs.{Sink.{TakesWarning, Hands}, Writer.{writer_state, Emits}, declared.sink.Warning.{Warning}};
 
 use crate::sink::{Warning, WarningSink, pass_on};
 use crate::writer::CssWriter;

@@ -2,10 +2,8 @@
 
 ghost use Rattle.std.specs.Prelude.{◌≡◌, ◌<◌, ◌≤◌, [], ◌∷◌, ◌++◌, OnOk, OnErr, IsTrue, chars, take, drop, length, string_bytes};
 ghost use Rattle.std.specs.Str.{IsUtf8};
-ghost use Rattle.html_names_core.specs.Names.{is_ascii};
-ghost use Rattle.html_names_core.specs.Texts.{text_view};
-ghost use Rattle.html_values_css.specs.Quantities.{IsQuantity, fixed_text};
-ghost use Rattle.html_values_css.specs.Sink.{AddsAtMost, TakesWarning};
+ghost use Rattle.html_names_core.specs.{Names.{is_ascii}, Texts.{text_view}};
+ghost use Rattle.html_values_css.specs.{Quantities.{IsQuantity, fixed_text}, Sink.{AddsAtMost, TakesWarning}};
 ghost use Rattle.html_values_css.specs.Writer.{writer_state, empty, Emits, text_of};
 
 use crate::fixed::fixed;

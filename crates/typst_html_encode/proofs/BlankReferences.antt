@@ -1,7 +1,6 @@
 -- The numbers of blanks in references.
-use Rattle.std.proofs.Common.{◌≡◌, false, codes, refl}
+use Rattle.std.{proofs.Common.{◌≡◌, false, codes, refl}, specs.Fmt.{digits}}
 pub use Rattle.std.proofs.Common.{append_assoc}
-use Rattle.std.specs.Fmt.{digits}
 
 pub space_digits : digits 16 false 32 ≡ codes "20"
 unfolding digits

@@ -1,12 +1,9 @@
 -- Escapes of texts, one after another.
 use Rattle.std.proofs.Common.{◌≡◌, ℕ, true, false, eqb, List, [], ◌∷◌, ◌++◌, length, chars, codes, refl, sym, ap, ◌∙◌, append_assoc}
+use Rattle.std.proofs.{StrCases.{chars_of_empty}, lemmas.Bool.{false≢true, eqb-true}, lemmas.Str.{encodes-chars}}
 use Rattle.std.specs.Str.{IsUtf8}
-use Rattle.std.proofs.StrCases.{chars_of_empty}
-use Rattle.std.proofs.lemmas.Bool.{false≢true, eqb-true}
-use Rattle.std.proofs.lemmas.Str.{encodes-chars}
 use lib.Utf8.{encodes}
-use Rattle.typst_html_encode.specs.Text.{char_text, escaped_text, value_text}
-use Rattle.typst_html_encode.specs.declared.escape.Escaping.{Escaping}
+use Rattle.typst_html_encode.specs.{Text.{char_text, escaped_text, value_text}, declared.escape.Escaping.{Escaping}}
 use Rattle.typst_html_encode.specs.declared.escape.Escaping.TheVariants as escaping
 
 pub escaped_text-append : (e : Escaping) (s t : List ℕ) →

@@ -1,7 +1,6 @@
 -- The first fault of a list is the first of a longer one.
 use Rattle.std.proofs.Common.{List, ◌++◌, ap}
-use Rattle.typst_html_encode.specs.ExportFaults.{BeginsWith, IsFirst}
-use Rattle.typst_html_encode.specs.declared.fault.ExportFault.{ExportFault}
+use Rattle.typst_html_encode.specs.{ExportFaults.{BeginsWith, IsFirst}, declared.fault.ExportFault.{ExportFault}}
 use Rattle.typst_html_encode.specs.declared.fault.ExportFault.TheVariants as fault
 
 begins_more : (f : ExportFault) (fs gs : List ExportFault) → BeginsWith f fs →

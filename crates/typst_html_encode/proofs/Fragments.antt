@@ -1,20 +1,13 @@
 -- Nodes by themselves are written as the children of a `div` are.
 use Rattle.std.proofs.Common.{◌≡◌, ℕ, Bool, false, true, List, [], ◌++◌, codes, Result, refl, ap, ◌∙◌, sym, subst, append-nil}
-use Rattle.html_names_core.specs.Kinds.{is_void, is_raw, is_escapable_raw, is_foreign_self_closing}
-use Rattle.html_names_core.specs.Names.{stands_in}
-use Rattle.html_dom_tree.specs.FrameFree.{NodesAreFrameFree}
-use Rattle.html_dom_tree.specs.Tree.{NodesView, none, node}
-use Rattle.typst_html_encode.specs.ExportFaults.{node_faults, nodes_faults}
-use Rattle.typst_html_encode.specs.Endings.{Adds}
-use Rattle.typst_html_encode.specs.Fragments.{fragment_text, fragment_faults, div_head, text_in_div, ReadsInDiv}
-use Rattle.typst_html_encode.specs.FrameWriters.{Frames}
-use Rattle.typst_html_encode.specs.Layout.{deeper, due_after}
-use Rattle.typst_html_encode.specs.Reader.{drops_feed, read}
+use Rattle.html_names_core.specs.{Kinds.{is_void, is_raw, is_escapable_raw, is_foreign_self_closing}, Names.{stands_in}}
+use Rattle.html_dom_tree.specs.{FrameFree.{NodesAreFrameFree}, Tree.{NodesView, none, node}}
+use Rattle.typst_html_encode.{proofs.ReadingBack.{reads_back}, specs.Endings.{Adds}, specs.ExportFaults.{node_faults, nodes_faults}}
+use Rattle.typst_html_encode.specs.{Fragments.{fragment_text, fragment_faults, div_head, text_in_div, ReadsInDiv}, FrameWriters.{Frames}}
+use Rattle.typst_html_encode.specs.{Layout.{deeper, due_after}, Reader.{drops_feed, read}}
 use Rattle.typst_html_encode.specs.ReadingBack.{NodeIsNamed, NodesAreNamed, ElementIsNamed}
-use Rattle.typst_html_encode.specs.Text.{node_text, nodes_text, plain_options, root_margin, document_text}
-use Rattle.typst_html_encode.specs.WriterWalk.{outside_text}
+use Rattle.typst_html_encode.specs.{Text.{node_text, nodes_text, plain_options, root_margin, document_text}, WriterWalk.{outside_text}}
 use Rattle.typst_html_encode.specs.declared.fault.ExportFault.{ExportFault}
-use Rattle.typst_html_encode.proofs.ReadingBack.{reads_back}
 
 module _ (frames : Frames) where
   inside : (due : Bool) (ns : NodesView) → outside_text frames (deeper (root_margin plain_options)) ns

@@ -1,9 +1,7 @@
 -- Numbers that a table has given.
-use Rattle.std.proofs.Common.{◌≡◌, ℕ, ◌<◌, true, List, sym, length, get_or, subst}
-use Rattle.std.specs.List.{list_all}
+use Rattle.std.{proofs.Common.{◌≡◌, ℕ, ◌<◌, true, List, sym, length, get_or, subst}, specs.List.{list_all}}
 use Rattle.html_names_table.specs.NameTables.{NamesView}
-use Rattle.html_dom_flat.specs.FlatViews.{FlatPair, is_pair_given}
-use Rattle.html_dom_flat.proofs.Elements.{given_pair}
+use Rattle.html_dom_flat.{proofs.Elements.{given_pair}, specs.FlatViews.{FlatPair, is_pair_given}}
 
 -- the number of one of the attributes of an element
 pub pair_given : (names : NamesView) (pairs : List FlatPair) (i : ℕ) (d pair : FlatPair) →

@@ -1,13 +1,9 @@
 -- Indents in pieces.
 use Rattle.std.proofs.Common.{◌≡◌, ℕ, zero, suc, ◌+◌, ◌-◌, ◌*◌, ◌≤◌, true, List, ◌∷◌, ◌++◌, length, refl, ap, ◌∙◌, codes, bytes_eq, append_assoc, arith}
-use Rattle.std.specs.List.{slice_range}
-use Rattle.std.specs.Str.{IsAscii}
-use Rattle.std.proofs.lemmas.Bool.{agree_below_at}
-use Rattle.std.proofs.lemmas.Slice.Eq.{bytes_eq-Decides}
-use Rattle.html_names_core.specs.Names.{is_ascii}
-use Rattle.html_names_core.proofs.Basics.{is_ascii_is}
-use Rattle.typst_html_encode.specs.Layout.{spaces, indent}
-use Rattle.typst_html_encode.specs.declared.indent.TheConstants.{LINE}
+use Rattle.std.proofs.lemmas.{Bool.{agree_below_at}, Slice.Eq.{bytes_eq-Decides}}
+use Rattle.std.specs.{List.{slice_range}, Str.{IsAscii}}
+use Rattle.html_names_core.{proofs.Basics.{is_ascii_is}, specs.Names.{is_ascii}}
+use Rattle.typst_html_encode.specs.{Layout.{spaces, indent}, declared.indent.TheConstants.{LINE}}
 
 pub spaces_add : (m n : ℕ) → spaces m ++ spaces n ≡ spaces (m + n)
 spaces_add zero n = ap spaces (omega arith)

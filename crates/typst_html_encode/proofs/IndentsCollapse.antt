@@ -1,23 +1,18 @@
 -- Indents are not seen: each touches a border.
 use Rattle.std.proofs.Common.{◌≡◌, ◌⊎◌, ℕ, zero, suc, ◌+◌, List, [], ◌∷◌, ◌++◌, Bool, true, false, cond, ◌&&◌, ◌||◌, Some, refl, ap, sym, ◌∙◌, inl, inr, append_assoc, append-nil, codes}
+use Rattle.std.proofs.lemmas.{Bool.{cases_Bool, and_parts, both_ways, and_left, and_right}, Slice.Eq.{bytes_eq-Decides}}
 use Rattle.std.specs.Prelude.{bytes_eq, option_map}
-use Rattle.std.proofs.lemmas.Bool.{cases_Bool, and_parts, both_ways, and_left, and_right}
-use Rattle.std.proofs.lemmas.Slice.Eq.{bytes_eq-Decides}
-use Rattle.html_names_core.specs.Displays.{default_display}
+use Rattle.html_names_core.specs.{Displays.{default_display}, Kinds.{is_raw, is_escapable_raw, is_replaced, is_line_break}}
 use Rattle.html_names_core.specs.Names.{stands_in}
-use Rattle.html_names_core.specs.Kinds.{is_raw, is_escapable_raw, is_replaced, is_line_break}
 use Rattle.html_dom_tree.specs.PlainTree.{Plains, nodes_normal}
 use Rattle.html_dom_tree.specs.Tree.{TextPair, Head, NodeView, tag_node, text_node, element_node, frame_node, NodesView, none, node}
+use Rattle.html_dom_shown.proofs.{Bodies.{body_in_normal, past_words}, NodeAtoms.{node_atoms, nodes_atoms, normal_atoms}}
 use Rattle.html_dom_shown.specs.Bodies.{body_children, body_in}
 use Rattle.html_dom_shown.specs.Collapsing.{Atom, ignorable, collapsible, object, border, Piece, char, edge, merged_edges, text_atoms, preserves, has_border_display, has_border, element_atoms, plains_atoms, is_supported_by, then_supports, atoms_pieces, collapsed_pieces}
-use Rattle.html_dom_shown.proofs.Bodies.{body_in_normal, past_words}
-use Rattle.html_dom_shown.proofs.NodeAtoms.{node_atoms, nodes_atoms, normal_atoms}
-use Rattle.typst_html_encode.specs.Indented.{with_indent, node_layout, nodes_layout, content_layout}
+use Rattle.typst_html_encode.{proofs.Plainly.{children_stay}, specs.Indented.{with_indent, node_layout, nodes_layout, content_layout}}
 use Rattle.typst_html_encode.specs.IndentsCollapse.{HeadIsEdged, NodesAreEdged, ContentCollapses, BodyCollapses}
 use Rattle.typst_html_encode.specs.Layout.{spaces, indent, allows_pretty_inside, wants_pretty_around, nodes_want_pretty, is_pretty_inside}
-use Rattle.typst_html_encode.specs.Text.{ends_at_once}
-use Rattle.typst_html_encode.specs.declared.layout.Margin.{Margin}
-use Rattle.typst_html_encode.proofs.Plainly.{children_stay}
+use Rattle.typst_html_encode.specs.{Text.{ends_at_once}, declared.layout.Margin.{Margin}}
 
 -- the lists look the same from before, and are seen the same after what supports and after what
 -- does not

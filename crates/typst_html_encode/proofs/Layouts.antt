@@ -1,8 +1,7 @@
 -- Indents and lines that grow at their end.
 use Rattle.std.proofs.Common.{◌≡◌, ℕ, List, [], ◌∷◌, ◌++◌, Bool, true, false, ◌||◌, refl, ap, sym, ◌∙◌, append_assoc, append-nil}
-use Rattle.std.specs.Prelude.{if◌then◌else◌}
+use Rattle.std.{proofs.Math.Bool.{and_comm}, specs.Prelude.{if◌then◌else◌}}
 use Rattle.typst_html_encode.specs.Layout.{by_lines}
-use Rattle.std.proofs.Math.Bool.{and_comm}
 
 abbrev pub begun : List (List ℕ) → Bool
 begun [] = false

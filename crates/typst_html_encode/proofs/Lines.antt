@@ -1,13 +1,11 @@
 -- Lines: what they keep of what holds of a text, and those of a text's bytes and of its characters.
 use Rattle.std.proofs.Common.{◌≡◌, ◌⊎◌, ℕ, suc, ◌+◌, ◌-◌, ◌≤◌, ◌/◌, List, [], ◌∷◌, ◌++◌, true, false, cond, ltb, length, take, get_or, refl, ap, sym, ◌∙◌, subst, inl, inr, append_assoc, append-nil, arith, length-append, chars, IsUtf8}
-use Rattle.std.specs.Prelude.{◌==◌, map, slice_index}
-use Rattle.std.specs.List.{AllByRecursion, slice_split, onto_first, join_with_byte}
-use Rattle.std.specs.Str.Lines.{lines, lines_of_parts, strip_carriage_return}
 use Rattle.std.proofs.Math.Seq.{take-append_seam, get_or-append_seam}
-use Rattle.std.proofs.lemmas.Bool.{cases_Bool, and_parts, and_from, eqb-true, ne_eqb}
-use Rattle.std.proofs.lemmas.List.{take_more, take_all}
-use Rattle.std.proofs.lemmas.List.Splits.{join_with_byte-slice_split}
+use Rattle.std.proofs.lemmas.{Bool.{cases_Bool, and_parts, and_from, eqb-true, ne_eqb}, List.{take_more, take_all}}
 use Rattle.std.proofs.lemmas.Str.{chars-encodes, encodes-chars, scalars-chars, encodes-append, encode_ascii, length-le-encodes}
+use Rattle.std.proofs.lemmas.List.Splits.{join_with_byte-slice_split}
+use Rattle.std.specs.{List.{AllByRecursion, slice_split, onto_first, join_with_byte}, Prelude.{◌==◌, map, slice_index}}
+use Rattle.std.specs.Str.Lines.{lines, lines_of_parts, strip_carriage_return}
 use lib.Utf8.{scalar, scalars, encode, encodes, next}
 
 last_split : (l : List ℕ) (n : ℕ) → n + 1 ≡ length l → l ≡ take n l ++ get_or l n 0 ∷ []

@@ -1,15 +1,11 @@
 -- A raw text on lines of its own holds no closing tag, where the text with a line feed holds none.
 use Rattle.std.proofs.Common.{◌≡◌, ℕ, zero, suc, ◌+◌, List, [], ◌∷◌, ◌++◌, Bool, true, false, not, ◌&&◌, refl, ap, sym, ◌∙◌, subst, inl, inr, append_assoc, append-nil, codes, map}
-use Rattle.std.specs.Prelude.{◌==◌}
-use Rattle.std.specs.Char.{to_ascii_lowercase}
-use Rattle.std.specs.List.{AllByRecursion}
-use Rattle.std.specs.Str.Lines.{lines}
 use Rattle.std.proofs.lemmas.Bool.{cases_Bool, and_parts, or_parts, or_from, not-true}
+use Rattle.std.specs.{Char.{to_ascii_lowercase}, List.{AllByRecursion}, Prelude.{◌==◌}, Str.Lines.{lines}}
 use Rattle.html_names_core.specs.Kinds.{is_raw}
 use Rattle.html_text.specs.ClosingTags.{is_tag_end, closing, begins_closing, has_closing, holds_closing}
+use Rattle.typst_html_encode.proofs.{Lines.{lines_are}, RawNames.{of_raw}}
 use Rattle.typst_html_encode.specs.Layout.{spaces, indent, by_lines, keeps_lines, lines_text}
-use Rattle.typst_html_encode.proofs.RawNames.{of_raw}
-use Rattle.typst_html_encode.proofs.Lines.{lines_are}
 
 -- no character of the word is `e`
 abbrev lacks : ℕ → List ℕ → Bool

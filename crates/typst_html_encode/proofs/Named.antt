@@ -2,8 +2,7 @@
 use Rattle.std.proofs.Common.{◌≡◌, ℕ, []}
 use Rattle.html_dom_tree.specs.Tree.{Head, tag_node, text_node, element_node, frame_node, NodesView, none, node}
 use Rattle.typst_html_encode.specs.ExportFaults.{void_faults, text_faults, nodes_raw_faults, closing_faults, raw_content_faults}
-use Rattle.typst_html_encode.specs.ReadingBack.{NodeIsNamed, NodesAreNamed}
-use Rattle.typst_html_encode.specs.declared.escape.Escaping.{Escaping}
+use Rattle.typst_html_encode.specs.{ReadingBack.{NodeIsNamed, NodesAreNamed}, declared.escape.Escaping.{Escaping}}
 use Rattle.typst_html_encode.specs.declared.escape.Escaping.TheVariants as escaping
 use Rattle.typst_html_encode.proofs.Runs.{left_empty, right_empty}
 

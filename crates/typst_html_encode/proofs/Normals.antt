@@ -1,13 +1,10 @@
 -- What the reader gathers is the normal form.
 use Rattle.std.proofs.Common.{◌≡◌, ℕ, List, [], ◌∷◌, ◌++◌, refl, ap, ◌∙◌, sym}
+use Rattle.html_dom_tree.{proofs.Basics.{put_twice}, specs.PlainTree.{branch, Plains, no_plains, plain, put_words, nodes_normal}}
 use Rattle.html_dom_tree.specs.Tree.{TextPair, tag_node, text_node, element_node, frame_node, NodesView, none, node}
-use Rattle.typst_html_encode.specs.Text.{nodes_raw_text}
-use Rattle.html_dom_tree.specs.PlainTree.{branch, Plains, no_plains, plain, put_words, nodes_normal}
-use Rattle.html_dom_tree.proofs.Basics.{put_twice}
-use Rattle.typst_html_encode.specs.ExportFaults.{nodes_raw_faults, text_faults}
-use Rattle.typst_html_encode.specs.declared.escape.Escaping.{Escaping}
-use Rattle.typst_html_encode.specs.Reader.{◌then◌, with_text}
 use Rattle.typst_html_encode.proofs.Runs.{right_empty}
+use Rattle.typst_html_encode.specs.{ExportFaults.{nodes_raw_faults, text_faults}, Reader.{◌then◌, with_text}, Text.{nodes_raw_text}}
+use Rattle.typst_html_encode.specs.declared.escape.Escaping.{Escaping}
 
 -- the children before, and the text since the last of them
 abbrev pub joined : Plains → List ℕ → NodesView → Plains × List ℕ

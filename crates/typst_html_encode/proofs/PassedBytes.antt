@@ -1,15 +1,10 @@
 -- Bytes that are passed, and the characters that they make.
 use Rattle.std.proofs.Common.{◌≡◌, ℕ, ◌+◌, ◌/◌, ◌<◌, ◌≤◌, Bool, true, false, not, ◌&&◌, cond, List, [], ◌∷◌, arith, refl, ap, ◌∙◌, sym, chars, bit_and}
-use Rattle.std.specs.List.{list_all}
-use Rattle.std.proofs.lemmas.Bool.{agree_below, and_parts, not-true}
-use Rattle.std.proofs.lemmas.Bool.Decides.{nat_tests}
+use Rattle.std.{proofs.lemmas.Bool.{agree_below, and_parts, not-true}, proofs.lemmas.Bool.Decides.{nat_tests}, specs.List.{list_all}}
 use Rattle.html_names_core.specs.Characters.{is_text_char}
-use Rattle.html_text.specs.Fronts.{SplitsFront, StopsBetween, has_byte}
-use Rattle.html_text.proofs.Fronts.{IsByBytes, all_of, by_table, of_class}
-use Rattle.typst_html_encode.specs.ExportFaults.{is_reference}
-use Rattle.typst_html_encode.specs.PlainStretches.{is_passed, is_passed_high, is_plain, PassesPlain, Selects}
-use Rattle.typst_html_encode.specs.declared.escape.Escaping.{Escaping}
-use Rattle.typst_html_encode.specs.declared.stretch.TheConstants.{PASSED}
+use Rattle.html_text.{proofs.Fronts.{IsByBytes, all_of, by_table, of_class}, specs.Fronts.{SplitsFront, StopsBetween, has_byte}}
+use Rattle.typst_html_encode.specs.{ExportFaults.{is_reference}, PlainStretches.{is_passed, is_passed_high, is_plain, PassesPlain, Selects}}
+use Rattle.typst_html_encode.specs.declared.{escape.Escaping.{Escaping}, stretch.TheConstants.{PASSED}}
 use Rattle.typst_html_encode.specs.declared.escape.Escaping.TheVariants as escaping
 use lib.Dec.{ltb, leb}
 use lib.Utf8.{scalar, encode, next}

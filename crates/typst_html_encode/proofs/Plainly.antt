@@ -1,15 +1,12 @@
 -- Plain writing puts no indent: the tree stays as it is.
-use Rattle.std.proofs.Common.{◌≡◌, ℕ, ◌+◌, Bool, true, false, refl, ap, ◌∙◌}
+use Rattle.std.proofs.{Common.{◌≡◌, ℕ, ◌+◌, Bool, true, false, refl, ap, ◌∙◌}, lemmas.Bool.{false≢true}}
 use Rattle.std.specs.Prelude.{if◌then◌else◌}
-use Rattle.std.proofs.lemmas.Bool.{false≢true}
 use Rattle.html_names_core.specs.Kinds.{is_raw, is_escapable_raw}
 use Rattle.html_dom_tree.specs.Tree.{Head, tag_node, text_node, element_node, frame_node, NodesView, none, node, ElementView}
-use Rattle.typst_html_encode.specs.Indented.{node_layout, nodes_layout, content_layout, NodeEndsWell, NodesEndWell, ElementEndsWell}
 use Rattle.typst_html_encode.specs.Content.{by_kind}
-use Rattle.typst_html_encode.specs.Layout.{wants_pretty_around}
-use Rattle.typst_html_encode.specs.declared.content.ContentKind.TheVariants.{Raw, EscapableRaw, Nodes}
-use Rattle.typst_html_encode.specs.declared.layout.Margin.{Margin}
-use Rattle.typst_html_encode.specs.Text.{ends_at_once}
+use Rattle.typst_html_encode.specs.Indented.{node_layout, nodes_layout, content_layout, NodeEndsWell, NodesEndWell, ElementEndsWell}
+use Rattle.typst_html_encode.specs.{Layout.{wants_pretty_around}, Text.{ends_at_once}}
+use Rattle.typst_html_encode.specs.declared.{content.ContentKind.TheVariants.{Raw, EscapableRaw, Nodes}, layout.Margin.{Margin}}
 
 -- the margin of plain writing on a level
 abbrev pub shut : (level : ℕ) → Margin

@@ -1,17 +1,13 @@
 -- Raw text without a closing tag is read back.
 use Rattle.std.proofs.Common.{◌≡◌, ℕ, ◌-◌, ◌<◌, Bool, true, false, ◌&&◌, List, [], ◌∷◌, ◌++◌, codes, length, take, drop, get_or, map, refl, ap, ◌∙◌, sym, append_assoc, arith, length-append}
-use Rattle.std.specs.Prelude.{if◌then◌else◌, ◌==◌}
-use Rattle.std.specs.Char.{to_ascii_lowercase}
 use Rattle.std.proofs.lemmas.Bool.{and_parts, and_from, or_left, or_right, false_from_ne_true, false≢true, eq-eqb}
-use Rattle.std.proofs.lemmas.Bool.Decides.{nat_tests}
 use Rattle.std.proofs.lemmas.List.{append-nil, take-append-drop, take_at, drop_at, drop-append-le, map-append, length-map}
-use Rattle.std.proofs.lemmas.Slice.Eq.{bytes_eq-Decides}
+use Rattle.std.proofs.lemmas.{Bool.Decides.{nat_tests}, Slice.Eq.{bytes_eq-Decides}}
+use Rattle.std.specs.{Char.{to_ascii_lowercase}, Prelude.{if◌then◌else◌, ◌==◌}}
 use Rattle.html_names_core.specs.Characters.{all, IsOf, is_tag_char}
 use Rattle.html_text.specs.ClosingTags.{is_tag_end, closing, begins_closing, has_closing, holds_closing, ends_closing, ends_exact}
-use Rattle.html_dom_tree.specs.Tree.{TextPair}
-use Rattle.html_dom_tree.specs.PlainTree.{no_plains}
-use Rattle.typst_html_encode.specs.Reader.{Raw, Open, with_text, complete, run, step}
-use Rattle.typst_html_encode.proofs.Runs.{read_on, all_of, grows}
+use Rattle.html_dom_tree.specs.{PlainTree.{no_plains}, Tree.{TextPair}}
+use Rattle.typst_html_encode.{proofs.Runs.{read_on, all_of, grows}, specs.Reader.{Raw, Open, with_text, complete, run, step}}
 
 holds_at : (k a s : List ℕ) → 0 < length s → begins_closing k s ≡ true → has_closing k (a ++ s) ≡ true
 holds_at k [] [] l h = absurd (omega arith)

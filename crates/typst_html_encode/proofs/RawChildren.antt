@@ -1,11 +1,9 @@
 -- The children of a raw or an escapable raw element, one after another.
 use Rattle.std.proofs.Common.{◌≡◌, List, [], ◌++◌, ℕ, sym, ap, ◌∙◌, append_assoc, append-nil, subst}
 use Rattle.html_dom_tree.specs.Tree.{NodeView, NodesView, none, node}
-use Rattle.typst_html_encode.proofs.Escapes.{escaped_text-append}
-use Rattle.typst_html_encode.proofs.Firsts.{first_of_more}
+use Rattle.typst_html_encode.proofs.{Escapes.{escaped_text-append}, Firsts.{first_of_more}}
 use Rattle.typst_html_encode.specs.ExportFaults.{IsFirst, node_raw_faults, nodes_raw_faults}
-use Rattle.typst_html_encode.specs.Text.{escaped_text, node_raw_text, nodes_raw_text}
-use Rattle.typst_html_encode.specs.declared.escape.Escaping.{Escaping}
+use Rattle.typst_html_encode.specs.{Text.{escaped_text, node_raw_text, nodes_raw_text}, declared.escape.Escaping.{Escaping}}
 use Rattle.typst_html_encode.specs.declared.fault.ExportFault.{ExportFault}
 
 -- a loop over all children: with those that are left, the text and the faults are those of all

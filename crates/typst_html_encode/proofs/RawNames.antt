@@ -1,13 +1,9 @@
 -- What the names of raw elements and of those that drop a line feed are.
-use Rattle.std.proofs.Common.{◌≡◌, ℕ, Bool, true, false, ◌&&◌, ◌||◌, List, codes, bytes_eq, sym, subst, refl}
-use Rattle.std.proofs.lemmas.Bool.{false≢true}
-use Rattle.html_names_core.specs.Names.{stands_in}
-use Rattle.html_names_core.specs.Kinds.{is_raw, is_mathml, is_token}
-use Rattle.html_names_core.specs.Displays.{default_display}
+use Rattle.std.proofs.{Common.{◌≡◌, ℕ, Bool, true, false, ◌&&◌, ◌||◌, List, codes, bytes_eq, sym, subst, refl}, lemmas.Bool.{false≢true}}
 use Rattle.html_names_core.proofs.Basics.{bytes_eq-same}
+use Rattle.html_names_core.specs.{Displays.{default_display}, Kinds.{is_raw, is_mathml, is_token}, Names.{stands_in}}
 use Rattle.html_dom_tree.specs.Tree.{Head, NodesView}
-use Rattle.typst_html_encode.specs.Layout.{allows_pretty_inside, is_pretty_inside}
-use Rattle.typst_html_encode.specs.Reader.{drops_feed}
+use Rattle.typst_html_encode.specs.{Layout.{allows_pretty_inside, is_pretty_inside}, Reader.{drops_feed}}
 
 module _ (P : List ℕ → Type 0) where
   raw_by : (a b : Bool) (name : List ℕ) → P (codes "script") → P (codes "style") →

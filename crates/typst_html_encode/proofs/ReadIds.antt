@@ -1,21 +1,17 @@
 -- Pretty writing keeps the texts that elements have by their names and attributes.
-use Rattle.std.proofs.Common.{◌≡◌, ℕ, Bool, true, false, ◌&&◌, List, [], ◌∷◌, ◌++◌, refl, sym, ◌∙◌}
-use Rattle.std.specs.Prelude.{if◌then◌else◌}
+use Rattle.std.{proofs.Common.{◌≡◌, ℕ, Bool, true, false, ◌&&◌, List, [], ◌∷◌, ◌++◌, refl, sym, ◌∙◌}, specs.Prelude.{if◌then◌else◌}}
 use Rattle.html_dom_tree.specs.PlainTree.{Plains, no_plains, plain, words, branch, put_words, nodes_normal}
 use Rattle.html_dom_tree.specs.Tree.{Head, tag_node, text_node, element_node, frame_node, NodesView, none, node}
 use Rattle.typst_html_encode.specs.Content.{content_kind, by_kind}
 use Rattle.typst_html_encode.specs.ExportFaults.{attrs_faults, node_faults, node_raw_faults, nodes_faults, nodes_raw_faults, raw_content_faults, closing_faults, void_faults}
-use Rattle.typst_html_encode.specs.FrameWriters.{Frames}
-use Rattle.typst_html_encode.specs.Indented.{content_layout, node_layout, nodes_layout, raw_layout, with_indent}
+use Rattle.typst_html_encode.specs.{FrameWriters.{Frames}, Indented.{content_layout, node_layout, nodes_layout, raw_layout, with_indent}}
 use Rattle.typst_html_encode.specs.Layout.{deeper, due_after, has_indent, indent, is_by_lines, is_pretty_inside, lines_text, margin_inside}
 use Rattle.typst_html_encode.specs.ReadIds.{ElementTexts, plains_texts, LayoutKeepsTexts}
 use Rattle.typst_html_encode.specs.Text.{ends_at_once, nodes_raw_text, root_margin, pretty_options}
-use Rattle.typst_html_encode.specs.declared.content.ContentKind.{ContentKind}
-use Rattle.typst_html_encode.specs.declared.content.ContentKind.TheVariants.{Raw, EscapableRaw, Nodes}
+use Rattle.typst_html_encode.specs.declared.content.{ContentKind.{ContentKind}, ContentKind.TheVariants.{Raw, EscapableRaw, Nodes}}
 use Rattle.typst_html_encode.specs.declared.escape.Escaping.TheVariants as escaping
-use Rattle.typst_html_encode.specs.declared.fault.ExportFault.{ExportFault}
+use Rattle.typst_html_encode.{proofs.Runs.{left_empty, right_empty}, specs.declared.fault.ExportFault.{ExportFault}}
 use Rattle.typst_html_encode.specs.declared.layout.Margin.{Margin}
-use Rattle.typst_html_encode.proofs.Runs.{left_empty, right_empty}
 
 abbrev texts : ElementTexts → NodesView → List (List ℕ)
 texts own ns = plains_texts own (nodes_normal ns)

@@ -1,36 +1,29 @@
 -- Elements and lists of nodes are read back.
 use Rattle.std.proofs.Common.{◌≡◌, ℕ, zero, suc, Bool, true, false, ◌&&◌, ◌||◌, inl, inr, eqb, List, [], ◌∷◌, ◌++◌, Option, Some, None, codes, refl, ap, sym, ◌∙◌, arith, append_assoc, append-nil}
+use Rattle.std.proofs.lemmas.{Bool.{cases_Bool, false≢true, true≢false}, Bool.Decides.{nat_tests}}
 use Rattle.std.specs.Prelude.{if◌then◌else◌}
-use Rattle.std.proofs.lemmas.Bool.{cases_Bool, false≢true, true≢false}
-use Rattle.std.proofs.lemmas.Bool.Decides.{nat_tests}
 use Rattle.html_names_core.specs.Characters.{IsOf, is_tag_char, is_element_text_char}
 use Rattle.html_names_core.specs.Kinds.{is_void, is_foreign_self_closing, is_raw, is_escapable_raw}
 use Rattle.html_dom_tree.specs.Tree.{Head, tag_node, text_node, element_node, frame_node, NodesView, none, node, ElementView}
 use Rattle.typst_html_encode.specs.References.{numeric, reference_to}
 use Rattle.typst_html_encode.specs.declared.escape.Escaping.TheVariants as escaping
 use Rattle.html_text.specs.ClosingTags.{holds_closing}
-use Rattle.typst_html_encode.specs.Content.{content_kind, by_kind}
-use Rattle.typst_html_encode.specs.declared.fault.ExportFault.{ExportFault}
+use Rattle.typst_html_encode.specs.{Content.{content_kind, by_kind}, declared.fault.ExportFault.{ExportFault}}
 use Rattle.typst_html_encode.specs.declared.fault.ExportFault.TheVariants as fault
-use Rattle.typst_html_encode.specs.declared.layout.Margin.{Margin}
-use Rattle.typst_html_encode.specs.declared.options.HtmlOptions.{HtmlOptions}
-use Rattle.typst_html_encode.specs.Text.{root_margin, plain_options, pretty_options, char_text, escaped_text, escaping_of, attrs_text, tag_close, end_tag_text, ends_at_once, begins_with_feed, feed_text, nodes_raw_text, node_text, nodes_text, document_text}
-use Rattle.typst_html_encode.specs.Layout.{deeper, margin_inside, spaces, indent, indent_where, feed_where, wants_pretty_around, is_pretty_inside, has_indent, is_by_lines, lines_text, raw_text}
-use Rattle.typst_html_encode.specs.Indented.{with_indent, raw_layout, node_layout, nodes_layout, content_layout, element_layout, RawEndsWell, NodeEndsWell, NodesEndWell, ElementEndsWell}
-use Rattle.typst_html_encode.specs.ExportFaults.{attrs_faults, void_faults, nodes_raw_faults, closing_faults, raw_content_faults, text_faults, node_faults, nodes_faults, document_faults}
-use Rattle.html_dom_tree.specs.PlainTree.{Plain, branch, no_plains, plain, put_words, nodes_normal, element_normal}
-use Rattle.typst_html_encode.specs.Reader.{drops_feed, ◌then◌, Outside, Content, Fresh, Less, Open, ReaderState, with_text, complete, holds_text_alone, run, step, final_root, read}
-use Rattle.typst_html_encode.specs.FrameWriters.{Frames}
-use Rattle.html_dom_tree.specs.FrameFree.{NodeIsFrameFree, NodesAreFrameFree, ElementIsFrameFree}
-use Rattle.typst_html_encode.specs.ReadingBack.{HeadIsNamed, NodeIsNamed, NodesAreNamed, ElementIsNamed, PlainReadsBack, PrettyReadsBack, ReadsBack}
-use Rattle.typst_html_encode.proofs.Runs.{read_on, left_empty, right_empty, test_fails}
-use Rattle.typst_html_encode.proofs.References.{chars_read, raw_good, text_read}
+use Rattle.typst_html_encode.proofs.{LinesEnd.{lines_end}, Normals.{joined, joined_is, texts_alone, with_text_none}}
+use Rattle.typst_html_encode.proofs.{Plainly.{shut, plain_stays, ends_plainly}, RawBack.{raw_back}, RawNames.{raw_is, stays_shut}}
+use Rattle.typst_html_encode.proofs.{References.{chars_read, raw_good, text_read}, Runs.{read_on, left_empty, right_empty, test_fails}}
 use Rattle.typst_html_encode.proofs.TagsBack.{started, start_read, end_read}
-use Rattle.typst_html_encode.proofs.RawBack.{raw_back}
-use Rattle.typst_html_encode.proofs.RawNames.{raw_is, stays_shut}
-use Rattle.typst_html_encode.proofs.LinesEnd.{lines_end}
-use Rattle.typst_html_encode.proofs.Plainly.{shut, plain_stays, ends_plainly}
-use Rattle.typst_html_encode.proofs.Normals.{joined, joined_is, texts_alone, with_text_none}
+use Rattle.typst_html_encode.specs.ExportFaults.{attrs_faults, void_faults, nodes_raw_faults, closing_faults, raw_content_faults, text_faults, node_faults, nodes_faults, document_faults}
+use Rattle.typst_html_encode.specs.FrameWriters.{Frames}
+use Rattle.typst_html_encode.specs.Indented.{with_indent, raw_layout, node_layout, nodes_layout, content_layout, element_layout, RawEndsWell, NodeEndsWell, NodesEndWell, ElementEndsWell}
+use Rattle.typst_html_encode.specs.Layout.{deeper, margin_inside, spaces, indent, indent_where, feed_where, wants_pretty_around, is_pretty_inside, has_indent, is_by_lines, lines_text, raw_text}
+use Rattle.typst_html_encode.specs.Reader.{drops_feed, ◌then◌, Outside, Content, Fresh, Less, Open, ReaderState, with_text, complete, holds_text_alone, run, step, final_root, read}
+use Rattle.typst_html_encode.specs.ReadingBack.{HeadIsNamed, NodeIsNamed, NodesAreNamed, ElementIsNamed, PlainReadsBack, PrettyReadsBack, ReadsBack}
+use Rattle.typst_html_encode.specs.Text.{root_margin, plain_options, pretty_options, char_text, escaped_text, escaping_of, attrs_text, tag_close, end_tag_text, ends_at_once, begins_with_feed, feed_text, nodes_raw_text, node_text, nodes_text, document_text}
+use Rattle.typst_html_encode.specs.declared.{layout.Margin.{Margin}, options.HtmlOptions.{HtmlOptions}}
+use Rattle.html_dom_tree.specs.FrameFree.{NodeIsFrameFree, NodesAreFrameFree, ElementIsFrameFree}
+use Rattle.html_dom_tree.specs.PlainTree.{Plain, branch, no_plains, plain, put_words, nodes_normal, element_normal}
 
 -- no line feed stands first
 abbrev pub starts_with_feed : List ℕ → Bool

@@ -1,24 +1,16 @@
 -- References are read back, and so are texts.
 use Rattle.std.proofs.Common.{◌≡◌, ℕ, ◌<◌, Bool, true, false, not, ◌||◌, ◌&&◌, inl, inr, subst, eqb, List, [], ◌∷◌, ◌++◌, Some, codes, bytes_eq, arith, refl, ap, ◌∙◌, sym, append_assoc}
-use Rattle.std.specs.Prelude.{if◌then◌else◌}
-use Rattle.std.specs.Char.{digit_value}
-use Rattle.std.specs.Fmt.{digits}
-use Rattle.std.specs.Str.Parse.{AllDigits, digits_value}
-use Rattle.std.proofs.lemmas.Bool.{cases_Bool, lt-ltb, eqb-true, and_from, and_parts, not-true}
-use Rattle.std.proofs.lemmas.Bool.Decides.{nat_tests}
-use Rattle.std.proofs.lemmas.Fmt.{digits_is_IsNumeral}
-use Rattle.std.proofs.lemmas.List.{append-nil}
-use Rattle.std.proofs.lemmas.Slice.Eq.{bytes_eq-Decides}
-use Rattle.html_names_core.specs.Characters.{all, is_text_char, is_element_text_char}
-use Rattle.html_names_core.proofs.Basics.{all_append}
+use Rattle.std.proofs.lemmas.{Bool.{cases_Bool, lt-ltb, eqb-true, and_from, and_parts, not-true}, Fmt.{digits_is_IsNumeral}}
+use Rattle.std.proofs.lemmas.{List.{append-nil}, Bool.Decides.{nat_tests}, Slice.Eq.{bytes_eq-Decides}}
+use Rattle.std.specs.{Char.{digit_value}, Fmt.{digits}, Prelude.{if◌then◌else◌}, Str.Parse.{AllDigits, digits_value}}
+use Rattle.html_names_core.{proofs.Basics.{all_append}, specs.Characters.{all, is_text_char, is_element_text_char}}
 use Rattle.html_dom_tree.specs.Tree.{tag_node, text_node, element_node, frame_node, NodesView, none, node}
 use Rattle.typst_html_encode.specs.References.{numeric, numbered_char, reference, reference_to}
-use Rattle.typst_html_encode.specs.Text.{char_text, escaped_text, escaping_of, nodes_raw_text}
-use Rattle.typst_html_encode.specs.declared.escape.Escaping.{Escaping}
+use Rattle.typst_html_encode.specs.{Text.{char_text, escaped_text, escaping_of, nodes_raw_text}, declared.escape.Escaping.{Escaping}}
 use Rattle.typst_html_encode.specs.declared.fault.ExportFault.TheVariants as fault
+use Rattle.typst_html_encode.proofs.Runs.{grows, read_on, left_empty, right_empty, test_fails}
 use Rattle.typst_html_encode.specs.ExportFaults.{is_reference, is_bad, char_faults, text_faults, nodes_raw_faults}
 use Rattle.typst_html_encode.specs.Reader.{Content, Reference, Open, ReaderState, or_stop, run, step}
-use Rattle.typst_html_encode.proofs.Runs.{grows, read_on, left_empty, right_empty, test_fails}
 use lib.Utf8.{scalar, scalar_fits}
 
 abbrev pub is_no_semicolon : ℕ → Bool

@@ -1,8 +1,6 @@
 -- Runs of the reader, and small facts on lists.
 use Rattle.std.proofs.Common.{◌≡◌, ℕ, Bool, true, false, List, [], ◌∷◌, ◌++◌, sym, refl, ap, ◌∙◌, append_assoc}
-use Rattle.std.specs.Prelude.{if◌then◌else◌}
-use Rattle.std.proofs.lemmas.Bool.{and_parts, and_from}
-use Rattle.std.proofs.lemmas.List.{append-nil}
+use Rattle.std.{proofs.lemmas.Bool.{and_parts, and_from}, proofs.lemmas.List.{append-nil}, specs.Prelude.{if◌then◌else◌}}
 use Rattle.html_names_core.specs.Characters.{all, IsOf}
 use Rattle.typst_html_encode.specs.Reader.{ReaderState, run, step}
 

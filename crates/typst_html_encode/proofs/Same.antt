@@ -1,9 +1,7 @@
 -- Trees with the same text have the same normal form.
 use Rattle.std.proofs.Common.{◌≡◌, Some, sym, ap, ◌∙◌}
 use Rattle.html_dom_tree.specs.PlainTree.{element_normal}
-use Rattle.typst_html_encode.specs.Reader.{read}
-use Rattle.typst_html_encode.specs.ReadingBack.{SameTextSameForm}
-use Rattle.typst_html_encode.proofs.ReadingBack.{plain_reads_back}
+use Rattle.typst_html_encode.{proofs.ReadingBack.{plain_reads_back}, specs.Reader.{read}, specs.ReadingBack.{SameTextSameForm}}
 
 pub same_text : SameTextSameForm
 same_text frames d e n m x y f w same =

@@ -1,15 +1,10 @@
 -- Stretches of a text that are written as they are.
 use Rattle.std.proofs.Common.{◌≡◌, ℕ, ◌+◌, ◌<◌, ◌≤◌, length, get_or, Bool, true, false, not, ◌&&◌, List, [], ◌∷◌, ◌++◌, arith, refl, ap, ◌∙◌, sym, chars, append_assoc}
-use Rattle.std.proofs.lemmas.Bool.{and_from, and_parts, not-true}
-use Rattle.std.proofs.lemmas.Str.{chars-IsAscii, IsUtf8-append, IsUtf8-encode, chars-append}
-use Rattle.std.proofs.lemmas.Str.Ascii.{IsAscii-nil, IsAscii-cons}
-use Rattle.std.specs.Str.{IsUtf8}
-use Rattle.html_names_core.specs.Characters.{all}
-use Rattle.html_names_core.proofs.Basics.{all_append, chars-encode, first_scalar}
-use Rattle.typst_html_encode.specs.ExportFaults.{is_bad, text_faults}
-use Rattle.typst_html_encode.specs.PlainStretches.{is_plain, PassesPlain}
-use Rattle.typst_html_encode.specs.Text.{stands_as_is, escaped_text}
-use Rattle.typst_html_encode.specs.declared.escape.Escaping.{Escaping}
+use Rattle.std.proofs.lemmas.{Bool.{and_from, and_parts, not-true}, Str.{chars-IsAscii, IsUtf8-append, IsUtf8-encode, chars-append}}
+use Rattle.std.{proofs.lemmas.Str.Ascii.{IsAscii-nil, IsAscii-cons}, specs.Str.{IsUtf8}}
+use Rattle.html_names_core.{proofs.Basics.{all_append, chars-encode, first_scalar}, specs.Characters.{all}}
+use Rattle.typst_html_encode.specs.{ExportFaults.{is_bad, text_faults}, PlainStretches.{is_plain, PassesPlain}}
+use Rattle.typst_html_encode.specs.{Text.{stands_as_is, escaped_text}, declared.escape.Escaping.{Escaping}}
 use lib.Utf8.{encode}
 
 -- a character that is plain, and one that is not

@@ -1,22 +1,15 @@
 -- Start tags and end tags are read back.
 use Rattle.std.proofs.Common.{◌≡◌, ℕ, Bool, true, false, not, ◌&&◌, inl, inr, eqb, List, [], ◌∷◌, ◌++◌, codes, bytes_eq, sym, refl, ap, ◌∙◌, arith, append_assoc}
-use Rattle.std.specs.Prelude.{if◌then◌else◌}
-use Rattle.std.specs.List.{AllByRecursion}
-use Rattle.std.proofs.lemmas.Bool.{cases_Bool, and_parts, not-true}
-use Rattle.std.proofs.lemmas.Bool.Decides.{nat_tests}
-use Rattle.std.proofs.lemmas.List.{append-nil}
-use Rattle.std.proofs.lemmas.Slice.Eq.{bytes_eq-Decides}
+use Rattle.std.proofs.lemmas.{Bool.{cases_Bool, and_parts, not-true}, List.{append-nil}, Bool.Decides.{nat_tests}}
+use Rattle.std.{proofs.lemmas.Slice.Eq.{bytes_eq-Decides}, specs.List.{AllByRecursion}, specs.Prelude.{if◌then◌else◌}}
 use Rattle.html_names_core.specs.Characters.{all, IsOf, is_tag_char, is_attr_char, is_text_char, is_value_char}
 use Rattle.html_names_core.specs.Kinds.{is_foreign_self_closing}
-use Rattle.html_dom_tree.specs.Tree.{TextPair}
-use Rattle.html_dom_tree.specs.PlainTree.{no_plains}
+use Rattle.html_dom_tree.specs.{PlainTree.{no_plains}, Tree.{TextPair}}
 use Rattle.typst_html_encode.specs.declared.escape.Escaping.TheVariants as escaping
-use Rattle.typst_html_encode.specs.Text.{char_text, escaped_text, value_text, attrs_text, tag_close}
-use Rattle.typst_html_encode.specs.Reader.{ReaderState, Content, Less, StartName, Space, AttrName, Equals, Value, ValueReference, Quoted, EndName, Open, with_text, complete, after_start_tag, close, holds_text_alone, run, step}
-use Rattle.typst_html_encode.specs.ReadingBack.{PairIsNamed}
-use Rattle.typst_html_encode.specs.ExportFaults.{text_faults, attrs_faults}
 use Rattle.typst_html_encode.proofs.References.{reference_read, text_scalar, text_positive, text_good}
-use Rattle.typst_html_encode.proofs.Runs.{grows, read_on, all_of, left_empty, right_empty}
+use Rattle.typst_html_encode.{proofs.Runs.{grows, read_on, all_of, left_empty, right_empty}, specs.ExportFaults.{text_faults, attrs_faults}}
+use Rattle.typst_html_encode.specs.Reader.{ReaderState, Content, Less, StartName, Space, AttrName, Equals, Value, ValueReference, Quoted, EndName, Open, with_text, complete, after_start_tag, close, holds_text_alone, run, step}
+use Rattle.typst_html_encode.specs.{ReadingBack.{PairIsNamed}, Text.{char_text, escaped_text, value_text, attrs_text, tag_close}}
 
 abbrev pub started : List ℕ → List TextPair → List Open → ReaderState
 started name attrs s = if is_foreign_self_closing name then complete name attrs no_plains s

@@ -1,19 +1,14 @@
 -- One turn of a walk over a flat tree: it leaves an element, or comes to a node.
 use Rattle.std.proofs.Common.{◌≡◌, ℕ, ◌<◌, ◌&&◌, Bool, true, false, List, [], ◌∷◌, ◌++◌, refl, sym, ap, ◌∙◌, arith, append_assoc, append-nil, subst}
 use Rattle.html_dom_tree.specs.Tree.{Head, NodeView, element_node, NodesView, none, node}
-use Rattle.html_dom_flat.specs.Flat.{nodes_count}
-use Rattle.html_dom_flat.proofs.Flats.{count_some}
+use Rattle.html_dom_flat.{proofs.Flats.{count_some}, specs.Flat.{nodes_count}}
 use Rattle.typst_html_encode.proofs.Firsts.{first_of_more}
 use Rattle.typst_html_encode.proofs.Walk.{entered_text, entered_faults, skipped_text, skipped_faults, skipped_named, first_in_node, rest_text, rest_faults, RestIsNamed, rest_size, rest_text_first, rest_faults_first, rest_named_first}
-use Rattle.typst_html_encode.specs.ExportFaults.{IsFirst, nodes_faults}
-use Rattle.typst_html_encode.specs.FrameWriters.{Frames}
-use Rattle.typst_html_encode.specs.Layout.{indent_where, has_indent, due_after, margin_inside}
-use Rattle.typst_html_encode.specs.ReadingBack.{NodeIsNamed, NodesAreNamed}
+use Rattle.typst_html_encode.specs.{ExportFaults.{IsFirst, nodes_faults}, FrameWriters.{Frames}}
+use Rattle.typst_html_encode.specs.{Layout.{indent_where, has_indent, due_after, margin_inside}, ReadingBack.{NodeIsNamed, NodesAreNamed}}
 use Rattle.typst_html_encode.specs.Text.{end_tag_text, nodes_text}
 use Rattle.typst_html_encode.specs.WriterWalk.{first_text, turn_text, turn_faults, FirstIsNamed, is_element_entered, node_is_entered, OpenElementView, open_element, outside_text, next_place}
-use Rattle.typst_html_encode.specs.declared.fault.ExportFault.{ExportFault}
-use Rattle.typst_html_encode.specs.declared.layout.Margin.{Margin}
-use Rattle.typst_html_encode.specs.declared.place.Place.{Place}
+use Rattle.typst_html_encode.specs.declared.{fault.ExportFault.{ExportFault}, layout.Margin.{Margin}, place.Place.{Place}}
 
 -- a walk over nodes has written a text: with the text of what is left it is the text of the nodes
 pub record IsAt (frames : Frames) (outer : Margin) (whole : NodesView) (start : List ℕ)

@@ -2,22 +2,17 @@
 use Rattle.std.proofs.Common.{◌≡◌, ℕ, ◌+◌, ◌*◌, ◌&&◌, not, Bool, true, false, List, [], ◌∷◌, ◌++◌, refl, sym, ap, ◌∙◌, append_assoc, append-nil, subst}
 use Rattle.std.specs.Prelude.{if◌then◌else◌, Result}
 use Rattle.html_dom_tree.specs.Tree.{Head, NodeView, tag_node, text_node, element_node, frame_node, NodesView, none, node}
-use Rattle.typst_html_encode.proofs.Firsts.{first_of_more}
-use Rattle.typst_html_encode.proofs.Named.{texts_named, raw_content_named, childless_named}
-use Rattle.typst_html_encode.proofs.Runs.{right_empty}
-use Rattle.typst_html_encode.specs.Content.{content_kind, by_kind}
-use Rattle.typst_html_encode.specs.declared.content.ContentKind.{ContentKind}
-use Rattle.typst_html_encode.specs.declared.content.ContentKind.TheVariants.{Raw, EscapableRaw, Nodes}
+use Rattle.typst_html_encode.proofs.{Firsts.{first_of_more}, Named.{texts_named, raw_content_named, childless_named}, Runs.{right_empty}}
+use Rattle.typst_html_encode.specs.{Content.{content_kind, by_kind}, Endings.{Adds}}
 use Rattle.typst_html_encode.specs.ExportFaults.{IsFirst, element_faults, attrs_faults, void_faults, raw_content_faults, nodes_raw_faults, node_faults, nodes_faults}
 use Rattle.typst_html_encode.specs.FrameWriters.{Frames}
 use Rattle.typst_html_encode.specs.Layout.{raw_text, has_indent, due_after, indent_where, margin_inside, allows_pretty_inside, is_pretty_inside}
 use Rattle.typst_html_encode.specs.ReadingBack.{NodeIsNamed, NodesAreNamed, ElementIsNamed}
 use Rattle.typst_html_encode.specs.Text.{element_text, start_tag_text, end_tag_text, ends_at_once, feed_text, escaped_text, nodes_raw_text, node_text, nodes_text}
 use Rattle.typst_html_encode.specs.WriterWalk.{has_nodes, is_element_entered, first_text, first_faults, FirstIsNamed, node_is_entered, OpenElementView, outside_text, next_place}
-use Rattle.typst_html_encode.specs.Endings.{Adds}
+use Rattle.typst_html_encode.specs.declared.content.{ContentKind.{ContentKind}, ContentKind.TheVariants.{Raw, EscapableRaw, Nodes}}
 use Rattle.typst_html_encode.specs.declared.escape.Escaping.TheVariants as escaping
-use Rattle.typst_html_encode.specs.declared.fault.ExportFault.{ExportFault}
-use Rattle.typst_html_encode.specs.declared.layout.Margin.{Margin}
+use Rattle.typst_html_encode.specs.declared.{fault.ExportFault.{ExportFault}, layout.Margin.{Margin}}
 use Rattle.html_dom_flat.specs.Flat.{nodes_count}
 
 and_false : (b : Bool) → (b && false) ≡ false

@@ -1,11 +1,8 @@
 -- The results of calls that may fail with an `ExportFault`: the expected result if there is no
 -- fault, or the first fault; memory may run out before either.
-use Rattle.std.specs.Prelude.{◌≡◌, ℕ, List, [], ◌++◌, Result, String, OnOk, IfOk, IfErr}
-use Rattle.std.specs.declared.alloc.Global.{Global}
-use Rattle.html_names_core.specs.Endings.{GivesBy, AddsBy}
-use Rattle.html_names_core.specs.Texts.{text_view}
-use Rattle.typst_html_encode.specs.ExportFaults.{IsFirst}
-use Rattle.typst_html_encode.specs.declared.fault.ExportFault.{ExportFault}
+use Rattle.std.specs.{Prelude.{◌≡◌, ℕ, List, [], ◌++◌, Result, String, OnOk, IfOk, IfErr}, declared.alloc.Global.{Global}}
+use Rattle.html_names_core.specs.{Endings.{GivesBy, AddsBy}, Texts.{text_view}}
+use Rattle.typst_html_encode.specs.{ExportFaults.{IsFirst}, declared.fault.ExportFault.{ExportFault}}
 
 -- the call returns the text
 abbrev pub Gives : Result (String Global) ExportFault → (text : List ℕ) → List ExportFault → Type 0

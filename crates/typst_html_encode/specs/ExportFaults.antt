@@ -6,14 +6,11 @@ use Rattle.html_names_core.specs.Characters.{is_text_char}
 use Rattle.html_names_core.specs.NameFaults as names
 use Rattle.html_values_css.specs.CastFaults as casts
 use Rattle.html_flow_faults.specs.ConstructFaults as constructs
-use Rattle.html_dom_tree.specs.declared.span.Span.{Span}
 use Rattle.html_dom_tree.specs.Tree.{TextPair, Head, NodeView, tag_node, text_node, element_node, frame_node, NodesView, none, node, ElementView}
+use Rattle.html_dom_tree.specs.declared.span.Span.{Span}
 use Rattle.html_text.specs.ClosingTags.{holds_closing}
-use Rattle.typst_html_encode.specs.Content.{content_kind, by_kind}
-use Rattle.typst_html_encode.specs.FrameWriters.{Frames}
-use Rattle.typst_html_encode.specs.Layout.{is_pretty_inside}
-use Rattle.typst_html_encode.specs.Text.{nodes_raw_text, ends_at_once, escaping_of}
-use Rattle.typst_html_encode.specs.declared.escape.Escaping.{Escaping}
+use Rattle.typst_html_encode.specs.{Content.{content_kind, by_kind}, FrameWriters.{Frames}, Layout.{is_pretty_inside}}
+use Rattle.typst_html_encode.specs.{Text.{nodes_raw_text, ends_at_once, escaping_of}, declared.escape.Escaping.{Escaping}}
 use Rattle.typst_html_encode.specs.declared.escape.Escaping.TheVariants as escaping
 use Rattle.typst_html_encode.specs.declared.fault.ExportFault.{ExportFault}
 use Rattle.typst_html_encode.specs.declared.fault.ExportFault.TheVariants as fault

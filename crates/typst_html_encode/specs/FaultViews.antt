@@ -1,11 +1,8 @@
 -- The pure values of faults, and when one is the first of a list.
 use Rattle.std.specs.Prelude.{◌≡◌, ℕ, List, ◌∷◌, map}
 use native.Mathlib.Decide.{ℕ_discrete}
-use Rattle.html_names_core.specs.Equal.{text_discrete}
-use Rattle.html_names_core.specs.NameFaults.{name_fault_discrete}
-use Rattle.html_names_core.specs.declared.fault.NameFault.{NameFault}
-use Rattle.html_values_css.specs.CastFaults.{cast_fault_discrete}
-use Rattle.html_values_css.specs.declared.cast_fault.CastFault.{CastFault}
+use Rattle.html_names_core.specs.{Equal.{text_discrete}, NameFaults.{name_fault_discrete}, declared.fault.NameFault.{NameFault}}
+use Rattle.html_values_css.specs.{CastFaults.{cast_fault_discrete}, declared.cast_fault.CastFault.{CastFault}}
 use Rattle.html_flow_faults.specs.ConstructFaults.{ConstructFaultView, construct_fault_view, construct_fault_discrete}
 use Rattle.html_dom_tree.specs.declared.span.Span.{Span}
 use Rattle.typst_html_encode.specs.declared.fault.ExportFault.{ExportFault}

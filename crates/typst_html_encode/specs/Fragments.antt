@@ -1,13 +1,9 @@
 -- The text of nodes without a document type: a piece of a page that another program makes (HTML
 -- Standard 13.1.2, the content between the tags of an element).
 use Rattle.std.specs.Prelude.{◌≡◌, ℕ, List, [], ◌++◌, codes, Some, None, false, true}
-use Rattle.html_dom_tree.specs.PlainTree.{element_normal}
-use Rattle.html_dom_tree.specs.Tree.{Head, NodesView}
-use Rattle.typst_html_encode.specs.ExportFaults.{nodes_faults}
-use Rattle.typst_html_encode.specs.FrameWriters.{Frames}
-use Rattle.typst_html_encode.specs.Reader.{read}
-use Rattle.typst_html_encode.specs.Text.{nodes_text, plain_options, root_margin}
-use Rattle.typst_html_encode.specs.declared.fault.ExportFault.{ExportFault}
+use Rattle.html_dom_tree.specs.{PlainTree.{element_normal}, Tree.{Head, NodesView}}
+use Rattle.typst_html_encode.specs.{ExportFaults.{nodes_faults}, FrameWriters.{Frames}, Reader.{read}}
+use Rattle.typst_html_encode.specs.{Text.{nodes_text, plain_options, root_margin}, declared.fault.ExportFault.{ExportFault}}
 
 -- the text between the tags of an element that is written plain
 abbrev pub fragment_text : Frames → NodesView → List ℕ

@@ -1,10 +1,8 @@
 -- The results of a writer of frames.
-use Rattle.std.specs.Prelude.{◌≡◌, ℕ, List, Bool, Option, Some, None, Result, Ok, Err, String}
-use Rattle.std.specs.declared.alloc.Global.{Global}
+use Rattle.std.specs.{Prelude.{◌≡◌, ℕ, List, Bool, Option, Some, None, Result, Ok, Err, String}, declared.alloc.Global.{Global}}
 use Rattle.html_names_core.specs.Texts.{text_view}
 use Rattle.html_dom_tree.specs.Frames.{FrameView, frame, HtmlFrameView}
-use Rattle.typst_html_encode.specs.declared.frame.FrameFault.{FrameFault}
-use Rattle.typst_html_encode.specs.declared.frame.FrameFault.TheVariants.{OutOfMemory, Refused}
+use Rattle.typst_html_encode.specs.declared.frame.{FrameFault.{FrameFault}, FrameFault.TheVariants.{OutOfMemory, Refused}}
 
 -- the text of a frame with pretty writing on or off, or nothing if the frame is refused
 abbrev pub Frames : Type 0

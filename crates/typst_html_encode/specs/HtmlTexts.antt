@@ -1,18 +1,9 @@
 -- The contract of a call that writes a tree.
-use Rattle.std.specs.Prelude.{◌≡◌, true, false, Some, Result, IfOk, String}
-use Rattle.std.specs.declared.alloc.Global.{Global}
-use Rattle.html_dom_tree.specs.FrameFree.{ElementIsFrameFree}
-use Rattle.html_dom_tree.specs.PlainTree.{element_normal}
-use Rattle.html_dom_tree.specs.Tree.{ElementView}
-use Rattle.html_dom_tree.specs.Views.{text_view}
-use Rattle.typst_html_encode.specs.Endings.{Gives}
-use Rattle.typst_html_encode.specs.ExportFaults.{document_faults}
-use Rattle.typst_html_encode.specs.FrameWriters.{Frames}
-use Rattle.typst_html_encode.specs.Indented.{element_layout, ElementEndsWell}
-use Rattle.typst_html_encode.specs.Reader.{read}
-use Rattle.typst_html_encode.specs.Text.{document_text}
-use Rattle.typst_html_encode.specs.declared.fault.ExportFault.{ExportFault}
-use Rattle.typst_html_encode.specs.declared.options.HtmlOptions.{HtmlOptions}
+use Rattle.std.specs.{Prelude.{◌≡◌, true, false, Some, Result, IfOk, String}, declared.alloc.Global.{Global}}
+use Rattle.html_dom_tree.specs.{FrameFree.{ElementIsFrameFree}, PlainTree.{element_normal}, Tree.{ElementView}, Views.{text_view}}
+use Rattle.typst_html_encode.specs.{Endings.{Gives}, ExportFaults.{document_faults}, FrameWriters.{Frames}}
+use Rattle.typst_html_encode.specs.{Indented.{element_layout, ElementEndsWell}, Reader.{read}, Text.{document_text}}
+use Rattle.typst_html_encode.specs.declared.{fault.ExportFault.{ExportFault}, options.HtmlOptions.{HtmlOptions}}
 
 -- the result is the text of a tree, or its first fault; the text of a tree without frames reads
 -- back

@@ -6,8 +6,7 @@ use Rattle.html_dom_tree.specs.Tree.{Head, NodeView, tag_node, text_node, elemen
 use Rattle.html_text.specs.ClosingTags.{holds_closing}
 use Rattle.typst_html_encode.specs.Content.{content_kind, by_kind}
 use Rattle.typst_html_encode.specs.Layout.{indent, is_pretty_inside, deeper, margin_inside, has_indent, due_after, is_by_lines, lines_text}
-use Rattle.typst_html_encode.specs.Text.{nodes_raw_text, ends_at_once, root_margin, pretty_options}
-use Rattle.typst_html_encode.specs.declared.layout.Margin.{Margin}
+use Rattle.typst_html_encode.specs.{Text.{nodes_raw_text, ends_at_once, root_margin, pretty_options}, declared.layout.Margin.{Margin}}
 
 abbrev pub with_indent : Bool → (level : ℕ) → NodesView → NodesView
 with_indent b level ns = if b then node (text_node (indent level) 0) ns else ns

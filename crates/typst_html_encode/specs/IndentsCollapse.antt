@@ -5,8 +5,7 @@ use Rattle.html_dom_tree.specs.PlainTree.{Plains, nodes_normal}
 use Rattle.html_dom_tree.specs.Tree.{Head, tag_node, text_node, element_node, frame_node, NodesView, none, node, ElementView}
 pub use Rattle.html_dom_shown.specs.Bodies.{body_children, body_in}
 use Rattle.html_dom_shown.specs.Collapsing.{preserves, has_border_display, plains_atoms, collapsed_pieces}
-use Rattle.typst_html_encode.specs.Indented.{content_layout, element_layout}
-use Rattle.typst_html_encode.specs.Layout.{allows_pretty_inside, wants_pretty_around}
+use Rattle.typst_html_encode.specs.{Indented.{content_layout, element_layout}, Layout.{allows_pretty_inside, wants_pretty_around}}
 
 -- the element is not raw, it has a border if it has indents around or inside it, and it preserves
 -- no blank if it has indents inside

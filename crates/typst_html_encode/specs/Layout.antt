@@ -1,9 +1,8 @@
 -- Pretty writing, by this project's rules: where indents are, and which texts are cut into lines.
-use Rattle.std.specs.Prelude.{ℕ, zero, suc, ◌+◌, Bool, true, false, not, ◌&&◌, ◌||◌, ◌==◌, List, [], ◌∷◌, ◌++◌, if◌then◌else◌, codes, Option, Some, None, bytes_eq}
 use Rattle.std.specs.List.{list_any}
+use Rattle.std.specs.Prelude.{ℕ, zero, suc, ◌+◌, Bool, true, false, not, ◌&&◌, ◌||◌, ◌==◌, List, [], ◌∷◌, ◌++◌, if◌then◌else◌, codes, Option, Some, None, bytes_eq}
 use Rattle.std.specs.Str.Lines.{lines}
-use Rattle.html_names_core.specs.Displays.{default_display, is_tabular}
-use Rattle.html_names_core.specs.Kinds.{is_mathml, is_token, is_metadata_content}
+use Rattle.html_names_core.specs.{Displays.{default_display, is_tabular}, Kinds.{is_mathml, is_token, is_metadata_content}}
 use Rattle.html_names_core.specs.declared.property.Display.{Display}
 use Rattle.html_names_core.specs.declared.property.Display.TheVariants as display
 use Rattle.html_dom_tree.specs.Attributes.{first}

@@ -1,14 +1,10 @@
 -- The pure values of the elements that a walk has entered.
 use Rattle.std.specs.Prelude.{◌≡◌, Bool, true, false, ◌&&◌, List, map, reverse, Option, Some, None}
 use Rattle.html_dom_tree.specs.Tree.{NodeView, element_node}
-use Rattle.html_dom_flat.specs.Siblings.{head_view, siblings_view}
-use Rattle.html_dom_flat.specs.declared.siblings.Element.{Element}
-use Rattle.typst_html_encode.specs.Layout.{due_after}
-use Rattle.typst_html_encode.specs.WriterWalk.{OpenElementView, is_element_entered, node_is_entered}
-use Rattle.typst_html_encode.specs.declared.open_elements.OpenElement.{OpenElement}
-use Rattle.typst_html_encode.specs.declared.open_elements.OpenElements.{OpenElements}
-use Rattle.typst_html_encode.specs.declared.place.Place.{Place}
-use Rattle.typst_html_encode.specs.declared.write.Turn.{Turn}
+use Rattle.html_dom_flat.specs.{Siblings.{head_view, siblings_view}, declared.siblings.Element.{Element}}
+use Rattle.typst_html_encode.specs.{Layout.{due_after}, WriterWalk.{OpenElementView, is_element_entered, node_is_entered}}
+use Rattle.typst_html_encode.specs.declared.open_elements.{OpenElement.{OpenElement}, OpenElements.{OpenElements}}
+use Rattle.typst_html_encode.specs.declared.{place.Place.{Place}, write.Turn.{Turn}}
 
 abbrev pub open_element_view : OpenElement → OpenElementView
 open_element_view o = record {

@@ -3,10 +3,8 @@ use Rattle.std.specs.Prelude.{◌≡◌, ℕ, Bool, true, not, ◌||◌, ◌&&�
 use Rattle.std.specs.Str.{IsUtf8}
 use Rattle.html_names_core.specs.Characters.{all}
 use Rattle.html_text.specs.Fronts.{has_byte}
-use Rattle.typst_html_encode.specs.ExportFaults.{is_bad, is_reference, text_faults}
-use Rattle.typst_html_encode.specs.Text.{stands_as_is, escaped_text}
-use Rattle.typst_html_encode.specs.declared.escape.Escaping.{Escaping}
-use Rattle.typst_html_encode.specs.declared.stretch.TheConstants.{PASSED}
+use Rattle.typst_html_encode.specs.{ExportFaults.{is_bad, is_reference, text_faults}, Text.{stands_as_is, escaped_text}}
+use Rattle.typst_html_encode.specs.declared.{escape.Escaping.{Escaping}, stretch.TheConstants.{PASSED}}
 
 -- the character can be written, and is written as it is
 abbrev pub is_plain : Escaping → ℕ → Bool

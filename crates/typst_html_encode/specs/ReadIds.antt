@@ -1,11 +1,8 @@
 -- The texts that the elements of a tree have once the tree is read from text, such as its ids.
 use Rattle.std.specs.Prelude.{◌≡◌, ℕ, List, [], ◌++◌, codes, Option, Some, None, option_to_list}
-use Rattle.html_dom_tree.specs.Attributes.{first}
-use Rattle.html_dom_tree.specs.PlainTree.{Plain, words, branch, Plains, no_plains, plain, nodes_normal}
+use Rattle.html_dom_tree.specs.{Attributes.{first}, PlainTree.{Plain, words, branch, Plains, no_plains, plain, nodes_normal}}
 use Rattle.html_dom_tree.specs.Tree.{TextPair, ElementView}
-use Rattle.typst_html_encode.specs.ExportFaults.{document_faults}
-use Rattle.typst_html_encode.specs.FrameWriters.{Frames}
-use Rattle.typst_html_encode.specs.Indented.{element_layout}
+use Rattle.typst_html_encode.specs.{ExportFaults.{document_faults}, FrameWriters.{Frames}, Indented.{element_layout}}
 use Rattle.typst_html_encode.specs.declared.options.HtmlOptions.{HtmlOptions}
 
 -- the texts of an element, by its name and its attributes

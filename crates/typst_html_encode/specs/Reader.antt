@@ -5,8 +5,7 @@
 use Rattle.std.specs.Prelude.{ℕ, Bool, false, not, ◌&&◌, ◌||◌, ◌==◌, List, [], ◌∷◌, ◌++◌, if◌then◌else◌, codes, Option, Some, None, bytes_eq, take, drop}
 use Rattle.html_names_core.specs.Characters.{is_tag_char, is_attr_char, is_blank}
 use Rattle.html_names_core.specs.Kinds.{is_void, is_foreign_self_closing, is_raw, is_escapable_raw}
-use Rattle.html_dom_tree.specs.Tree.{TextPair}
-use Rattle.html_dom_tree.specs.PlainTree.{Plain, words, branch, Plains, no_plains, plain}
+use Rattle.html_dom_tree.specs.{PlainTree.{Plain, words, branch, Plains, no_plains, plain}, Tree.{TextPair}}
 use Rattle.typst_html_encode.specs.References.{reference}
 use Rattle.html_text.specs.ClosingTags.{is_tag_end, ends_closing, ends_exact, before_closing}
 

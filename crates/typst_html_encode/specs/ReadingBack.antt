@@ -1,15 +1,10 @@
 -- What is written is read back.
-use Rattle.std.specs.Prelude.{◌≡◌, true, List, [], Some}
-use Rattle.std.specs.List.{AllByRecursion}
+use Rattle.std.specs.{List.{AllByRecursion}, Prelude.{◌≡◌, true, List, [], Some}}
 use Rattle.html_names_core.specs.Characters.{is_tag_char, is_attr_char, IsOf}
-use Rattle.html_dom_tree.specs.FrameFree.{ElementIsFrameFree}
+use Rattle.html_dom_tree.specs.{FrameFree.{ElementIsFrameFree}, PlainTree.{element_normal}}
 use Rattle.html_dom_tree.specs.Tree.{TextPair, Head, NodeView, tag_node, text_node, element_node, frame_node, NodesView, none, node, ElementView}
-use Rattle.html_dom_tree.specs.PlainTree.{element_normal}
-use Rattle.typst_html_encode.specs.ExportFaults.{document_faults}
-use Rattle.typst_html_encode.specs.FrameWriters.{Frames}
-use Rattle.typst_html_encode.specs.Indented.{element_layout, ElementEndsWell}
-use Rattle.typst_html_encode.specs.Reader.{read}
-use Rattle.typst_html_encode.specs.Text.{plain_options, pretty_options, document_text}
+use Rattle.typst_html_encode.specs.{ExportFaults.{document_faults}, FrameWriters.{Frames}, Indented.{element_layout, ElementEndsWell}}
+use Rattle.typst_html_encode.specs.{Reader.{read}, Text.{plain_options, pretty_options, document_text}}
 
 -- the name is valid, as the program's types ensure
 abbrev pub PairIsNamed : TextPair → Type 0

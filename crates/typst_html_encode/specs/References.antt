@@ -1,8 +1,8 @@
 -- Character references: how a character is written as one, and which are read. HTML Standard
 -- 13.1.4, narrowed by this project to five names and to lower hexadecimal numbers without a leading
 -- zero.
-use Rattle.std.specs.Prelude.{ℕ, false, ◌&&◌, ◌==◌, nat_lt, List, [], ◌∷◌, ◌++◌, if◌then◌else◌, codes, Option, Some, None, bytes_eq}
 use Rattle.std.specs.Fmt.{digits}
+use Rattle.std.specs.Prelude.{ℕ, false, ◌&&◌, ◌==◌, nat_lt, List, [], ◌∷◌, ◌++◌, if◌then◌else◌, codes, Option, Some, None, bytes_eq}
 use Rattle.std.specs.Str.Parse.{digits_value}
 use lib.Utf8.{scalar}
 

@@ -1,17 +1,12 @@
 -- The text of a tree, plain and pretty: HTML Standard 13.1, with the choices of this project.
 use Rattle.std.specs.Prelude.{ℕ, Bool, true, false, ◌||◌, ◌&&◌, ◌==◌, List, [], ◌∷◌, ◌++◌, if◌then◌else◌, codes}
-use Rattle.html_names_core.specs.Characters.{is_element_text_char, is_value_char}
-use Rattle.html_names_core.specs.Kinds.{is_void, is_foreign_self_closing}
+use Rattle.html_names_core.specs.{Characters.{is_element_text_char, is_value_char}, Kinds.{is_void, is_foreign_self_closing}}
 use Rattle.html_dom_tree.specs.Tree.{TextPair, Head, NodeView, tag_node, text_node, element_node, frame_node, NodesView, none, node, ElementView}
-use Rattle.typst_html_encode.specs.Content.{content_kind, by_kind}
-use Rattle.typst_html_encode.specs.FrameWriters.{Frames}
+use Rattle.typst_html_encode.specs.{Content.{content_kind, by_kind}, FrameWriters.{Frames}}
 use Rattle.typst_html_encode.specs.Layout.{deeper, margin_inside, indent_where, feed_where, has_indent, due_after, raw_text, frame_text}
-use Rattle.typst_html_encode.specs.Reader.{drops_feed}
-use Rattle.typst_html_encode.specs.References.{reference_to}
-use Rattle.typst_html_encode.specs.declared.escape.Escaping.{Escaping}
+use Rattle.typst_html_encode.specs.{Reader.{drops_feed}, References.{reference_to}, declared.escape.Escaping.{Escaping}}
 use Rattle.typst_html_encode.specs.declared.escape.Escaping.TheVariants as escaping
-use Rattle.typst_html_encode.specs.declared.layout.Margin.{Margin}
-use Rattle.typst_html_encode.specs.declared.options.HtmlOptions.{HtmlOptions}
+use Rattle.typst_html_encode.specs.declared.{layout.Margin.{Margin}, options.HtmlOptions.{HtmlOptions}}
 
 -- the character is written as it is; others are written as references
 abbrev pub stands_as_is : Escaping → ℕ → Bool

@@ -3,14 +3,11 @@ use Rattle.std.specs.Prelude.{ℕ, Bool, true, false, not, ◌&&◌, List, [], �
 use Rattle.html_dom_tree.specs.Tree.{Head, NodeView, tag_node, text_node, element_node, frame_node, NodesView, none, node, ElementView}
 use Rattle.typst_html_encode.specs.Content.{content_kind, by_kind}
 use Rattle.typst_html_encode.specs.ExportFaults.{text_faults, frame_faults, attrs_faults, void_faults, raw_content_faults, nodes_raw_faults}
-use Rattle.typst_html_encode.specs.FrameWriters.{Frames}
-use Rattle.typst_html_encode.specs.Layout.{raw_text, frame_text, indent_where, deeper, has_indent}
+use Rattle.typst_html_encode.specs.{FrameWriters.{Frames}, Layout.{raw_text, frame_text, indent_where, deeper, has_indent}}
 use Rattle.typst_html_encode.specs.ReadingBack.{HeadIsNamed}
 use Rattle.typst_html_encode.specs.Text.{escaping_of, start_tag_text, end_tag_text, ends_at_once, feed_text, escaped_text, nodes_raw_text, node_text}
 use Rattle.typst_html_encode.specs.declared.escape.Escaping.TheVariants as escaping
-use Rattle.typst_html_encode.specs.declared.fault.ExportFault.{ExportFault}
-use Rattle.typst_html_encode.specs.declared.layout.Margin.{Margin}
-use Rattle.typst_html_encode.specs.declared.place.Place.{Place}
+use Rattle.typst_html_encode.specs.declared.{fault.ExportFault.{ExportFault}, layout.Margin.{Margin}, place.Place.{Place}}
 
 abbrev pub has_nodes : NodesView → Bool
 has_nodes none = false

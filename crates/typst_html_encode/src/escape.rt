@@ -2,11 +2,9 @@
 
 ghost use Rattle.std.specs.Prelude.{◌≡◌, ◌<◌, ◌++◌, ◌∷◌, [], true, false, OnOk, IfOk, IfSome, chars};
 ghost use Rattle.html_names_core.specs.Characters.{is_text_char};
-ghost use Rattle.typst_html_encode.specs.ExportFaults.{is_bad, is_reference, char_faults, text_faults};
-ghost use Rattle.typst_html_encode.specs.References.{reference_to};
-ghost use Rattle.typst_html_encode.specs.PlainStretches.{is_plain, PassesPlain, WritesUpTo};
+ghost use Rattle.typst_html_encode.specs.{Endings.{Adds}, ExportFaults.{is_bad, is_reference, char_faults, text_faults}};
+ghost use Rattle.typst_html_encode.specs.{PlainStretches.{is_plain, PassesPlain, WritesUpTo}, References.{reference_to}};
 ghost use Rattle.typst_html_encode.specs.Text.{stands_as_is, char_text, escaped_text};
-ghost use Rattle.typst_html_encode.specs.Endings.{Adds};
 
 use crate::fault::ExportFault;
 use crate::stretch::past_passed;

@@ -1,17 +1,11 @@
 //! The HTML text of a tree behind a document type. The tree is borrowed, consumed or flat.
 
 ghost use Rattle.std.specs.Prelude.{◌≡◌, true, false, Some, IfOk};
-ghost use Rattle.html_dom_tree.specs.PlainTree.{element_normal};
-ghost use Rattle.html_dom_tree.specs.Tree.{ElementView, node, none, element_node};
-ghost use Rattle.html_dom_tree.specs.Views.{text_view, element_view};
+ghost use Rattle.html_dom_tree.specs.{FrameFree.{ElementIsFrameFree}, PlainTree.{element_normal}};
+ghost use Rattle.html_dom_tree.specs.{Tree.{ElementView, node, none, element_node}, Views.{text_view, element_view}};
 ghost use Rattle.html_dom_flat.specs.FlatTrees.{tree_nodes};
-ghost use Rattle.typst_html_encode.specs.ExportFaults.{document_faults};
-ghost use Rattle.typst_html_encode.specs.Indented.{element_layout, ElementEndsWell};
-ghost use Rattle.typst_html_encode.specs.Reader.{read};
-ghost use Rattle.html_dom_tree.specs.FrameFree.{ElementIsFrameFree};
-ghost use Rattle.typst_html_encode.specs.Text.{document_text};
-ghost use Rattle.typst_html_encode.specs.Endings.{Gives};
-ghost use Rattle.typst_html_encode.specs.HtmlTexts.{IsHtmlOf};
+ghost use Rattle.typst_html_encode.specs.{Endings.{Gives}, ExportFaults.{document_faults}, HtmlTexts.{IsHtmlOf}};
+ghost use Rattle.typst_html_encode.specs.{Indented.{element_layout, ElementEndsWell}, Reader.{read}, Text.{document_text}};
 
 use crate::fault::ExportFault;
 use crate::frame::FrameWriter;

@@ -1,8 +1,7 @@
 //! Why items or a tree have no HTML text, and the faults of names, casts and constructions.
 
 ghost use Rattle.std.specs.Prelude.{◌≡◌, ◌↔◌, IsTrue};
-ghost use Rattle.typst_html_encode.specs.ExportFaults.{first_span};
-ghost use Rattle.typst_html_encode.specs.FaultViews.{export_fault_view, spans_view};
+ghost use Rattle.typst_html_encode.specs.{ExportFaults.{first_span}, FaultViews.{export_fault_view, spans_view}};
 
 use crate::frame::FrameFault;
 use html_dom_tree::Span;

@@ -1,10 +1,8 @@
 //! The HTML text of nodes without a document around them.
 
 ghost use Rattle.std.specs.Prelude.{IfOk};
-ghost use Rattle.html_dom_tree.specs.FrameFree.{NodesAreFrameFree};
-ghost use Rattle.html_dom_tree.specs.Views.{nodes_view, text_view};
-ghost use Rattle.typst_html_encode.specs.Endings.{Gives};
-ghost use Rattle.typst_html_encode.specs.Fragments.{fragment_text, fragment_faults, ReadsInDiv};
+ghost use Rattle.html_dom_tree.specs.{FrameFree.{NodesAreFrameFree}, Views.{nodes_view, text_view}};
+ghost use Rattle.typst_html_encode.specs.{Endings.{Gives}, Fragments.{fragment_text, fragment_faults, ReadsInDiv}};
 
 use crate::fault::ExportFault;
 use crate::frame::FrameWriter;

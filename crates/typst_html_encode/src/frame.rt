@@ -1,8 +1,7 @@
 //! The trait of writers that give a laid-out frame its text, and the fault of a refused frame.
 
 ghost use Rattle.std.specs.Prelude.{◌≡◌, ℕ, List, Bool, Option};
-ghost use Rattle.html_dom_tree.specs.Frames.{HtmlFrameView};
-ghost use Rattle.html_dom_tree.specs.FrameViews.{html_frame_view};
+ghost use Rattle.html_dom_tree.specs.{FrameViews.{html_frame_view}, Frames.{HtmlFrameView}};
 ghost use Rattle.typst_html_encode.specs.FrameWriters.{Draws};
 
 use html_dom_tree::HtmlFrame;

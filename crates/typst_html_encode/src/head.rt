@@ -1,11 +1,9 @@
 //! The properties of an element that its name decides.
 
 ghost use Rattle.std.specs.Prelude.{◌≡◌};
-ghost use Rattle.html_names_core.specs.Displays.{default_display};
-ghost use Rattle.html_names_core.specs.Kinds.{is_foreign_self_closing};
+ghost use Rattle.html_names_core.specs.{Displays.{default_display}, Kinds.{is_foreign_self_closing}};
 ghost use Rattle.html_dom_flat.specs.Siblings.{head_view};
-ghost use Rattle.typst_html_encode.specs.Content.{content_kind};
-ghost use Rattle.typst_html_encode.specs.Text.{ends_at_once};
+ghost use Rattle.typst_html_encode.specs.{Content.{content_kind}, Text.{ends_at_once}};
 
 use crate::content::ContentKind;
 use html_dom_flat::Element;

@@ -1,7 +1,6 @@
 //! Indents and lines.
 
-ghost use Rattle.std.specs.Prelude.{◌≡◌, ◌++◌, ◌<◌, ◌≤◌, OnOk, chars};
-ghost use Rattle.std.specs.Str.Lines.{lines};
+ghost use Rattle.std.specs.{Prelude.{◌≡◌, ◌++◌, ◌<◌, ◌≤◌, OnOk, chars}, Str.Lines.{lines}};
 ghost use Rattle.typst_html_encode.specs.Layout.{spaces, indent, indent_where, feed_where, by_lines};
 
 use html_names_core::text_writer::TextWriter;

@@ -3,11 +3,8 @@
 
 ghost use Rattle.std.specs.Prelude.{◌≡◌, ◌↔◌, [], codes, IsTrue, Some, None, IfOk, false};
 ghost use Rattle.html_dom_tree.specs.PlainTree.{branch, no_plains};
-ghost use Rattle.typst_html_encode.specs.FaultViews.{export_fault_view};
-ghost use Rattle.typst_html_encode.specs.IndentsCollapse.{BodyCollapses, ContentCollapses};
-ghost use Rattle.typst_html_encode.specs.ReadingBack.{ReadsBack, SameTextSameForm};
-ghost use Rattle.typst_html_encode.specs.Reader.{read};
-ghost use Rattle.typst_html_encode.specs.ReaderRows.{paragraph_of};
+ghost use Rattle.typst_html_encode.specs.{FaultViews.{export_fault_view}, IndentsCollapse.{BodyCollapses, ContentCollapses}, Reader.{read}};
+ghost use Rattle.typst_html_encode.specs.{ReaderRows.{paragraph_of}, ReadingBack.{ReadsBack, SameTextSameForm}};
 
 use crate::fault::ExportFault;
 use crate::frame::FrameFault;

@@ -1,17 +1,12 @@
 //! The places of indents in pretty text. The rules are this project's; they go by the CSS defaults
 //! of HTML Standard 15.3.
 
-ghost use Rattle.std.specs.Prelude.{◌≡◌, ◌==◌, ◌&&◌, IfOk, IsTrue, true, bytes_eq, chars, codes};
-ghost use Rattle.std.specs.List.{list_any};
+ghost use Rattle.std.specs.{List.{list_any}, Prelude.{◌≡◌, ◌==◌, ◌&&◌, IfOk, IsTrue, true, bytes_eq, chars, codes}};
 ghost use Rattle.html_names_core.specs.Names.{is_ascii};
-ghost use Rattle.html_dom_tree.specs.Attributes.{first};
-ghost use Rattle.html_dom_tree.specs.Views.{text_view};
+ghost use Rattle.html_dom_tree.specs.{Attributes.{first}, Views.{text_view}};
 ghost use Rattle.html_dom_shown.specs.Values.{is_text};
 ghost use Rattle.html_dom_flat.specs.Siblings.{head_view, node_view, siblings_view};
-ghost use Rattle.typst_html_encode.specs.Layout.{deeper, margin_inside, is_of_lines};
-ghost use Rattle.typst_html_encode.specs.Layout.{allows_pretty_inside, wants_pretty_around};
-ghost use Rattle.typst_html_encode.specs.Layout.{node_wants_pretty, nodes_want_pretty, is_pretty_inside};
-ghost use Rattle.typst_html_encode.specs.Layout.{has_other_type, is_by_lines, keeps_lines};
+ghost use Rattle.typst_html_encode.specs.Layout.{deeper, margin_inside, is_of_lines, allows_pretty_inside, wants_pretty_around, node_wants_pretty, nodes_want_pretty, is_pretty_inside, has_other_type, is_by_lines, keeps_lines};
 
 use crate::head::default_display;
 use html_dom_flat::{Element, Node, Siblings};

@@ -2,8 +2,7 @@
 
 ghost use Rattle.std.specs.Prelude.{◌≡◌, ◌∷◌, [], OnOk, IfOk, IfSome, IfNone};
 ghost use Rattle.html_dom_flat.specs.Siblings.{head_view, siblings_view};
-ghost use Rattle.typst_html_encode.specs.Layout.{margin_inside};
-ghost use Rattle.typst_html_encode.specs.OpenElements.{open_element_view, open_elements_view};
+ghost use Rattle.typst_html_encode.specs.{Layout.{margin_inside}, OpenElements.{open_element_view, open_elements_view}};
 ghost use Rattle.typst_html_encode.specs.WriterWalk.{open_element, next_place};
 
 use crate::layout::Margin;

@@ -2,10 +2,8 @@
 
 ghost use Rattle.std.specs.Prelude.{◌≡◌, ◌++◌, OnOk, chars};
 ghost use Rattle.html_dom_flat.specs.Siblings.{head_view, node_view, siblings_view};
-ghost use Rattle.typst_html_encode.specs.ExportFaults.{node_raw_faults, nodes_raw_faults, raw_content_faults};
-ghost use Rattle.typst_html_encode.specs.Layout.{lines_text, raw_text};
-ghost use Rattle.typst_html_encode.specs.Text.{escaped_text, node_raw_text, nodes_raw_text};
-ghost use Rattle.typst_html_encode.specs.Endings.{Adds, Gives};
+ghost use Rattle.typst_html_encode.specs.{Endings.{Adds, Gives}, ExportFaults.{node_raw_faults, nodes_raw_faults, raw_content_faults}};
+ghost use Rattle.typst_html_encode.specs.{Layout.{lines_text, raw_text}, Text.{escaped_text, node_raw_text, nodes_raw_text}};
 
 use crate::escape::{Escaping, write_text};
 use crate::fault::ExportFault;

@@ -1,8 +1,7 @@
 //! Stretches of a text that are written as they are, found by its bytes.
 
 ghost use Rattle.std.specs.Prelude.{◌≡◌, false};
-ghost use Rattle.typst_html_encode.specs.ExportFaults.{is_reference};
-ghost use Rattle.typst_html_encode.specs.PlainStretches.{Selects, PassesPlain};
+ghost use Rattle.typst_html_encode.specs.{ExportFaults.{is_reference}, PlainStretches.{Selects, PassesPlain}};
 
 use crate::escape::Escaping;
 use html_text::split_front;

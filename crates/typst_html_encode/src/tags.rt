@@ -3,12 +3,9 @@
 ghost use Rattle.std.specs.Prelude.{◌≡◌, ◌++◌, OnOk};
 ghost use Rattle.html_dom_tree.specs.Views.{text_view};
 ghost use Rattle.html_dom_flat.specs.Siblings.{head_view, siblings_view};
-ghost use Rattle.typst_html_encode.specs.ExportFaults.{text_faults, attrs_faults};
-ghost use Rattle.typst_html_encode.specs.Reader.{drops_feed};
+ghost use Rattle.typst_html_encode.specs.{Endings.{Adds}, ExportFaults.{text_faults, attrs_faults}, Reader.{drops_feed}};
 ghost use Rattle.typst_html_encode.specs.ReadingBack.{PairsAreNamed, HeadIsNamed};
-ghost use Rattle.typst_html_encode.specs.Text.{value_text, attrs_text, tag_close, start_tag_text};
-ghost use Rattle.typst_html_encode.specs.Text.{end_tag_text, begins_with_feed, feed_text};
-ghost use Rattle.typst_html_encode.specs.Endings.{Adds};
+ghost use Rattle.typst_html_encode.specs.Text.{value_text, attrs_text, tag_close, start_tag_text, end_tag_text, begins_with_feed, feed_text};
 
 use crate::escape::{Escaping, write_text};
 use crate::fault::ExportFault;

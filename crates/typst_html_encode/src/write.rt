@@ -2,16 +2,11 @@
 
 ghost use Rattle.std.specs.Prelude.{◌≡◌, ◌++◌, OnOk, Some, chars, false};
 ghost use Rattle.html_dom_tree.specs.FrameViews.{html_frame_view};
-ghost use Rattle.html_dom_flat.specs.FlatTrees.{tree_nodes};
-ghost use Rattle.html_dom_flat.specs.Siblings.{element_view, head_view, node_view, siblings_view};
-ghost use Rattle.typst_html_encode.specs.ExportFaults.{void_faults, frame_faults, nodes_faults};
-ghost use Rattle.typst_html_encode.specs.Layout.{indent_where, frame_text};
-ghost use Rattle.typst_html_encode.specs.OpenElements.{open_element_view, Enters, GoesOn};
-ghost use Rattle.typst_html_encode.specs.ReadingBack.{HeadIsNamed, NodesAreNamed};
-ghost use Rattle.typst_html_encode.specs.Text.{escaping_of, end_tag_text};
-ghost use Rattle.typst_html_encode.specs.WriterWalk.{has_nodes, node_of, element_first_text, element_first_faults};
-ghost use Rattle.typst_html_encode.specs.WriterWalk.{turn_text, turn_faults, FirstIsNamed, outside_text};
-ghost use Rattle.typst_html_encode.specs.Endings.{Adds, AddsAnd, Passes};
+ghost use Rattle.html_dom_flat.specs.{FlatTrees.{tree_nodes}, Siblings.{element_view, head_view, node_view, siblings_view}};
+ghost use Rattle.typst_html_encode.specs.{Endings.{Adds, AddsAnd, Passes}, ExportFaults.{void_faults, frame_faults, nodes_faults}};
+ghost use Rattle.typst_html_encode.specs.{Layout.{indent_where, frame_text}, OpenElements.{open_element_view, Enters, GoesOn}};
+ghost use Rattle.typst_html_encode.specs.{ReadingBack.{HeadIsNamed, NodesAreNamed}, Text.{escaping_of, end_tag_text}};
+ghost use Rattle.typst_html_encode.specs.WriterWalk.{has_nodes, node_of, element_first_text, element_first_faults, turn_text, turn_faults, FirstIsNamed, outside_text};
 
 use crate::content::ContentKind;
 use crate::escape::{Escaping, write_text};

@@ -2,12 +2,10 @@
 use Rattle.std.proofs.Common.{ℕ, List, [], ◌∷◌, drop, Option, None, Some}
 use Rattle.html_dom_tree.specs.Tree.{TagView, Head, tag_node, text_node, element_node, frame_node, NodesView, none, node, ElementView}
 use Rattle.html_anchors.specs.Anchors.{with_id, text_in_span, span_before, nodes_size, nodes_with_anchors, element_namings, element_with_anchors}
-use Rattle.html_anchors.specs.Events.{Targets}
-use Rattle.html_anchors.specs.Namings.{Naming}
+use Rattle.html_anchors.specs.{Events.{Targets}, Namings.{Naming}}
+use Rattle.typst_html_spaces.proofs.{Changed.{unchanged}, Each.{Each, Each-drop}}
 use Rattle.typst_html_spaces.specs.Anchored.{NewAttribute, new_id, anchor, nothing, given, anchors, Anchored, IsAny}
 use Rattle.typst_html_spaces.specs.Changed.{at_end, at_tag, after_tag, at_text, around_text, at_element, at_frame}
-use Rattle.typst_html_spaces.proofs.Changed.{unchanged}
-use Rattle.typst_html_spaces.proofs.Each.{Each, Each-drop}
 
 -- a name that is made passes
 abbrev pub Passing : (List ℕ → Type 0) → Option (List ℕ) → Type 0

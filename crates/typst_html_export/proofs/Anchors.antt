@@ -1,23 +1,17 @@
 -- The root of a document with anchors, and what its anchors are.
 use Rattle.std.proofs.Common.{◌≡◌, ℕ, Bool, true, refl, sym, subst, ap, ◌∙◌}
-use Rattle.html_dom_tree.specs.FrameFree.{ElementIsFrameFree}
-use Rattle.html_dom_tree.specs.Tree.{ElementView}
+use Rattle.html_dom_tree.specs.{FrameFree.{ElementIsFrameFree}, Tree.{ElementView}}
 use Rattle.html_names_core.specs.Names.{stands_in}
 use Rattle.html_dom_document.specs.Documents.{DocumentView, document_root}
-use Rattle.html_anchors.specs.Events.{Targets}
-use Rattle.html_anchors.specs.Anchors.{element_with_anchors}
-use Rattle.html_links.specs.TreeNames.{first_ids}
-use Rattle.html_anchors.specs.GivenLinks.{KnownAnchorsAreShown}
-use Rattle.html_anchors.specs.LinkAnchors.{document_anchor, document_with_new_anchors, document_targets}
-use Rattle.html_anchors.specs.Serving.{KnownAnchorsServe}
-use Rattle.html_anchors.proofs.ChangedRoots.{root_has_anchors}
-use Rattle.html_anchors.proofs.Consequences.{answers_are_first_ids}
+use Rattle.html_anchors.proofs.{ChangedRoots.{root_has_anchors}, Consequences.{answers_are_first_ids}}
 use Rattle.html_anchors.proofs.DocumentNames.{anchors_are_serving, anchors_are_shown}
+use Rattle.html_anchors.specs.{Anchors.{element_with_anchors}, Events.{Targets}, GivenLinks.{KnownAnchorsAreShown}}
+use Rattle.html_anchors.specs.{LinkAnchors.{document_anchor, document_with_new_anchors, document_targets}, Serving.{KnownAnchorsServe}}
+use Rattle.html_links.specs.TreeNames.{first_ids}
 use Rattle.typst_html_spaces.proofs.ReadableNodes.{anchors_keep_frame_free}
-use Rattle.typst_html_export.proofs.AnchoredRoots.{root_anchored}
-use Rattle.typst_html_export.proofs.LinkedRoots.{anchors_keep_atoms}
-use Rattle.typst_html_export.specs.LinkedRoots.{HaveSameAtoms}
+use Rattle.typst_html_export.proofs.{AnchoredRoots.{root_anchored}, LinkedRoots.{anchors_keep_atoms}}
 use Rattle.typst_html_export.specs.Linked.{document_with_known_anchors, document_with_anchors, AnchorsAreFirstIds}
+use Rattle.typst_html_export.specs.LinkedRoots.{HaveSameAtoms}
 
 root_free_before : (x : Targets) (e : ElementView) → ElementIsFrameFree (element_with_anchors x e) →
     ElementIsFrameFree e

@@ -1,15 +1,11 @@
 -- The parts of an assembled document are those of the whole.
 use Rattle.std.proofs.Common.{◌≡◌, ℕ, List, [], refl, ap, ◌∙◌, append-nil}
-use Rattle.html_dom_tree.specs.Styled.{styled_nodes}
-use Rattle.html_dom_tree.specs.Tree.{NodeView, NodesView}
+use Rattle.html_dom_tree.specs.{Styled.{styled_nodes}, Tree.{NodeView, NodesView}}
 use Rattle.html_dom_document.specs.Documents.{InfoView}
-use Rattle.html_flow_convert.specs.Depth.{items_too_deep}
-use Rattle.html_flow_convert.specs.Items.{ItemsView, no_items, item}
+use Rattle.html_flow_convert.specs.{Depth.{items_too_deep}, Items.{ItemsView, no_items, item}}
+use Rattle.typst_html_export.proofs.{Firsts.{none_after_none}, Outlines.{own_found, own_stands}, StyledRoots.{lone_styled}}
 use Rattle.typst_html_export.specs.Assembled.{Outline, own_html, document_outline, assembled_output, output_by, first_own, shown_count, styled_output, item_spans, note_faults, outline_faults, depth_faults, assembly_faults}
 use Rattle.typst_html_export.specs.Roots.{styled_root}
-use Rattle.typst_html_export.proofs.Firsts.{none_after_none}
-use Rattle.typst_html_export.proofs.Outlines.{own_found, own_stands}
-use Rattle.typst_html_export.proofs.StyledRoots.{lone_styled}
 
 no_notes : (limit : ℕ) (notes : ItemsView) → note_faults (item_spans notes) ≡ []
     → depth_faults (items_too_deep 1 limit notes) ≡ []

@@ -1,14 +1,12 @@
 -- The `href` of a link holds printable ASCII alone, so it is a clean value, whatever name it leads to
 -- and whatever places there are.
 use Rattle.std.proofs.Common.{◌≡◌, ◌<◌, ℕ, Bool, true, false, ◌||◌, List, [], ◌∷◌, Option, None, Some, refl, subst, arith}
+use Rattle.std.proofs.lemmas.{Bool.{agree_below_at}, Bool.Decides.{nat_tests}, List.Elements.{All-head, All-tail}}
 use Rattle.std.specs.Prelude.{option_map}
-use Rattle.std.proofs.lemmas.Bool.{agree_below_at}
-use Rattle.std.proofs.lemmas.Bool.Decides.{nat_tests}
-use Rattle.std.proofs.lemmas.List.Elements.{All-head, All-tail}
 use Rattle.html_names_core.specs.Characters.{all, is_text_char}
 use Rattle.html_anchors.specs.Links.{Anchors, anchor_hrefs}
-use Rattle.html_links.specs.Spellings.{some_name, href_with, is_in_fragment_set, leading_href, leading_spelling}
 use Rattle.html_links.proofs.SpelledNames.{ArePlain, leading_is_plain}
+use Rattle.html_links.specs.Spellings.{some_name, href_with, is_in_fragment_set, leading_href, leading_spelling}
 use Rattle.typst_html_spaces.specs.CleanNodes.{IsCleanValue}
 
 -- a character that a browser leaves as it is is a text character

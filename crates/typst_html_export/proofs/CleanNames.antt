@@ -1,20 +1,15 @@
 -- Names that are made of clean labels are clean: they are the label or `loc`, a hyphen and digits.
 use Rattle.std.proofs.Common.{◌≡◌, ℕ, ◌+◌, ◌%◌, ◌<◌, ◌^◌, Bool, true, false, ◌&&◌, ◌==◌, List, [], ◌∷◌, ◌++◌, codes, Option, Some, None, refl, arith}
-use Rattle.std.specs.Prelude.{decimal, if◌then◌else◌}
-use Rattle.std.proofs.lemmas.Bool.{agree_below_at}
-use Rattle.std.proofs.lemmas.Fmt.{decimal_by_steps}
-use Rattle.html_names_core.specs.Characters.{all, is_text_char}
-use Rattle.html_names_core.proofs.Basics.{all_append}
-use Rattle.html_dom_tree.specs.Tags.{starts, ends}
-use Rattle.html_dom_tree.specs.Tree.{tag_node, text_node, element_node, frame_node, NodesView, none, node}
+use Rattle.std.{proofs.lemmas.Bool.{agree_below_at}, proofs.lemmas.Fmt.{decimal_by_steps}, specs.Prelude.{decimal, if◌then◌else◌}}
+use Rattle.html_names_core.{proofs.Basics.{all_append}, specs.Characters.{all, is_text_char}}
+use Rattle.html_dom_tree.specs.{Tags.{starts, ends}, Tree.{tag_node, text_node, element_node, frame_node, NodesView, none, node}}
 use Rattle.html_links.specs.TreeNames.{Name}
-use Rattle.html_anchors.specs.NewNames.{name_with_number, first_free, stem_of, first_number, free_name, new_name}
+use Rattle.html_anchors.proofs.Numbers.{free_within, first_is_low}
 use Rattle.html_anchors.specs.Events.{Start, Event, target_start, end_tag, Targets, start_event, events}
 use Rattle.html_anchors.specs.Groups.{serves, waiting_after, cut_at, cuts, own_name, first_label, label_of, label_for}
 use Rattle.html_anchors.specs.Namings.{made_for, used_after, namings}
-use Rattle.html_anchors.proofs.Numbers.{free_within, first_is_low}
-use Rattle.typst_html_spaces.specs.CleanNodes.{is_clean_text, IsCleanValue, AreCleanNodes}
-use Rattle.typst_html_spaces.proofs.Each.{Each, Each-append}
+use Rattle.html_anchors.specs.NewNames.{name_with_number, first_free, stem_of, first_number, free_name, new_name}
+use Rattle.typst_html_spaces.{proofs.Each.{Each, Each-append}, specs.CleanNodes.{is_clean_text, IsCleanValue, AreCleanNodes}}
 use Rattle.typst_html_export.proofs.AnchoredRoots.{Passing, MadePasses}
 
 -- numbers

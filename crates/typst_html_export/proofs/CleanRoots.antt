@@ -1,54 +1,38 @@
 -- The root of a document of clean items in plain flow, of clean information and of clean nodes of
 -- one's own in the head has no fault, with anchors and with the `href` of its links too.
 use Rattle.std.proofs.Common.{◌≡◌, ℕ, Bool, true, false, ◌&&◌, List, [], ◌∷◌, ◌++◌, map, drop, codes, Option, Some, None, refl, ap, sym, ◌∙◌, subst, append_assoc, append-nil}
-use Rattle.std.specs.List.{flat_map}
-use Rattle.std.specs.Prelude.{if◌then◌else◌}
-use Rattle.std.proofs.lemmas.Bool.{and_parts}
-use Rattle.std.proofs.lemmas.List.{drop-drop}
-use Rattle.html_names_core.specs.Characters.{all, is_text_char}
-use Rattle.html_names_core.specs.Displays.{default_display}
+use Rattle.std.{proofs.lemmas.Bool.{and_parts}, proofs.lemmas.List.{drop-drop}, specs.List.{flat_map}, specs.Prelude.{if◌then◌else◌}}
+use Rattle.html_names_core.{proofs.Basics.{all_append}, specs.Characters.{all, is_text_char}, specs.Displays.{default_display}}
 use Rattle.html_names_core.specs.Kinds.{is_void, is_raw, is_escapable_raw, is_foreign_self_closing, is_mathml, is_token, is_metadata_content}
-use Rattle.html_names_core.specs.Names.{stands_in}
-use Rattle.html_names_core.specs.Texts.{TextPair}
-use Rattle.html_names_core.proofs.Basics.{all_append}
+use Rattle.html_names_core.specs.{Names.{stands_in}, Texts.{TextPair}}
 use Rattle.html_dom_tree.specs.Styled.{styled_node, styled_nodes}
 use Rattle.html_dom_tree.specs.Tree.{Head, NodeView, text_node, element_node, NodesView, none, node, ElementView, plain_head}
 use Rattle.html_dom_tree.specs.Views.{nodes_of}
 use Rattle.html_dom_document.specs.Documents.{LocaleView, InfoView}
-use Rattle.typst_html_encode.specs.FaultViews.{export_fault_view}
-use Rattle.typst_html_encode.specs.ExportFaults.{node_faults, nodes_faults}
+use Rattle.typst_html_encode.specs.{ExportFaults.{node_faults, nodes_faults}, FaultViews.{export_fault_view}}
 use Rattle.typst_html_encode.specs.ExportFaults as writing
-use Rattle.typst_html_encode.specs.FrameWriters.{Frames}
-use Rattle.typst_html_encode.specs.Layout.{allows_pretty_inside, is_pretty_inside, wants_pretty_around}
-use Rattle.typst_html_encode.specs.Text.{ends_at_once, escaping_of}
-use Rattle.typst_html_encode.specs.declared.options.HtmlOptions.{HtmlOptions}
+use Rattle.typst_html_encode.specs.{FrameWriters.{Frames}, Layout.{allows_pretty_inside, is_pretty_inside, wants_pretty_around}}
+use Rattle.typst_html_encode.specs.{Text.{ends_at_once, escaping_of}, declared.options.HtmlOptions.{HtmlOptions}}
 use Rattle.html_flow_convert.specs.Items.{ItemsView, no_items}
-use Rattle.html_anchors.specs.Anchors.{nodes_size, nodes_with_anchors, element_with_anchors}
-use Rattle.html_anchors.specs.Events.{Event, Targets, events}
+use Rattle.html_anchors.specs.{Anchors.{nodes_size, nodes_with_anchors, element_with_anchors}, Events.{Event, Targets, events}}
 use Rattle.html_anchors.specs.Groups.{cuts}
-use Rattle.html_anchors.specs.Namings.{namings}
 use Rattle.html_anchors.specs.Links.{Anchors, Hrefs, anchor_hrefs, dest_before, is_open, nodes_with_links, open_dest, root_with_links}
+use Rattle.html_anchors.specs.Namings.{namings}
 use Rattle.html_links.specs.TreeNames.{Name, element_names}
-use Rattle.typst_html_spaces.specs.CleanItems.{are_clean_items}
-use Rattle.typst_html_spaces.specs.CleanNodes.{is_clean_text, are_clean_values, IsCleanValue, AreCleanNodes}
-use Rattle.typst_html_spaces.specs.DeepNodes.{HoldsOf, HoldsOfAll}
-use Rattle.typst_html_spaces.proofs.Anchored.{anchors_keep_clean_nodes}
-use Rattle.typst_html_spaces.proofs.Changed.{holds_then, styled_is_changed}
+use Rattle.typst_html_spaces.proofs.{Anchored.{anchors_keep_clean_nodes}, Changed.{holds_then, styled_is_changed}}
 use Rattle.typst_html_spaces.proofs.CleanItems.{clean_items_make_clean_nodes}
 use Rattle.typst_html_spaces.proofs.CleanNodes.{plain_clean, no_faults_of, no_attrs_faults, clean_nodes_are_written}
-use Rattle.typst_html_spaces.specs.PlainFlow.{is_plain_flow}
 use Rattle.typst_html_spaces.proofs.Each.{Each, Each-append}
+use Rattle.typst_html_spaces.specs.{CleanItems.{are_clean_items}, CleanNodes.{is_clean_text, are_clean_values, IsCleanValue, AreCleanNodes}}
+use Rattle.typst_html_spaces.specs.{DeepNodes.{HoldsOf, HoldsOfAll}, PlainFlow.{is_plain_flow}}
+use Rattle.typst_html_export.proofs.{AnchoredRoots.{MadePasses, nodes_are_anchored}, CleanLinks.{href_is_clean}, CleanNames.{clean_namings}}
+use Rattle.typst_html_export.proofs.{LinkedRoots.{links_are_anchored}, PlainRoots.{entries_with, root_over, linked_root_is}}
 use Rattle.typst_html_export.specs.Assembled.{document_nodes}
 use Rattle.typst_html_export.specs.CleanInfo.{are_clean_texts, is_clean_locale, is_clean_info, CleanDocumentsAreWritten, CleanLinkedDocumentsAreWritten}
 use Rattle.typst_html_export.specs.DocumentHead.{made_node, charset_node, entry_node, viewport_node, title_node, title_nodes, description_nodes, joined_text, list_meta_nodes, entry_nodes, lang_text}
 use Rattle.typst_html_export.specs.Exported.{linked_root, linked_root_with_head, root_faults}
 use Rattle.typst_html_export.specs.HeadNodes.{elements_and_texts, AreElementsAndTexts, HeadIsClean, CleanHeadsAreWritten}
 use Rattle.typst_html_export.specs.SpacesInDocuments.{ArePlainItems}
-use Rattle.typst_html_export.proofs.AnchoredRoots.{MadePasses, nodes_are_anchored}
-use Rattle.typst_html_export.proofs.CleanLinks.{href_is_clean}
-use Rattle.typst_html_export.proofs.CleanNames.{clean_namings}
-use Rattle.typst_html_export.proofs.LinkedRoots.{links_are_anchored}
-use Rattle.typst_html_export.proofs.PlainRoots.{entries_with, root_over, linked_root_is}
 
 -- what stands before all tags gets no anchor
 

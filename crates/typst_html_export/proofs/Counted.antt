@@ -1,9 +1,7 @@
 -- Nodes that are counted from a place on.
 use Rattle.std.proofs.Common.{◌≡◌, ℕ, ◌+◌, ◌<◌, ◌≤◌, List, ◌∷◌, length, get_or, drop, true, false, refl, ap, ◌∙◌}
 use Rattle.std.proofs.lemmas.List.{at_drop_all}
-use Rattle.html_dom_tree.specs.Tree.{is_tag}
-use Rattle.html_dom_tree.specs.Views.{node_view, nodes_view}
-use Rattle.html_dom_tree.specs.declared.node.HtmlNode.{HtmlNode}
+use Rattle.html_dom_tree.specs.{Tree.{is_tag}, Views.{node_view, nodes_view}, declared.node.HtmlNode.{HtmlNode}}
 use Rattle.typst_html_export.specs.Assembled.{shown_count}
 use Rattle.html_names_core.proofs.Basics.{from_place}
 

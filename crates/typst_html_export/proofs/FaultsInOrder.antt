@@ -1,25 +1,18 @@
 -- The faults of writing come after those of making a document, and these after those of its items.
 use Rattle.std.proofs.Common.{◌≡◌, ℕ, List, [], ◌∷◌, ◌++◌, map, ap, subst, Result, Ok, Err, String, Global}
-use Rattle.html_dom_tree.specs.Views.{text_view}
-use Rattle.html_dom_tree.specs.Tree.{NodesView}
-use Rattle.html_dom_document.specs.Documents.{DocumentView, document_root}
-use Rattle.html_dom_document.specs.Views.{document_view}
+use Rattle.html_dom_tree.specs.{Tree.{NodesView}, Views.{text_view}}
+use Rattle.html_dom_document.specs.{Documents.{DocumentView, document_root}, Views.{document_view}}
 use Rattle.html_dom_document.specs.declared.document.HtmlDocument.{HtmlDocument}
 use Rattle.typst_html_encode.specs.ExportFaults.{BeginsWith, IsFirst}
 use Rattle.typst_html_encode.specs.ExportFaults as writing
-use Rattle.typst_html_encode.specs.FrameWriters.{Frames}
-use Rattle.typst_html_encode.specs.Text.{document_text}
-use Rattle.typst_html_encode.specs.Endings.{Gives}
+use Rattle.typst_html_encode.specs.{Endings.{Gives}, FaultViews.{ExportFaultView, export_fault_view, IsFirstView}, FrameWriters.{Frames}}
+use Rattle.typst_html_encode.specs.{Text.{document_text}, declared.fault.ExportFault.{ExportFault}}
 use Rattle.typst_html_encode.specs.declared.options.HtmlOptions.{HtmlOptions}
-use Rattle.typst_html_encode.specs.FaultViews.{ExportFaultView, export_fault_view, IsFirstView}
-use Rattle.typst_html_encode.specs.declared.fault.ExportFault.{ExportFault}
 use Rattle.typst_html_encode.specs.declared.fault.ExportFault.TheVariants as fault
-use Rattle.html_flow_convert.specs.Depth.{items_too_deep}
-use Rattle.html_flow_convert.specs.Items.{ItemsView}
-use Rattle.typst_html_export.specs.Assembled.{assembly_faults, depth_faults, items_document_faults, document_nodes}
-use Rattle.typst_html_export.specs.Assembles.{GivesDocument}
-use Rattle.typst_html_export.specs.Exported.{root_faults}
+use Rattle.html_flow_convert.specs.{Depth.{items_too_deep}, Items.{ItemsView}}
 use Rattle.typst_html_export.proofs.Firsts.{first_after_none, none_after_none}
+use Rattle.typst_html_export.specs.Assembled.{assembly_faults, depth_faults, items_document_faults, document_nodes}
+use Rattle.typst_html_export.specs.{Assembles.{GivesDocument}, Exported.{root_faults}}
 
 abbrev views : List ExportFault → List ExportFaultView
 views = map export_fault_view

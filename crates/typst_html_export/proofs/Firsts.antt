@@ -1,15 +1,12 @@
 -- The first fault of a list is the first of a longer one, and of one after no fault. Of no fault at
 -- all none is the first.
 use Rattle.std.proofs.Common.{◌≡◌, ℕ, List, [], ◌∷◌, ◌++◌, map, refl, ap, sym, ◌∙◌, subst, Result, Ok, Err, IfErr}
-use Rattle.html_flow_faults.specs.FlowFaults.{IsFirst}
-use Rattle.html_flow_faults.specs.declared.fault.FlowFault.{FlowFault}
+use Rattle.html_flow_faults.specs.{FlowFaults.{IsFirst}, declared.fault.FlowFault.{FlowFault}}
 use Rattle.html_flow_faults.specs.declared.fault.FlowFault.TheVariants as flow
-use Rattle.typst_html_encode.specs.Conversions.{of_flow}
-use Rattle.typst_html_encode.specs.FaultViews.{ExportFaultView, too_deep, IsFirstView}
+use Rattle.typst_html_encode.specs.{Conversions.{of_flow}, FaultViews.{ExportFaultView, too_deep, IsFirstView}}
 use Rattle.typst_html_encode.specs.declared.fault.ExportFault.{ExportFault}
 use Rattle.typst_html_encode.specs.declared.fault.ExportFault.TheVariants as fault
-use Rattle.typst_html_export.specs.Assembled.{depth_faults}
-use Rattle.typst_html_export.specs.Assembles.{FailsByMemoryAlone}
+use Rattle.typst_html_export.specs.{Assembled.{depth_faults}, Assembles.{FailsByMemoryAlone}}
 
 pub first_after_none : (e : ExportFault) (fs gs : List ExportFaultView) → fs ≡ []
     → IsFirstView e gs → IsFirstView e (fs ++ gs)

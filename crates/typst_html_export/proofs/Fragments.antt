@@ -1,18 +1,10 @@
 -- Put into a `div`, the text of items by themselves shows exactly their text.
 use Rattle.std.proofs.Common.{◌≡◌, ℕ, List, Some, None, ap, ◌∙◌, sym, subst, Result, Ok, Err, IfOk, String, Global}
-use Rattle.html_dom_tree.specs.FrameFree.{NodesAreFrameFree}
-use Rattle.html_dom_tree.specs.Styled.{styled_nodes}
-use Rattle.html_dom_tree.specs.Tree.{NodesView}
-use Rattle.html_dom_tree.specs.Views.{text_view}
-use Rattle.html_flow_convert.specs.Converted.{converted_nodes}
-use Rattle.html_flow_convert.specs.Items.{ItemsView}
-use Rattle.html_flow_convert.specs.declared.convert.ConversionLevel.{ConversionLevel}
-use Rattle.html_flow_convert.specs.declared.convert.ConversionLevel.TheVariants.{Block}
-use Rattle.html_flow_convert.specs.declared.convert.Whitespace.TheVariants.{Normal}
-use Rattle.typst_html_encode.specs.Fragments.{ReadsInDiv}
-use Rattle.typst_html_encode.specs.declared.fault.ExportFault.{ExportFault}
-use Rattle.typst_html_spaces.proofs.PlainNodes.{makes_plain_nodes, can_be_read}
-use Rattle.typst_html_spaces.proofs.SpacesStay.{spaces_stay}
+use Rattle.html_dom_tree.specs.{FrameFree.{NodesAreFrameFree}, Styled.{styled_nodes}, Tree.{NodesView}, Views.{text_view}}
+use Rattle.html_flow_convert.specs.{Converted.{converted_nodes}, Items.{ItemsView}, declared.convert.ConversionLevel.{ConversionLevel}}
+use Rattle.html_flow_convert.specs.declared.convert.{ConversionLevel.TheVariants.{Block}, Whitespace.TheVariants.{Normal}}
+use Rattle.typst_html_encode.specs.{Fragments.{ReadsInDiv}, declared.fault.ExportFault.{ExportFault}}
+use Rattle.typst_html_spaces.proofs.{PlainNodes.{makes_plain_nodes, can_be_read}, SpacesStay.{spaces_stay}}
 use Rattle.typst_html_export.specs.Fragments.{fragment_nodes, seen_children, FragmentIsSeen}
 
 is_seen : (items : ItemsView) (text : List ℕ) →

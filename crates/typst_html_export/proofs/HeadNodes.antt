@@ -4,33 +4,23 @@ use Rattle.std.proofs.Common.{◌≡◌, Bool, true, false, List, [], ◌∷◌,
 use Rattle.std.proofs.lemmas.Bool.{both_ways}
 use Rattle.html_names_core.specs.Kinds.{is_raw}
 use Rattle.html_dom_tree.specs.FrameFree.{NodeIsFrameFree, NodesAreFrameFree, ElementIsFrameFree}
-use Rattle.html_dom_tree.specs.Tree.{NodeView, element_node, NodesView, none, node, ElementView, new_element}
-use Rattle.html_dom_tree.specs.Views.{nodes_of}
+use Rattle.html_dom_tree.specs.{Tree.{NodeView, element_node, NodesView, none, node, ElementView, new_element}, Views.{nodes_of}}
 use Rattle.html_dom_document.specs.Documents.{InfoView}
-use Rattle.html_anchors.specs.Anchors.{element_with_anchors}
-use Rattle.html_anchors.specs.Events.{Targets}
+use Rattle.html_anchors.specs.{Anchors.{element_with_anchors}, Events.{Targets}}
 use Rattle.html_flow_convert.specs.Items.{ItemsView, no_items}
 use Rattle.typst_html_encode.specs.ExportFaults as writing
-use Rattle.typst_html_encode.specs.ExportFaults.{node_faults}
-use Rattle.typst_html_encode.specs.FrameWriters.{Frames}
-use Rattle.typst_html_encode.specs.Indented.{NodeEndsWell, NodesEndWell, ElementEndsWell}
-use Rattle.typst_html_encode.specs.Layout.{is_pretty_inside}
+use Rattle.typst_html_encode.{proofs.IndentsCollapse.{body_is_not_raw}, specs.ExportFaults.{node_faults}, specs.FrameWriters.{Frames}}
+use Rattle.typst_html_encode.specs.{Indented.{NodeEndsWell, NodesEndWell, ElementEndsWell}, Layout.{is_pretty_inside}}
 use Rattle.typst_html_encode.specs.declared.options.HtmlOptions.{HtmlOptions}
-use Rattle.typst_html_encode.proofs.IndentsCollapse.{body_is_not_raw}
-use Rattle.typst_html_spaces.specs.Anchored.{nothing}
-use Rattle.typst_html_spaces.specs.Changed.{Changed, at_end, at_element}
-use Rattle.typst_html_spaces.specs.PlainFlow.{is_plain_flow}
-use Rattle.typst_html_spaces.specs.ReadableNodes.{AreReadable}
-use Rattle.typst_html_spaces.proofs.DeepNodes.{of_each}
-use Rattle.typst_html_spaces.proofs.PlainNodes.{makes_plain_nodes, plain_readable}
+use Rattle.typst_html_spaces.proofs.{DeepNodes.{of_each}, PlainNodes.{makes_plain_nodes, plain_readable}}
 use Rattle.typst_html_spaces.proofs.ReadableNodes.{readable_can_be_read, frames_kept}
-use Rattle.typst_html_export.specs.Assembled.{document_nodes}
-use Rattle.typst_html_export.specs.DocumentHead.{charset_node, viewport_node, entry_nodes}
-use Rattle.typst_html_export.specs.Exported.{linked_root_with_head}
-use Rattle.typst_html_export.specs.HeadNodes.{HeadIsReadable}
+use Rattle.typst_html_spaces.specs.{Anchored.{nothing}, Changed.{Changed, at_end, at_element}, PlainFlow.{is_plain_flow}}
+use Rattle.typst_html_spaces.specs.ReadableNodes.{AreReadable}
 use Rattle.typst_html_export.proofs.AnchoredRoots.{root_anchored}
 use Rattle.typst_html_export.proofs.PlainRoots.{entries_with, entries_readable, inside_of, linked_root_is, made_not_raw, root_over, top_of}
 use Rattle.typst_html_export.proofs.RawEndings.{written_change, styled_anchored, ends_kept, in_any_mode}
+use Rattle.typst_html_export.specs.{Assembled.{document_nodes}, DocumentHead.{charset_node, viewport_node, entry_nodes}}
+use Rattle.typst_html_export.specs.{Exported.{linked_root_with_head}, HeadNodes.{HeadIsReadable}}
 
 frame_free_append : (ns more : List NodeView) → NodesAreFrameFree (nodes_of ns) →
     NodesAreFrameFree (nodes_of more) → NodesAreFrameFree (nodes_of (ns ++ more))

@@ -4,12 +4,11 @@ use Rattle.std.proofs.Common.{◌≡◌, ℕ, List, [], ◌∷◌, Option, None,
 use Rattle.html_dom_tree.specs.Tree.{TextPair, Head, NodeView, tag_node, text_node, element_node, frame_node, NodesView, none, node}
 use Rattle.typst_html_encode.specs.ReadingBack.{PairsAreNamed, NodeIsNamed, NodesAreNamed}
 use Rattle.html_anchors.specs.Links.{Hrefs, attrs_with_href, dest_before, href_of, node_with_links, nodes_with_links, open_dest}
+use Rattle.typst_html_spaces.proofs.{Anchored.{anchors_are_unseen}, ReadableNodes.{anchors_keep_frame_free}}
 use Rattle.typst_html_spaces.specs.Anchored.{NewAttribute, new_href, nothing, given, Anchored, IsAny}
 use Rattle.typst_html_spaces.specs.Changed.{at_end, at_tag, at_text, at_element, at_frame}
-use Rattle.typst_html_spaces.proofs.Anchored.{anchors_are_unseen}
-use Rattle.typst_html_spaces.proofs.ReadableNodes.{anchors_keep_frame_free}
-use Rattle.typst_html_export.specs.LinkedRoots.{AnchorsKeepAtoms, LinksKeepAtoms, LinksKeepFrames, LinksKeepNames}
 use Rattle.typst_html_export.proofs.AnchoredRoots.{root_anchored}
+use Rattle.typst_html_export.specs.LinkedRoots.{AnchorsKeepAtoms, LinksKeepAtoms, LinksKeepFrames, LinksKeepNames}
 
 module _ (P : NewAttribute → List ℕ → Type 0) (hrefs : Hrefs)
     (each : (location : ℕ) (href : List ℕ) → hrefs location ≡ Some href → P new_href href) where

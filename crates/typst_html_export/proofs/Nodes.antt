@@ -1,8 +1,6 @@
 -- Nodes in a row, as lists and as pure values.
-use Rattle.std.proofs.Common.{◌≡◌, List, ◌++◌, map, refl, ap, sym, ◌∙◌}
-use Rattle.std.proofs.lemmas.List.{map-append}
-use Rattle.html_dom_tree.specs.Views.{node_view, nodes_of, nodes_view}
-use Rattle.html_dom_tree.specs.declared.node.HtmlNode.{HtmlNode}
+use Rattle.std.proofs.{Common.{◌≡◌, List, ◌++◌, map, refl, ap, sym, ◌∙◌}, lemmas.List.{map-append}}
+use Rattle.html_dom_tree.specs.{Views.{node_view, nodes_of, nodes_view}, declared.node.HtmlNode.{HtmlNode}}
 use Rattle.html_flow_convert.proofs.LoneNodes.{node_list_of}
 use Rattle.typst_html_export.specs.Assembled.{both_nodes}
 

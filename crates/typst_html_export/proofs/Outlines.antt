@@ -1,14 +1,10 @@
 -- The first element of a document's own, from a place on; where it stands.
 use Rattle.std.proofs.Common.{◌≡◌, ℕ, zero, suc, ◌+◌, ◌<◌, ◌≤◌, ◌==◌, List, length, get_or, drop, Option, Some, None, true, refl, sym, ap, subst, ◌∙◌, inl, inr, arith}
+use Rattle.std.proofs.lemmas.{Bool.{cases_Bool}, List.{at_drop_all}, Bool.Decides.{Decides-eqb}}
 use Rattle.std.specs.Prelude.{option_map}
-use Rattle.std.proofs.lemmas.Bool.{cases_Bool}
-use Rattle.std.proofs.lemmas.Bool.Decides.{Decides-eqb}
-use Rattle.std.proofs.lemmas.List.{at_drop_all}
 use Rattle.html_dom_tree.specs.Tree.{Head, NodeView, tag_node, text_node, element_node, frame_node, NodesView, none, node}
-use Rattle.html_dom_tree.specs.Views.{node_view, nodes_view}
-use Rattle.html_dom_tree.specs.declared.node.HtmlNode.{HtmlNode}
-use Rattle.html_dom_document.specs.Documents.{is_element_at}
-use Rattle.html_dom_document.specs.Places.{is_named_html}
+use Rattle.html_dom_tree.specs.{Views.{node_view, nodes_view}, declared.node.HtmlNode.{HtmlNode}}
+use Rattle.html_dom_document.specs.{Documents.{is_element_at}, Places.{is_named_html}}
 use Rattle.typst_html_export.specs.Assembled.{Outline, own_html, own_body, own_among_others, own_head, is_own, own_after, first_own, shown_count, outline_by, document_outline}
 use Rattle.html_names_core.proofs.Basics.{from_place}
 

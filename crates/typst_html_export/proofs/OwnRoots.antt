@@ -1,11 +1,9 @@
 -- Neither nodes for its head nor information stand around a root of a document's own.
 use Rattle.std.proofs.Common.{◌≡◌, ℕ, List, [], ◌∷◌, codes, true, true≢false, refl, sym, ap, ◌∙◌, append-nil}
-use Rattle.html_dom_tree.specs.Tree.{NodeView, NodesView}
-use Rattle.html_dom_tree.specs.Views.{nodes_of}
+use Rattle.html_dom_tree.specs.{Tree.{NodeView, NodesView}, Views.{nodes_of}}
 use Rattle.html_dom_document.specs.Documents.{InfoView, document_root, new_document, no_info}
 use Rattle.typst_html_export.specs.Assembled.{Outline, own_html, output_by, document_nodes, document_outline, styled_output}
-use Rattle.typst_html_export.specs.DocumentHead.{made_node, charset_node, viewport_node, entry_nodes}
-use Rattle.typst_html_export.specs.Linked.{document_with_anchors}
+use Rattle.typst_html_export.specs.{DocumentHead.{made_node, charset_node, viewport_node, entry_nodes}, Linked.{document_with_anchors}}
 use Rattle.typst_html_export.specs.OwnRoots.{is_root, InformationStandsAlone, OwnRootsHaveNoInfo, OwnRootsHaveNoNodes}
 
 pub information_stands_alone : InformationStandsAlone

@@ -1,34 +1,21 @@
 -- The root of a document that is made of items in plain flow, without footnotes.
 use Rattle.std.proofs.Common.{◌≡◌, true, false, List, [], ◌∷◌, ◌++◌, None, Some, codes, refl, ap, ◌∙◌, append-nil}
-use Rattle.html_names_core.specs.Kinds.{is_raw}
-use Rattle.html_names_core.specs.Names.{stands_in}
+use Rattle.html_names_core.specs.{Kinds.{is_raw}, Names.{stands_in}}
 use Rattle.html_dom_tree.specs.Styled.{head_with_style, styled_node, styled_nodes}
-use Rattle.html_dom_tree.specs.Tree.{Head, NodeView, element_node, NodesView, none, node, ElementView, plain_head}
-use Rattle.html_dom_tree.specs.Views.{nodes_of}
+use Rattle.html_dom_tree.specs.{Tree.{Head, NodeView, element_node, NodesView, none, node, ElementView, plain_head}, Views.{nodes_of}}
 use Rattle.html_dom_shown.specs.Bodies.{body_children}
-use Rattle.html_flow_convert.specs.Protected.{nodes_by_answers}
-use Rattle.html_flow_convert.specs.Runs.{blank_front, after_front}
+use Rattle.html_flow_convert.specs.{Converted.{item_nodes}, Depth.{item_too_deep}, Items.{ItemsView, no_items}, LoneNode.{node_list}}
+use Rattle.html_flow_convert.specs.{Protected.{nodes_by_answers}, Runs.{blank_front, after_front}}
 use Rattle.typst_html_encode.proofs.IndentsCollapse.{body_is_not_raw}
 use Rattle.html_dom_document.specs.Documents.{InfoView, OutputView, DocumentView, node_of, root_of, given_root, with_root, document_root}
-use Rattle.html_anchors.specs.Anchors.{element_with_anchors}
-use Rattle.html_anchors.specs.Events.{Targets}
-use Rattle.html_anchors.specs.LinkAnchors.{document_targets}
-use Rattle.html_flow_convert.specs.Converted.{item_nodes}
-use Rattle.html_flow_convert.specs.Depth.{item_too_deep}
-use Rattle.html_flow_convert.specs.Items.{ItemsView, no_items}
-use Rattle.html_flow_convert.specs.LoneNode.{node_list}
-use Rattle.typst_html_spaces.specs.DeepNodes.{HoldsOf, of_heads}
-use Rattle.typst_html_spaces.specs.PlainFlow.{is_plain_flow}
-use Rattle.typst_html_spaces.specs.PlainNodes.{ArePlainNodes}
-use Rattle.typst_html_spaces.proofs.Each.{Each}
-use Rattle.typst_html_spaces.proofs.PlainNodes.{makes_plain_nodes, names_are_inside}
+use Rattle.html_anchors.specs.{Anchors.{element_with_anchors}, Events.{Targets}, LinkAnchors.{document_targets}}
+use Rattle.typst_html_spaces.proofs.{Each.{Each}, PlainNodes.{makes_plain_nodes, names_are_inside}, ReadableNodes.{styled_readable}}
+use Rattle.typst_html_spaces.specs.{DeepNodes.{HoldsOf, of_heads}, PlainFlow.{is_plain_flow}, PlainNodes.{ArePlainNodes}}
 use Rattle.typst_html_spaces.specs.ReadableNodes.{AreReadable}
-use Rattle.typst_html_spaces.proofs.ReadableNodes.{styled_readable}
+use Rattle.typst_html_export.proofs.Entries.{of_entries}
 use Rattle.typst_html_export.specs.Assembled.{first_own, nothing_own, document_outline, outline_by, shown_count, both_nodes, body_node, document_nodes, output_around, assembled_document_with_head}
 use Rattle.typst_html_export.specs.DocumentHead.{made_node, charset_node, viewport_node, entry_nodes, lang_text}
-use Rattle.typst_html_export.specs.Exported.{linked_root_with_head}
-use Rattle.typst_html_export.specs.SpacesInDocuments.{PlainDocumentsAreMade}
-use Rattle.typst_html_export.proofs.Entries.{of_entries}
+use Rattle.typst_html_export.specs.{Exported.{linked_root_with_head}, SpacesInDocuments.{PlainDocumentsAreMade}}
 
 -- plain nodes leave the document its own root and body
 

@@ -1,25 +1,21 @@
 -- The raw texts of a head end as they did before css came into `style` and anchors were added, if
 -- nothing is wrong with the tree that is written: an anchor in a raw text would be a fault.
 use Rattle.std.proofs.Common.{◌≡◌, ℕ, Bool, true, false, ◌&&◌, List, [], ◌∷◌, ◌++◌, Option, None, Some, inl, inr, refl, ap, sym, ◌∙◌, codes, bytes_eq}
-use Rattle.std.proofs.lemmas.Bool.{both_ways, cases_Bool, false≢true}
-use Rattle.std.proofs.lemmas.Slice.Eq.{bytes_eq-Decides}
-use Rattle.html_names_core.specs.Displays.{default_display}
-use Rattle.html_names_core.specs.Kinds.{is_escapable_raw, is_mathml, is_metadata_content, is_raw, is_token}
+use Rattle.std.proofs.lemmas.{Bool.{both_ways, cases_Bool, false≢true}, Slice.Eq.{bytes_eq-Decides}}
+use Rattle.html_names_core.specs.{Displays.{default_display}, Kinds.{is_escapable_raw, is_mathml, is_metadata_content, is_raw, is_token}}
 use Rattle.html_names_core.specs.Names.{stands_in}
 use Rattle.html_values_css.specs.Properties.{inline_text}
-use Rattle.html_dom_tree.specs.Attributes.{first, or_else, with_value}
+use Rattle.html_dom_tree.{proofs.Folds.{first-append}, specs.Attributes.{first, or_else, with_value}}
 use Rattle.html_dom_tree.specs.Styled.{attrs_with_style, head_with_style, styled_attrs, styled_node, styled_nodes}
 use Rattle.html_dom_tree.specs.Tree.{TextPair, Head, tag_node, text_node, element_node, frame_node, NodesView, none, node}
-use Rattle.html_dom_tree.proofs.Folds.{first-append}
+use Rattle.typst_html_encode.proofs.Runs.{left_empty, right_empty}
 use Rattle.typst_html_encode.specs.ExportFaults.{attrs_faults, node_faults, nodes_faults, nodes_raw_faults, raw_content_faults, closing_faults, text_faults, void_faults}
-use Rattle.typst_html_encode.specs.FrameWriters.{Frames}
-use Rattle.typst_html_encode.specs.Indented.{NodeEndsWell, NodesEndWell, RawEndsWell}
+use Rattle.typst_html_encode.specs.{FrameWriters.{Frames}, Indented.{NodeEndsWell, NodesEndWell, RawEndsWell}}
 use Rattle.typst_html_encode.specs.Layout.{allows_pretty_inside, has_other_type, is_by_lines, is_pretty_inside, nodes_want_pretty, wants_pretty_around}
 use Rattle.typst_html_encode.specs.Text.{ends_at_once, escaping_of, nodes_raw_text}
-use Rattle.typst_html_encode.proofs.Runs.{left_empty, right_empty}
+use Rattle.typst_html_spaces.proofs.ReadableNodes.{span_not_raw}
 use Rattle.typst_html_spaces.specs.Anchored.{new_id, new_href, with_front_attribute, IsAnchor, anchor, IsGiven, nothing, given, Anchored, IsAny}
 use Rattle.typst_html_spaces.specs.Changed.{Change, Changed, at_end, at_tag, after_tag, at_text, around_text, at_element, at_frame}
-use Rattle.typst_html_spaces.proofs.ReadableNodes.{span_not_raw}
 
 -- attributes with css in `style` have the types and the `display` that they had
 

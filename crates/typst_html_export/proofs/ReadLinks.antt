@@ -2,24 +2,17 @@
 use Rattle.std.proofs.Common.{◌≡◌, ℕ, Bool, true, false, List, [], ◌++◌, All, Option, Some, refl, ap, sym, subst, ◌∙◌, Result, Ok, Err, IfOk, OnOk, String, Global}
 use Rattle.html_dom_tree.specs.FrameFree.{ElementIsFrameFree, NodeIsFrameFree, NodesAreFrameFree}
 use Rattle.html_dom_tree.specs.PlainTree.{Plain, nodes_normal, element_normal}
-use Rattle.html_dom_tree.specs.Tree.{tag_node, text_node, element_node, frame_node, NodesView, none, node, ElementView}
-use Rattle.html_dom_tree.specs.Views.{text_view}
+use Rattle.html_dom_tree.specs.{Tree.{tag_node, text_node, element_node, frame_node, NodesView, none, node, ElementView}, Views.{text_view}}
 use Rattle.html_dom_document.specs.Documents.{DocumentView, document_root}
-use Rattle.html_links.specs.TreeNames.{first_ids, shown_names, gathered_names}
-use Rattle.html_anchors.specs.GivenLinks.{GivenLinksLead, LeadsAmong, document_given_links}
-use Rattle.html_links.specs.Indicated.{element_places, nodes_places, place_names}
-use Rattle.html_anchors.specs.Links.{document_with_links}
+use Rattle.html_links.specs.{Indicated.{element_places, nodes_places, place_names}, TreeNames.{first_ids, shown_names, gathered_names}}
 use Rattle.html_anchors.proofs.Consequences.{shown_first}
+use Rattle.html_anchors.specs.{GivenLinks.{GivenLinksLead, LeadsAmong, document_given_links}, Links.{document_with_links}}
 use Rattle.typst_html_encode.specs.Endings.{Gives}
 use Rattle.typst_html_encode.specs.ExportFaults as writing
-use Rattle.typst_html_encode.specs.FrameWriters.{Frames}
-use Rattle.typst_html_encode.specs.Indented.{element_layout, ElementEndsWell}
-use Rattle.typst_html_encode.specs.ReadIds.{ids_of, plains_texts, read_ids}
-use Rattle.typst_html_encode.specs.Reader.{read}
-use Rattle.typst_html_encode.specs.Text.{document_text}
-use Rattle.typst_html_encode.specs.declared.fault.ExportFault.{ExportFault}
-use Rattle.typst_html_encode.specs.declared.options.HtmlOptions.{HtmlOptions}
 use Rattle.typst_html_encode.proofs.ReadIds.{layout_keeps_texts, past_words}
+use Rattle.typst_html_encode.specs.{FrameWriters.{Frames}, Indented.{element_layout, ElementEndsWell}}
+use Rattle.typst_html_encode.specs.{ReadIds.{ids_of, plains_texts, read_ids}, Reader.{read}, Text.{document_text}}
+use Rattle.typst_html_encode.specs.declared.{fault.ExportFault.{ExportFault}, options.HtmlOptions.{HtmlOptions}}
 use Rattle.typst_html_export.specs.ReadLinks.{GivenLinksLeadWhenRead, DocumentIsReadable, read_places}
 
 normal_ids : (ns : NodesView) → plains_texts ids_of (nodes_normal ns) ≡ first_ids ns

@@ -1,44 +1,27 @@
 -- Documents of items in plain flow: what is seen of their text is exactly the items' text.
-use Rattle.std.proofs.Common.{◌≡◌, Bool, true, false, List, [], None, Some, ap, sym, subst, ◌∙◌}
-use Rattle.std.proofs.lemmas.Bool.{both_ways}
+use Rattle.std.proofs.{Common.{◌≡◌, Bool, true, false, List, [], None, Some, ap, sym, subst, ◌∙◌}, lemmas.Bool.{both_ways}}
 use Rattle.html_names_core.specs.Kinds.{is_raw}
-use Rattle.html_dom_tree.specs.Styled.{styled_nodes}
-use Rattle.html_dom_tree.specs.PlainTree.{nodes_normal}
-use Rattle.html_dom_tree.specs.Tree.{Head, NodeView, NodesView, ElementView}
+use Rattle.html_dom_tree.specs.{PlainTree.{nodes_normal}, Styled.{styled_nodes}, Tree.{Head, NodeView, NodesView, ElementView}}
 use Rattle.html_dom_tree.specs.Views.{nodes_of}
-use Rattle.html_dom_shown.specs.Bodies.{body_children}
-use Rattle.html_dom_shown.specs.Collapsing.{collapsed_pieces}
-use Rattle.html_dom_shown.specs.SeenBodies.{seen_plains, seen_tree}
+use Rattle.html_dom_shown.specs.{Bodies.{body_children}, Collapsing.{collapsed_pieces}, SeenBodies.{seen_plains, seen_tree}}
 use Rattle.typst_html_encode.specs.ExportFaults as writing
-use Rattle.typst_html_encode.specs.FrameWriters.{Frames}
-use Rattle.typst_html_encode.specs.Indented.{NodeEndsWell}
-use Rattle.typst_html_encode.specs.IndentsCollapse.{NodesAreEdged}
-use Rattle.typst_html_encode.specs.ReadingBack.{ElementIsNamed}
-use Rattle.typst_html_encode.specs.Text.{document_text}
-use Rattle.html_dom_document.specs.Documents.{InfoView, DocumentView, document_root}
-use Rattle.html_anchors.specs.Anchors.{element_with_anchors}
-use Rattle.html_anchors.specs.Links.{Hrefs, nodes_with_links, root_with_links}
-use Rattle.html_flow_convert.specs.Items.{ItemsView, no_items}
 use Rattle.typst_html_encode.proofs.ReadingBack.{reads_back}
-use Rattle.typst_html_spaces.specs.Anchored.{Anchored, IsAny}
-use Rattle.typst_html_spaces.specs.ItemText.{items_text}
-use Rattle.typst_html_spaces.specs.PlainFlow.{is_plain_flow}
-use Rattle.typst_html_spaces.specs.SeenBody.{seen_text}
-use Rattle.typst_html_spaces.proofs.Anchored.{anchors_are_unseen, anchors_keep_edges}
-use Rattle.typst_html_spaces.proofs.DeepNodes.{of_both}
+use Rattle.typst_html_encode.specs.{FrameWriters.{Frames}, Indented.{NodeEndsWell}, IndentsCollapse.{NodesAreEdged}}
+use Rattle.typst_html_encode.specs.{ReadingBack.{ElementIsNamed}, Text.{document_text}}
+use Rattle.html_dom_document.specs.Documents.{InfoView, DocumentView, document_root}
+use Rattle.html_anchors.specs.{Anchors.{element_with_anchors}, Links.{Hrefs, nodes_with_links, root_with_links}}
+use Rattle.html_flow_convert.specs.Items.{ItemsView, no_items}
+use Rattle.typst_html_spaces.proofs.{Anchored.{anchors_are_unseen, anchors_keep_edges}, DeepNodes.{of_both}}
 use Rattle.typst_html_spaces.proofs.PlainNodes.{makes_plain_nodes, plain_readable}
-use Rattle.typst_html_spaces.specs.ReadableNodes.{AreReadable}
 use Rattle.typst_html_spaces.proofs.ReadableNodes.{readable_can_be_read, anchors_keep_readable, anchors_keep_body}
-use Rattle.typst_html_spaces.proofs.SeenBody.{plain_tree_seen, pretty_tree_seen}
-use Rattle.typst_html_spaces.proofs.SpacesStay.{spaces_stay}
-use Rattle.typst_html_export.specs.Assembled.{assembled_document, document_nodes}
-use Rattle.typst_html_export.specs.DocumentHead.{entry_nodes}
-use Rattle.typst_html_export.specs.Exported.{linked_root, linked_root_with_head}
-use Rattle.typst_html_export.specs.Linked.{linked_document_with_head}
-use Rattle.typst_html_export.specs.SpacesInDocuments.{PlainDocumentsAreSeen, PlainLinkedDocumentsAreSeen, IsShownAs, IsReadAs, PlainDocumentsAreRead, PlainLinkedDocumentsAreRead, SpacesAreLeft, SpacesAreShown}
-use Rattle.typst_html_export.proofs.AnchoredRoots.{root_anchored}
-use Rattle.typst_html_export.proofs.LinkedRoots.{nodes_linked}
+use Rattle.typst_html_spaces.proofs.{SeenBody.{plain_tree_seen, pretty_tree_seen}, SpacesStay.{spaces_stay}}
+use Rattle.typst_html_spaces.specs.{Anchored.{Anchored, IsAny}, ItemText.{items_text}, PlainFlow.{is_plain_flow}}
+use Rattle.typst_html_spaces.specs.{ReadableNodes.{AreReadable}, SeenBody.{seen_text}}
+use Rattle.typst_html_export.proofs.{AnchoredRoots.{root_anchored}, LinkedRoots.{nodes_linked}}
 use Rattle.typst_html_export.proofs.PlainRoots.{assembled_root_is, entries_with, root_over, body_is, made_not_raw, entries_readable, root_readable, linked_root_is}
+use Rattle.typst_html_export.specs.{Assembled.{assembled_document, document_nodes}, DocumentHead.{entry_nodes}}
+use Rattle.typst_html_export.specs.{Exported.{linked_root, linked_root_with_head}, Linked.{linked_document_with_head}}
+use Rattle.typst_html_export.specs.SpacesInDocuments.{PlainDocumentsAreSeen, PlainLinkedDocumentsAreSeen, IsShownAs, IsReadAs, PlainDocumentsAreRead, PlainLinkedDocumentsAreRead, SpacesAreLeft, SpacesAreShown}
 
 -- a root that is not raw, in whose body exactly that text of items is seen, and what has indents is
 -- a border

@@ -1,17 +1,10 @@
 -- In the text of a document exactly the items' text is seen, by what writing says of that text.
 use Rattle.std.proofs.Common.{◌≡◌, ℕ, Bool, true, false, List, Some, refl, ap, ◌∙◌, Result, Ok, Err, IfOk, OnOk, String, Global}
-use Rattle.html_dom_tree.specs.PlainTree.{element_normal}
-use Rattle.html_dom_tree.specs.Tree.{ElementView}
-use Rattle.html_dom_tree.specs.Views.{text_view}
+use Rattle.html_dom_tree.specs.{FrameFree.{ElementIsFrameFree}, PlainTree.{element_normal}, Tree.{ElementView}, Views.{text_view}}
 use Rattle.html_dom_shown.specs.SeenBodies.{seen_tree}
-use Rattle.typst_html_encode.specs.Indented.{element_layout, ElementEndsWell}
-use Rattle.typst_html_encode.specs.Reader.{read}
-use Rattle.html_dom_tree.specs.FrameFree.{ElementIsFrameFree}
-use Rattle.typst_html_encode.specs.declared.fault.ExportFault.{ExportFault}
+use Rattle.typst_html_encode.specs.{Indented.{element_layout, ElementEndsWell}, Reader.{read}, declared.fault.ExportFault.{ExportFault}}
 use Rattle.html_flow_convert.specs.Items.{ItemsView, no_items}
-use Rattle.typst_html_spaces.specs.ItemText.{items_text}
-use Rattle.typst_html_spaces.specs.PlainFlow.{is_plain_flow}
-use Rattle.typst_html_spaces.specs.SeenBody.{seen_text}
+use Rattle.typst_html_spaces.specs.{ItemText.{items_text}, PlainFlow.{is_plain_flow}, SeenBody.{seen_text}}
 use Rattle.typst_html_export.specs.SpacesInDocuments.{IsReadAs, IsShownAs, SpacesAreSeen}
 
 module _ (root : ElementView) (items : ItemsView) where

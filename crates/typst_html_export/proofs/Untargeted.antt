@@ -1,17 +1,11 @@
 -- A document to which no link leads stays as it is.
-use Rattle.std.proofs.Common.{◌≡◌, ℕ, zero, suc, true, false, None, refl, ap, sym, ◌∙◌}
-use Rattle.std.proofs.Math.Path.{fun_ext}
+use Rattle.std.proofs.{Common.{◌≡◌, ℕ, zero, suc, true, false, None, refl, ap, sym, ◌∙◌}, Math.Path.{fun_ext}}
 use Rattle.std.proofs.lemmas.List.{nil_from_length}
-use Rattle.std.specs.BTreeMap.{BTreeMap, IsEmpty}
-use Rattle.std.specs.BTreeSet.{BTreeSet, btree_set_len}
-use Rattle.std.specs.Prelude.{String}
-use Rattle.std.specs.declared.alloc.Global.{Global}
-use Rattle.html_dom_tree.specs.Tree.{element_node, NodesView, none, node}
-use Rattle.html_dom_tree.specs.declared.introspection.Location.{Location}
-use Rattle.html_dom_document.specs.Introspectors.{has_location, location_text}
+use Rattle.std.specs.{BTreeMap.{BTreeMap, IsEmpty}, BTreeSet.{BTreeSet, btree_set_len}, Prelude.{String}, declared.alloc.Global.{Global}}
+use Rattle.html_dom_tree.specs.{Tree.{element_node, NodesView, none, node}, declared.introspection.Location.{Location}}
 use Rattle.html_dom_document.specs.Documents.{DocumentView, document_root, element_at_index, given_root, is_element_at, with_element}
-use Rattle.html_anchors.specs.LinkAnchors.{document_anchor, document_targets}
-use Rattle.html_anchors.proofs.Consequences.{no_target_no_change}
+use Rattle.html_dom_document.specs.Introspectors.{has_location, location_text}
+use Rattle.html_anchors.{proofs.Consequences.{no_target_no_change}, specs.LinkAnchors.{document_anchor, document_targets}}
 use Rattle.typst_html_export.specs.Linked.{document_with_anchors}
 
 put_again : (ns : NodesView) (i : ℕ) → is_element_at ns i ≡ true →

@@ -1,17 +1,12 @@
 -- Documents made from items (this project's rules; `html`, `head` and `body` are those of HTML
 -- Standard 4.1 to 4.3): what surrounds the nodes, and what is refused.
 use Rattle.std.specs.Prelude.{ℕ, ◌+◌, Bool, ◌||◌, ◌==◌, List, [], ◌∷◌, ◌++◌, codes, bytes_eq, if◌then◌else◌, Option, Some, None, option_map, map}
-use Rattle.html_dom_tree.specs.Attributes.{or_else}
-use Rattle.html_dom_tree.specs.Styled.{styled_nodes}
+use Rattle.html_dom_tree.specs.{Attributes.{or_else}, Styled.{styled_nodes}}
 use Rattle.html_dom_tree.specs.Tree.{Head, NodeView, tag_node, text_node, element_node, frame_node, NodesView, none, node, is_tag}
 use Rattle.html_dom_tree.specs.Views.{nodes_of}
-use Rattle.html_dom_document.specs.Documents.{InfoView, OutputView, DocumentView, new_document}
-use Rattle.html_dom_document.specs.Places.{is_named_html}
-use Rattle.html_flow_convert.specs.Converted.{converted_nodes}
-use Rattle.html_flow_convert.specs.Depth.{items_too_deep}
-use Rattle.html_flow_convert.specs.Items.{ItemsView, no_items, item, item_span}
-use Rattle.html_flow_convert.specs.LoneNode.{node_list}
-use Rattle.html_flow_convert.specs.declared.convert.ConversionLevel.TheVariants.{Block}
+use Rattle.html_dom_document.specs.{Documents.{InfoView, OutputView, DocumentView, new_document}, Places.{is_named_html}}
+use Rattle.html_flow_convert.specs.{Converted.{converted_nodes}, Depth.{items_too_deep}, Items.{ItemsView, no_items, item, item_span}}
+use Rattle.html_flow_convert.specs.{LoneNode.{node_list}, declared.convert.ConversionLevel.TheVariants.{Block}}
 use Rattle.html_flow_convert.specs.declared.convert.Whitespace.TheVariants.{Normal}
 use Rattle.typst_html_encode.specs.FaultViews.{ExportFaultView, too_deep, not_alone, footnotes}
 use Rattle.typst_html_export.specs.DocumentHead.{made_node, head_node, lang_text}

@@ -1,8 +1,7 @@
 -- The results of calls that make a document or a part of one.
 use Rattle.std.specs.Prelude.{◌≡◌, List, Result, IfErr}
 use Rattle.html_names_core.specs.Endings.{GivesBy}
-use Rattle.typst_html_encode.specs.FaultViews.{ExportFaultView, IsFirstView}
-use Rattle.typst_html_encode.specs.declared.fault.ExportFault.{ExportFault}
+use Rattle.typst_html_encode.specs.{FaultViews.{ExportFaultView, IsFirstView}, declared.fault.ExportFault.{ExportFault}}
 use Rattle.typst_html_encode.specs.declared.fault.ExportFault.TheVariants.{OutOfMemory}
 
 -- a call returns that value if there is no fault, or else fails with the first fault; an allocation

@@ -1,16 +1,12 @@
 -- Clean information of a document: its texts have only text characters. A document with it, made
 -- from clean items in plain flow, can be written.
-use Rattle.std.specs.Prelude.{◌≡◌, ℕ, Bool, true, ◌&&◌, List, [], Option, Some, None}
-use Rattle.std.specs.List.{list_all}
+use Rattle.std.specs.{List.{list_all}, Prelude.{◌≡◌, ℕ, Bool, true, ◌&&◌, List, [], Option, Some, None}}
 use Rattle.html_names_core.specs.Characters.{all, is_text_char}
 use Rattle.html_dom_document.specs.Documents.{LocaleView, InfoView}
 use Rattle.html_anchors.specs.Links.{Anchors, anchor_hrefs, root_with_links}
-use Rattle.typst_html_encode.specs.FrameWriters.{Frames}
-use Rattle.typst_html_encode.specs.declared.options.HtmlOptions.{HtmlOptions}
+use Rattle.typst_html_encode.specs.{FrameWriters.{Frames}, declared.options.HtmlOptions.{HtmlOptions}}
 use Rattle.html_flow_convert.specs.Items.{ItemsView, no_items}
-use Rattle.typst_html_spaces.specs.CleanItems.{are_clean_items}
-use Rattle.typst_html_spaces.specs.CleanNodes.{is_clean_text}
-use Rattle.typst_html_spaces.specs.PlainFlow.{is_plain_flow}
+use Rattle.typst_html_spaces.specs.{CleanItems.{are_clean_items}, CleanNodes.{is_clean_text}, PlainFlow.{is_plain_flow}}
 use Rattle.typst_html_export.specs.Exported.{linked_root, root_faults}
 
 abbrev pub are_clean_texts : List (List ℕ) → Bool

@@ -1,9 +1,7 @@
 -- The head of a document, and its language (HTML Standard 4.2; this project decides which entries
 -- there are). All generated nodes have the span 0. Nodes of the caller's stand at the head's end.
-use Rattle.std.specs.Prelude.{ℕ, List, [], ◌∷◌, ◌++◌, codes, Option, Some, None}
-use Rattle.std.specs.List.{join_by}
-use Rattle.html_dom_tree.specs.Tree.{TextPair, NodeView, text_node, element_node, NodesView, none, node, plain_head}
-use Rattle.html_dom_tree.specs.Views.{nodes_of}
+use Rattle.std.specs.{List.{join_by}, Prelude.{ℕ, List, [], ◌∷◌, ◌++◌, codes, Option, Some, None}}
+use Rattle.html_dom_tree.specs.{Tree.{TextPair, NodeView, text_node, element_node, NodesView, none, node, plain_head}, Views.{nodes_of}}
 use Rattle.html_dom_document.specs.Documents.{LocaleView, InfoView}
 
 -- an element with these attributes and children, and nothing else

@@ -4,13 +4,10 @@ use Rattle.html_dom_tree.specs.Tree.{NodeView, ElementView}
 use Rattle.html_dom_document.specs.Documents.{InfoView, DocumentView, document_root}
 use Rattle.html_anchors.specs.Links.{document_with_links}
 use Rattle.typst_html_encode.specs.ExportFaults as writing
-use Rattle.typst_html_encode.specs.FaultViews.{ExportFaultView, export_fault_view}
-use Rattle.typst_html_encode.specs.FrameWriters.{Frames}
-use Rattle.typst_html_encode.specs.Text.{document_text}
+use Rattle.typst_html_encode.specs.{FaultViews.{ExportFaultView, export_fault_view}, FrameWriters.{Frames}, Text.{document_text}}
 use Rattle.typst_html_encode.specs.declared.options.HtmlOptions.{HtmlOptions}
 use Rattle.html_flow_convert.specs.Items.{ItemsView}
-use Rattle.typst_html_export.specs.Assembled.{items_document_faults}
-use Rattle.typst_html_export.specs.Linked.{linked_document, linked_document_with_head}
+use Rattle.typst_html_export.specs.{Assembled.{items_document_faults}, Linked.{linked_document, linked_document_with_head}}
 
 -- the root, with these nodes of the caller's at the end of its head
 abbrev pub linked_root_with_head : InfoView → (head : List NodeView)

@@ -1,23 +1,14 @@
 -- The HTML text of items by themselves, with no document around them: that of their nodes, with css
 -- in `style` attributes, as children of an element are written.
 use Rattle.std.specs.Prelude.{◌≡◌, ℕ, true, List, ◌++◌, map, Option, Some, None}
-use Rattle.html_dom_tree.specs.PlainTree.{Plain, words, branch}
-use Rattle.html_dom_tree.specs.Styled.{styled_nodes}
-use Rattle.html_dom_tree.specs.Tree.{NodesView}
-use Rattle.html_dom_shown.specs.Collapsing.{Piece}
-use Rattle.html_dom_shown.specs.SeenBodies.{seen_plains}
+use Rattle.html_dom_tree.specs.{PlainTree.{Plain, words, branch}, Styled.{styled_nodes}, Tree.{NodesView}}
+use Rattle.html_dom_shown.specs.{Collapsing.{Piece}, SeenBodies.{seen_plains}}
 use Rattle.typst_html_encode.specs.FaultViews.{ExportFaultView, export_fault_view}
 use Rattle.typst_html_encode.specs.Fragments as writing
-use Rattle.typst_html_encode.specs.Fragments.{text_in_div}
-use Rattle.typst_html_encode.specs.FrameWriters.{Frames}
-use Rattle.typst_html_encode.specs.Reader.{read}
-use Rattle.html_flow_convert.specs.Converted.{converted_nodes}
-use Rattle.html_flow_convert.specs.Depth.{items_too_deep}
-use Rattle.html_flow_convert.specs.Items.{ItemsView}
-use Rattle.html_flow_convert.specs.declared.convert.ConversionLevel.{ConversionLevel}
-use Rattle.html_flow_convert.specs.declared.convert.Whitespace.TheVariants.{Normal}
-use Rattle.typst_html_spaces.specs.ItemText.{items_text}
-use Rattle.typst_html_spaces.specs.PlainFlow.{is_plain_flow}
+use Rattle.typst_html_encode.specs.{Fragments.{text_in_div}, FrameWriters.{Frames}, Reader.{read}}
+use Rattle.html_flow_convert.specs.{Converted.{converted_nodes}, Depth.{items_too_deep}, Items.{ItemsView}}
+use Rattle.html_flow_convert.specs.declared.convert.{ConversionLevel.{ConversionLevel}, Whitespace.TheVariants.{Normal}}
+use Rattle.typst_html_spaces.specs.{ItemText.{items_text}, PlainFlow.{is_plain_flow}}
 use Rattle.typst_html_export.specs.Assembled.{depth_faults}
 
 abbrev pub fragment_nodes : ConversionLevel → ItemsView → NodesView

@@ -1,21 +1,13 @@
 -- Nodes of the caller's for the head of a document: which of them can be written there, and which
 -- leave the document's text readable.
 use Rattle.std.specs.Prelude.{◌≡◌, true, false, List, []}
-use Rattle.html_dom_tree.specs.FrameFree.{NodesAreFrameFree}
-use Rattle.html_dom_tree.specs.Styled.{styled_nodes}
-use Rattle.html_dom_tree.specs.Tree.{NodeView, NodesView}
-use Rattle.html_dom_tree.specs.Views.{nodes_of}
+use Rattle.html_dom_tree.specs.{FrameFree.{NodesAreFrameFree}, Styled.{styled_nodes}, Tree.{NodeView, NodesView}, Views.{nodes_of}}
 use Rattle.html_dom_document.specs.Documents.{InfoView}
 use Rattle.html_flow_convert.specs.Items.{ItemsView, no_items}
-use Rattle.typst_html_encode.specs.ExportFaults.{nodes_faults}
-use Rattle.typst_html_encode.specs.FrameWriters.{Frames}
-use Rattle.typst_html_encode.specs.Indented.{NodesEndWell}
+use Rattle.typst_html_encode.specs.{ExportFaults.{nodes_faults}, FrameWriters.{Frames}, Indented.{NodesEndWell}}
 use Rattle.typst_html_encode.specs.declared.options.HtmlOptions.{HtmlOptions}
-use Rattle.typst_html_spaces.specs.CleanItems.{are_clean_items}
-use Rattle.typst_html_spaces.specs.DeepNodes.{Wanted, HoldsOfAll}
-use Rattle.typst_html_spaces.specs.PlainFlow.{is_plain_flow}
-use Rattle.typst_html_export.specs.CleanInfo.{is_clean_info}
-use Rattle.typst_html_export.specs.Exported.{linked_root_with_head, root_faults}
+use Rattle.typst_html_spaces.specs.{CleanItems.{are_clean_items}, DeepNodes.{Wanted, HoldsOfAll}, PlainFlow.{is_plain_flow}}
+use Rattle.typst_html_export.specs.{CleanInfo.{is_clean_info}, Exported.{linked_root_with_head, root_faults}}
 
 abbrev pub elements_and_texts : Wanted
 elements_and_texts = record {

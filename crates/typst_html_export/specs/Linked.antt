@@ -1,7 +1,6 @@
 -- Documents of items with anchors for all locations that links lead to.
 use Rattle.std.specs.Prelude.{◌≡◌, ℕ, Bool, true, List, [], Some}
-use Rattle.html_dom_tree.specs.FrameFree.{ElementIsFrameFree}
-use Rattle.html_dom_tree.specs.Tree.{NodeView}
+use Rattle.html_dom_tree.specs.{FrameFree.{ElementIsFrameFree}, Tree.{NodeView}}
 use Rattle.html_names_core.specs.Names.{stands_in}
 use Rattle.html_dom_document.specs.Documents.{InfoView, DocumentView, document_root}
 use Rattle.html_flow_convert.specs.Items.{ItemsView}

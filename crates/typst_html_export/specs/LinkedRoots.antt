@@ -1,11 +1,7 @@
 -- What anchors, and the `href` of links, leave unchanged in any tree.
 use Rattle.std.specs.Prelude.{◌≡◌, ◌↔◌, Bool}
-use Rattle.html_dom_tree.specs.FrameFree.{ElementIsFrameFree}
-use Rattle.html_dom_tree.specs.PlainTree.{nodes_normal}
-use Rattle.html_dom_tree.specs.Tree.{ElementView}
-use Rattle.html_anchors.specs.Anchors.{element_with_anchors}
-use Rattle.html_anchors.specs.Events.{Targets}
-use Rattle.html_anchors.specs.Links.{Hrefs, root_with_links}
+use Rattle.html_dom_tree.specs.{FrameFree.{ElementIsFrameFree}, PlainTree.{nodes_normal}, Tree.{ElementView}}
+use Rattle.html_anchors.specs.{Anchors.{element_with_anchors}, Events.{Targets}, Links.{Hrefs, root_with_links}}
 use Rattle.html_dom_shown.specs.Collapsing.{plains_atoms}
 use Rattle.typst_html_encode.specs.ReadingBack.{ElementIsNamed}
 

@@ -1,12 +1,8 @@
 -- The results of the parts of assembly.
-use Rattle.std.specs.Prelude.{ℕ}
-use Rattle.std.specs.Borrow.{Bor}
-use Rattle.html_dom_tree.specs.Tree.{Head}
-use Rattle.html_dom_tree.specs.Views.{element_view}
-use Rattle.html_dom_tree.specs.declared.node.HtmlElement.{HtmlElement}
+use Rattle.std.specs.{Borrow.{Bor}, Prelude.{ℕ}}
+use Rattle.html_dom_tree.specs.{Tree.{Head}, Views.{element_view}, declared.node.HtmlElement.{HtmlElement}}
 use Rattle.typst_html_export.specs.Assembled as assembled
-use Rattle.typst_html_export.specs.declared.document.Outline.{Outline}
-use Rattle.typst_html_export.specs.declared.document.Outline.TheVariants.{OwnHtml, OwnBody, NothingOwn}
+use Rattle.typst_html_export.specs.declared.document.{Outline.{Outline}, Outline.TheVariants.{OwnHtml, OwnBody, NothingOwn}}
 
 abbrev pub outline_view : Outline → assembled.Outline
 outline_view (OwnHtml place) = assembled.own_html place

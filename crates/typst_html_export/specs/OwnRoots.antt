@@ -1,13 +1,11 @@
 -- Documents without nodes of the caller's in their head: there are no such nodes, or the items have
 -- a root of their own, and with it a head. The latter have no information in their tree either.
 use Rattle.std.specs.Prelude.{◌≡◌, Bool, true, false, List, [], ◌∷◌, codes}
-use Rattle.html_dom_tree.specs.Tree.{NodeView}
-use Rattle.html_dom_tree.specs.Views.{nodes_of}
+use Rattle.html_dom_tree.specs.{Tree.{NodeView}, Views.{nodes_of}}
 use Rattle.html_dom_document.specs.Documents.{InfoView, no_info}
 use Rattle.html_flow_convert.specs.Items.{ItemsView}
 use Rattle.typst_html_export.specs.Assembled.{Outline, own_html, own_body, nothing_own, own_among_others, document_outline, document_nodes}
-use Rattle.typst_html_export.specs.DocumentHead.{made_node, charset_node, viewport_node, entry_nodes, head_node}
-use Rattle.typst_html_export.specs.Exported.{linked_root}
+use Rattle.typst_html_export.specs.{DocumentHead.{made_node, charset_node, viewport_node, entry_nodes, head_node}, Exported.{linked_root}}
 use Rattle.typst_html_export.specs.Linked.{linked_document, linked_document_with_head}
 
 -- whether a document has a root of its own

@@ -1,13 +1,10 @@
 -- Links that lead in the text of their document as it is read.
 use Rattle.std.specs.Prelude.{◌≡◌, ℕ, true, List, [], ◌++◌, All, Option, Some, None}
-use Rattle.html_dom_tree.specs.FrameFree.{ElementIsFrameFree}
-use Rattle.html_dom_tree.specs.PlainTree.{Plain, words, branch}
+use Rattle.html_dom_tree.specs.{FrameFree.{ElementIsFrameFree}, PlainTree.{Plain, words, branch}}
 use Rattle.html_dom_document.specs.Documents.{DocumentView, document_root}
 use Rattle.html_anchors.specs.GivenLinks.{LeadsAmong, document_given_links}
 use Rattle.html_links.specs.Indicated.{place_names}
-use Rattle.typst_html_encode.specs.Indented.{ElementEndsWell}
-use Rattle.typst_html_encode.specs.ReadIds.{plains_texts, read_ids}
-use Rattle.typst_html_encode.specs.Reader.{read}
+use Rattle.typst_html_encode.specs.{Indented.{ElementEndsWell}, ReadIds.{plains_texts, read_ids}, Reader.{read}}
 use Rattle.typst_html_encode.specs.declared.options.HtmlOptions.{HtmlOptions}
 
 -- the names of the places of a tree that is read, if there is one

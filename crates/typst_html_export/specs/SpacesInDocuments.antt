@@ -1,24 +1,16 @@
 -- Documents of items in plain flow: exactly the items' text is visible in their text.
 use Rattle.std.specs.Prelude.{◌≡◌, ℕ, true, List, [], Some}
-use Rattle.html_dom_tree.specs.PlainTree.{element_normal}
-use Rattle.html_dom_tree.specs.Tree.{ElementView}
+use Rattle.html_dom_tree.specs.{PlainTree.{element_normal}, Tree.{ElementView}}
 use Rattle.html_dom_shown.specs.SeenBodies.{seen_tree}
 use Rattle.typst_html_encode.specs.ExportFaults as writing
-use Rattle.typst_html_encode.specs.FrameWriters.{Frames}
-use Rattle.typst_html_encode.specs.Indented.{element_layout, ElementEndsWell}
+use Rattle.typst_html_encode.specs.{FrameWriters.{Frames}, Indented.{element_layout, ElementEndsWell}, ReadingBack.{ElementIsNamed}}
+use Rattle.typst_html_encode.specs.{Text.{document_text}, declared.options.HtmlOptions.{HtmlOptions}}
 use Rattle.html_dom_tree.specs.FrameFree.{ElementIsFrameFree}
-use Rattle.typst_html_encode.specs.ReadingBack.{ElementIsNamed}
-use Rattle.typst_html_encode.specs.Text.{document_text}
-use Rattle.typst_html_encode.specs.declared.options.HtmlOptions.{HtmlOptions}
 use Rattle.html_dom_document.specs.Documents.{InfoView, DocumentView, document_root}
 use Rattle.html_anchors.specs.Links.{Hrefs, root_with_links}
-use Rattle.html_flow_convert.specs.Depth.{items_too_deep}
-use Rattle.html_flow_convert.specs.Items.{ItemsView, no_items}
-use Rattle.typst_html_spaces.specs.ItemText.{items_text}
-use Rattle.typst_html_spaces.specs.PlainFlow.{is_plain_flow}
-use Rattle.typst_html_spaces.specs.SeenBody.{seen_text}
-use Rattle.typst_html_export.specs.Assembled.{items_document_faults}
-use Rattle.typst_html_export.specs.Exported.{linked_root}
+use Rattle.html_flow_convert.specs.{Depth.{items_too_deep}, Items.{ItemsView, no_items}}
+use Rattle.typst_html_spaces.specs.{ItemText.{items_text}, PlainFlow.{is_plain_flow}, SeenBody.{seen_text}}
+use Rattle.typst_html_export.specs.{Assembled.{items_document_faults}, Exported.{linked_root}}
 
 -- items in plain flow without footnotes, none of which is too deep
 pub record ArePlainItems (limit : ℕ) (items notes : ItemsView) : Type 0 where

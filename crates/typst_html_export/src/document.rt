@@ -1,30 +1,18 @@
 //! Documents made from items.
 
 ghost use Rattle.std.specs.Prelude.{◌≡◌, ◌≤◌, IfOk, map, option_map};
-ghost use Rattle.html_anchors.specs.DistinctIds.{IdsAreDistinct};
-ghost use Rattle.html_anchors.specs.GivenLinks.{KnownAnchorsAreShown};
-ghost use Rattle.html_anchors.specs.Serving.{KnownAnchorsServe};
-ghost use Rattle.html_dom_tree.specs.Tree.{none, node};
-ghost use Rattle.html_dom_tree.specs.Views.{element_view, node_view, nodes_view};
-ghost use Rattle.html_dom_document.specs.Documents.{document_root};
-ghost use Rattle.html_dom_document.specs.Positions.{PositionsLead};
+ghost use Rattle.html_anchors.specs.{DistinctIds.{IdsAreDistinct}, GivenLinks.{KnownAnchorsAreShown}, Serving.{KnownAnchorsServe}};
+ghost use Rattle.html_dom_tree.specs.{Tree.{none, node}, Views.{element_view, node_view, nodes_view}};
+ghost use Rattle.html_dom_document.specs.{Documents.{document_root}, Positions.{PositionsLead}};
 ghost use Rattle.html_dom_document.specs.Views.{document_view, info_view, output_view};
 ghost use Rattle.typst_html_encode.specs.FaultViews.{spans_view};
-ghost use Rattle.html_flow_convert.specs.Depth.{items_too_deep};
-ghost use Rattle.html_flow_convert.specs.Items.{no_items};
-ghost use Rattle.html_flow_convert.specs.Views.{items_view};
+ghost use Rattle.html_flow_convert.specs.{Depth.{items_too_deep}, Items.{no_items}, Views.{items_view}};
 ghost use Rattle.typst_html_spaces.specs.ReadableNodes.{AreReadable};
-ghost use Rattle.typst_html_export.specs.Assembled.{assembled_document, assembled_document_with_head, assembled_output};
-ghost use Rattle.typst_html_export.specs.Assembled.{document_around, document_nodes, html_output};
-ghost use Rattle.typst_html_export.specs.Assembled.{first_own, is_own, own_head, document_outline, shown_count};
-ghost use Rattle.typst_html_export.specs.Assembled.{body_node, both_nodes};
-ghost use Rattle.typst_html_export.specs.Assembled.{assembly_faults, depth_faults, items_document_faults, item_spans, note_faults, outline_faults};
+ghost use Rattle.typst_html_export.specs.Assembled.{assembled_document, assembled_document_with_head, assembled_output, document_around, document_nodes, html_output, first_own, is_own, own_head, document_outline, shown_count, body_node, both_nodes, assembly_faults, depth_faults, items_document_faults, item_spans, note_faults, outline_faults};
 ghost use Rattle.typst_html_export.specs.Assembles.{GivesDocument, FailsByMemoryAlone, Passes};
 ghost use Rattle.typst_html_export.specs.Linked.{document_with_anchors, linked_document, linked_document_with_head, AnchorsAreFirstIds};
-ghost use Rattle.typst_html_export.specs.LinkedRoots.{HaveSameAtoms};
-ghost use Rattle.typst_html_export.specs.Outlines.{outline_view, own_view};
-ghost use Rattle.typst_html_export.specs.OwnRoots.{have_own_root, is_root};
-ghost use Rattle.typst_html_export.specs.Roots.{styled_root};
+ghost use Rattle.typst_html_export.specs.{LinkedRoots.{HaveSameAtoms}, Outlines.{outline_view, own_view}};
+ghost use Rattle.typst_html_export.specs.{OwnRoots.{have_own_root, is_root}, Roots.{styled_root}};
 ghost use Rattle.typst_html_export.specs.SpacesInDocuments.{ArePlainItems, SpacesAreLeft, SpacesAreShown};
 
 use crate::head::{head_node, lang_text};

@@ -1,31 +1,19 @@
 //! Writing documents.
 
 ghost use Rattle.std.specs.Prelude.{◌≡◌, ◌≤◌, true, false, Some, IfErr, IfOk, OnOk, map};
-ghost use Rattle.html_dom_tree.specs.PlainTree.{element_normal};
+ghost use Rattle.html_dom_tree.specs.{FrameFree.{ElementIsFrameFree}, PlainTree.{element_normal}};
 ghost use Rattle.html_dom_tree.specs.Views.{text_view, element_view, node_view, nodes_view};
-ghost use Rattle.html_dom_document.specs.Views.{document_view, info_view};
-ghost use Rattle.typst_html_encode.specs.FaultViews.{IsFirstView};
-ghost use Rattle.typst_html_encode.specs.ExportFaults.{document_faults};
-ghost use Rattle.typst_html_encode.specs.HtmlTexts.{IsHtmlOf};
-ghost use Rattle.typst_html_encode.specs.Indented.{element_layout, ElementEndsWell};
-ghost use Rattle.typst_html_encode.specs.Reader.{read};
-ghost use Rattle.html_dom_tree.specs.FrameFree.{ElementIsFrameFree};
-ghost use Rattle.typst_html_encode.specs.Text.{document_text};
-ghost use Rattle.typst_html_encode.specs.Endings.{Gives};
-ghost use Rattle.html_dom_document.specs.Documents.{document_root};
-ghost use Rattle.html_anchors.specs.DistinctIds.{GivenLinksLeadToOne, IdsAreDistinct};
-ghost use Rattle.html_anchors.specs.FoundAnchors.{LiveLinksLead};
-ghost use Rattle.html_anchors.specs.GivenLinks.{AnchorsAreTexts, GivenLinksLead, links_without};
-ghost use Rattle.html_anchors.specs.Links.{document_links_left};
+ghost use Rattle.html_dom_document.specs.{Documents.{document_root}, Views.{document_view, info_view}};
+ghost use Rattle.typst_html_encode.specs.{Endings.{Gives}, ExportFaults.{document_faults}, FaultViews.{IsFirstView}, HtmlTexts.{IsHtmlOf}};
+ghost use Rattle.typst_html_encode.specs.{Indented.{element_layout, ElementEndsWell}, Reader.{read}, Text.{document_text}};
+ghost use Rattle.html_anchors.specs.{DistinctIds.{GivenLinksLeadToOne, IdsAreDistinct}, FoundAnchors.{LiveLinksLead}};
+ghost use Rattle.html_anchors.specs.{GivenLinks.{AnchorsAreTexts, GivenLinksLead, links_without}, Links.{document_links_left}};
 ghost use Rattle.html_flow_convert.specs.Views.{items_view};
 ghost use Rattle.typst_html_spaces.specs.CleanItems.{are_clean_items};
-ghost use Rattle.typst_html_export.specs.Assembled.{assembled_document};
-ghost use Rattle.typst_html_export.specs.Assembles.{GivesDocument, FailsByMemoryAlone};
+ghost use Rattle.typst_html_export.specs.{Assembled.{assembled_document}, Assembles.{GivesDocument, FailsByMemoryAlone}};
 ghost use Rattle.typst_html_export.specs.CleanInfo.{is_clean_info};
-ghost use Rattle.typst_html_export.specs.Exported.{export_faults, export_faults_with_head, export_linked_faults, export_linked_text, export_text, export_text_with_head};
-ghost use Rattle.typst_html_export.specs.Exported.{linked_root, linked_root_with_head, resolved_document, resolved_root, root_faults};
-ghost use Rattle.typst_html_export.specs.HeadNodes.{HeadIsClean, HeadIsReadable};
-ghost use Rattle.typst_html_export.specs.Linked.{linked_document};
+ghost use Rattle.typst_html_export.specs.Exported.{export_faults, export_faults_with_head, export_linked_faults, export_linked_text, export_text, export_text_with_head, linked_root, linked_root_with_head, resolved_document, resolved_root, root_faults};
+ghost use Rattle.typst_html_export.specs.{HeadNodes.{HeadIsClean, HeadIsReadable}, Linked.{linked_document}};
 ghost use Rattle.typst_html_export.specs.ReadLinks.{GivenLinksLeadWhenRead, DocumentIsReadable};
 ghost use Rattle.typst_html_export.specs.SpacesInDocuments.{ArePlainItems, SpacesAreSeen};
 

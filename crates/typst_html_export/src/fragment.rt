@@ -1,13 +1,9 @@
 //! Items by themselves, with no document around them.
 
 ghost use Rattle.std.specs.Prelude.{◌≡◌, ◌≤◌, IfOk};
-ghost use Rattle.html_dom_tree.specs.FrameFree.{NodesAreFrameFree};
-ghost use Rattle.html_dom_tree.specs.Styled.{styled_nodes};
-ghost use Rattle.html_dom_tree.specs.Views.{nodes_view, text_view};
-ghost use Rattle.html_flow_convert.specs.Views.{items_view};
-ghost use Rattle.html_flow_convert.specs.declared.convert.ConversionLevel.TheVariants.{Block};
-ghost use Rattle.typst_html_encode.specs.Endings.{Gives};
-ghost use Rattle.typst_html_encode.specs.Fragments.{fragment_text, fragment_faults, ReadsInDiv};
+ghost use Rattle.html_dom_tree.specs.{FrameFree.{NodesAreFrameFree}, Styled.{styled_nodes}, Views.{nodes_view, text_view}};
+ghost use Rattle.html_flow_convert.specs.{Views.{items_view}, declared.convert.ConversionLevel.TheVariants.{Block}};
+ghost use Rattle.typst_html_encode.specs.{Endings.{Gives}, Fragments.{fragment_text, fragment_faults, ReadsInDiv}};
 ghost use Rattle.typst_html_export.specs.Assembles.{GivesDocument};
 ghost use Rattle.typst_html_export.specs.Fragments.{export_fragment_faults, export_fragment_text, fragment_nodes, FragmentIsSeen};
 

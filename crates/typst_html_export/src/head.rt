@@ -1,14 +1,11 @@
 //! The head of a document, and its language.
 #![tactic(auto, unfolding(html_names_core::specs::Tables::known_tags, html_names_core::specs::Tables::known_attrs))]
 
-ghost use Rattle.std.specs.Prelude.{◌≡◌, ◌++◌, IfOk, IsTrue, OnOk, codes, map, option_map};
-ghost use Rattle.std.specs.List.{flat_map};
-ghost use Rattle.html_names_core.specs.Names.{is_ascii};
+ghost use Rattle.std.specs.{List.{flat_map}, Prelude.{◌≡◌, ◌++◌, IfOk, IsTrue, OnOk, codes, map, option_map}};
+ghost use Rattle.html_names_core.specs.{Names.{is_ascii}, Texts.{texts_view}};
 ghost use Rattle.html_dom_tree.specs.Views.{node_view, optional_text_view, text_view};
-ghost use Rattle.html_names_core.specs.Texts.{texts_view};
 ghost use Rattle.html_dom_document.specs.Views.{info_view, locale_view};
-ghost use Rattle.typst_html_export.specs.DocumentHead.{charset_node, description_nodes, entry_node, entry_nodes, head_node};
-ghost use Rattle.typst_html_export.specs.DocumentHead.{joined_text, lang_text, list_meta_nodes, region_text, title_node, title_nodes, viewport_node};
+ghost use Rattle.typst_html_export.specs.DocumentHead.{charset_node, description_nodes, entry_node, entry_nodes, head_node, joined_text, lang_text, list_meta_nodes, region_text, title_node, title_nodes, viewport_node};
 
 use html_dom_document::{DocumentInfo, Locale};
 use html_dom_tree::{HtmlElement, HtmlNode, Span};

@@ -1,23 +1,15 @@
 -- What is found in a page has a text, and what is answered where a page is read, and where it is not.
 use Rattle.std.proofs.Common.{◌≡◌, ◌∙◌, sym, ap, ℕ, List, [], ◌∷◌, ◌++◌, Bool, true, false, Result, Ok, Err, String, string_bytes, chars, refl, append_assoc}
-use Rattle.std.specs.Result.{IsOk, MatchResult}
-use Rattle.std.specs.Str.{is_utf8}
+use Rattle.std.{proofs.lemmas.Str.{encodes-chars, IsUtf8-string_bytes}, specs.Result.{IsOk, MatchResult}, specs.Str.{is_utf8}}
 use Rattle.std.specs.declared.alloc.Global.{Global}
-use Rattle.std.proofs.lemmas.Str.{encodes-chars, IsUtf8-string_bytes}
 use lib.Utf8.{encodes}
-use Rattle.serde_json.specs.Data.{Data, string, object, Members, member}
-use Rattle.serde_json.specs.View.{items_of}
+use Rattle.serde_json.specs.{Data.{Data, string, object, Members, member}, View.{items_of}}
 use Rattle.serde_json.specs.Written.{comma_if, compact_text, items_text, members_text}
-use Rattle.html_dom_tree.specs.Tree.{ElementView}
-use Rattle.html_dom_tree.specs.Views.{element_view, text_view}
-use Rattle.html_dom_tree.specs.declared.node.HtmlElement.{HtmlElement}
-use Rattle.html_page_read.specs.PageAnswers.{GivesBytes}
-use Rattle.html_page_read.specs.declared.fault.PageFault.{PageFault}
+use Rattle.html_dom_tree.specs.{Tree.{ElementView}, Views.{element_view, text_view}, declared.node.HtmlElement.{HtmlElement}}
+use Rattle.html_page_read.specs.{PageAnswers.{GivesBytes}, declared.fault.PageFault.{PageFault}, declared.fault.PageNotes.{PageNotes}}
 use Rattle.html_page_read.specs.declared.fault.PageFault.TheVariants.{OutOfMemory, NotText, Refused}
-use Rattle.html_page_read.specs.declared.fault.PageNotes.{PageNotes}
+use Rattle.typst_html_ffi.specs.{PageReports.{Report, Reports, unread, failed, page_report}, PageSteps.{IsFaultReport, unread_reply}}
 use Rattle.typst_html_ffi.specs.declared.reply.Reply.{Reply}
-use Rattle.typst_html_ffi.specs.PageReports.{Report, Reports, unread, failed, page_report}
-use Rattle.typst_html_ffi.specs.PageSteps.{IsFaultReport, unread_reply}
 
 pub text_written : (s : String Global) → encodes (text_view s) ≡ string_bytes s
 text_written s = encodes-chars (string_bytes s) (IsUtf8-string_bytes s)

@@ -1,14 +1,10 @@
 -- What is appended to a text in pieces, and what is copied of one.
 use Rattle.std.proofs.Common.{◌≡◌, ◌∙◌, sym, ap, ℕ, ◌+◌, ◌≤◌, ◌<◌, List, [], ◌∷◌, ◌++◌, Ok, String, drop, length, take, string_bytes, refl, arith, append_assoc}
-use Rattle.std.proofs.lemmas.Bool.{le-leb, lt-leb}
-use Rattle.std.proofs.lemmas.List.{append-nil, drop-drop, length-append, length-drop, take_at}
+use Rattle.std.proofs.lemmas.{Bool.{le-leb, lt-leb}, List.{append-nil, drop-drop, length-append, length-drop, take_at}}
 use lib.Seq.{drop-append-add}
 use Rattle.std.specs.declared.alloc.Global.{Global}
-use Rattle.typst_html_ffi.specs.CallReplies.{without_text}
-use Rattle.typst_html_ffi.specs.PageReports.{Report, Reports, made}
-use Rattle.typst_html_ffi.specs.LongTexts.{pieces_bytes, text_bytes}
-use Rattle.typst_html_ffi.specs.declared.pieces.LongText.{LongText}
-use Rattle.typst_html_ffi.specs.declared.reply.Reply.{Reply}
+use Rattle.typst_html_ffi.specs.{CallReplies.{without_text}, LongTexts.{pieces_bytes, text_bytes}, PageReports.{Report, Reports, made}}
+use Rattle.typst_html_ffi.specs.declared.{pieces.LongText.{LongText}, reply.Reply.{Reply}}
 
 pub with_last_piece : (pieces : List (String Global)) (last : String Global) →
     pieces_bytes (pieces ++ last ∷ []) ≡ pieces_bytes pieces ++ string_bytes last

@@ -2,14 +2,10 @@
 use Rattle.std.specs.Prelude.{◌≡◌, ◌==◌, ◌&&◌, ℕ, Bool, true, false, List, [], ◌∷◌, ◌++◌, length, drop, nat_le, Option, Some, None, option_map, option_and_then, if◌then◌else◌}
 use Rattle.html_anchors.specs.Links.{DeadLinkView}
 use Rattle.typst_html_run.specs.Answers.{Answer, text_answer, refused_answer, bad_input, answer_if, task_answer}
-use Rattle.typst_html_run.specs.DocumentAnswers.{document_input_answer, input_dead_links}
-use Rattle.typst_html_run.specs.declared.documents.Settings.{Settings}
-use Rattle.typst_html_json.specs.declared.fault.Fault.{Fault}
-use Rattle.typst_html_json.specs.declared.fault.Fault.TheVariants.{OutOfMemory, BadInput, Refused}
-use Rattle.typst_html_json.specs.declared.fault.InputPlace.{InputPlace}
+use Rattle.typst_html_run.specs.{DocumentAnswers.{document_input_answer, input_dead_links}, declared.documents.Settings.{Settings}}
+use Rattle.typst_html_run.specs.declared.words.{Task.{Task}, Task.TheVariants.{Tree, Doc}}
+use Rattle.typst_html_json.specs.declared.fault.{Fault.{Fault}, InputPlace.{InputPlace}, Fault.TheVariants.{OutOfMemory, BadInput, Refused}}
 use Rattle.typst_html_json.specs.declared.fault.InputPlace.TheVariants.{Unknown, Text, Form}
-use Rattle.typst_html_run.specs.declared.words.Task.{Task}
-use Rattle.typst_html_run.specs.declared.words.Task.TheVariants.{Tree, Doc}
 use Rattle.typst_html_ffi.specs.declared.reply.Reply.{Reply}
 
 -- the task of that kind: 0 is a tree, and 1 the document of a list of items

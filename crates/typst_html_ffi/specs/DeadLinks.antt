@@ -1,9 +1,7 @@
 -- The links of a document that lead nowhere, as JSON:
 --     {"dead_links":[{"destination":n,"span":n},..]}
 use Rattle.std.specs.Prelude.{ℕ, List, map, codes}
-use Rattle.serde_json.specs.Data.{Data, number, array, object, unsigned, member, no_members}
-use Rattle.serde_json.specs.View.{items_of}
-use Rattle.serde_json.specs.Written.{compact_text}
+use Rattle.serde_json.specs.{Data.{Data, number, array, object, unsigned, member, no_members}, View.{items_of}, Written.{compact_text}}
 use Rattle.html_anchors.specs.Links.{DeadLinkView}
 use Rattle.typst_html_run.specs.Answers.{Answer, text_answer, refused_answer, bad_input}
 use Rattle.typst_html_ffi.specs.CallReplies.{call_dead_links, document_call_answer}

@@ -1,13 +1,9 @@
 -- Lists of the findings in a page, as JSON, each with its place:
 --     [{NAME:t,"keeps":n,"path":[n,..],"offset":n,"line":n,"column":n},..]
-use Rattle.std.specs.List.{common_prefix_len}
-use Rattle.std.specs.Option.{option_map_or}
-use Rattle.std.specs.Prelude.{◌==◌, ℕ, List, [], ◌∷◌, map, drop, codes}
+use Rattle.std.specs.{List.{common_prefix_len}, Option.{option_map_or}, Prelude.{◌==◌, ℕ, List, [], ◌∷◌, map, drop, codes}}
 use lib.Utf8.{encodes}
-use Rattle.serde_json.specs.Data.{Data, number, string, array, object, unsigned, Members, member, no_members}
-use Rattle.serde_json.specs.View.{items_of}
-use Rattle.html_page_findings.specs.ElementPaths.{element_at}
-use Rattle.html_page_findings.specs.PlacedTexts.{Placed}
+use Rattle.serde_json.specs.{Data.{Data, number, string, array, object, unsigned, Members, member, no_members}, View.{items_of}}
+use Rattle.html_page_findings.specs.{ElementPaths.{element_at}, PlacedTexts.{Placed}}
 use Rattle.html_dom_tree.specs.Tree.{ElementView}
 use Rattle.html_page_read.specs.PagePlaces.{place_at}
 use Rattle.html_text.specs.declared.place.Place.{Place}

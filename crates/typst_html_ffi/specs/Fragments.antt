@@ -1,10 +1,8 @@
 -- The answer to an input that spells items without a document; bad input if the level or the limit
 -- is invalid.
 use Rattle.std.specs.Prelude.{◌==◌, ℕ, List, Option, Some, None, option_and_then, option_map, if◌then◌else◌}
-use Rattle.html_flow_convert.specs.declared.convert.ConversionLevel.{ConversionLevel}
-use Rattle.html_flow_convert.specs.declared.convert.ConversionLevel.TheVariants.{Block, Inline}
-use Rattle.typst_html_run.specs.Answers.{Answer, answer_if}
-use Rattle.typst_html_run.specs.FragmentAnswers.{fragment_input_answer}
+use Rattle.html_flow_convert.specs.declared.convert.{ConversionLevel.{ConversionLevel}, ConversionLevel.TheVariants.{Block, Inline}}
+use Rattle.typst_html_run.specs.{Answers.{Answer, answer_if}, FragmentAnswers.{fragment_input_answer}}
 use Rattle.typst_html_json.specs.declared.fault.InputPlace.TheVariants.{Unknown}
 use Rattle.typst_html_ffi.specs.CallReplies.{limit_of}
 

@@ -1,6 +1,5 @@
 -- Texts in pieces.
-use Rattle.std.specs.Prelude.{ℕ, List, [], ◌∷◌, ◌++◌, String, string_bytes}
-use Rattle.std.specs.declared.alloc.Global.{Global}
+use Rattle.std.specs.{Prelude.{ℕ, List, [], ◌∷◌, ◌++◌, String, string_bytes}, declared.alloc.Global.{Global}}
 use Rattle.typst_html_ffi.specs.declared.pieces.LongText.{LongText}
 
 -- the bytes of all pieces, in order

@@ -2,11 +2,8 @@
 -- JSON:
 --     [{"rule":t,"why":t,"keeps":n,"path":[n,..],"offset":n,"line":n,"column":n},..]
 use Rattle.std.specs.Prelude.{ℕ, List, [], ◌∷◌, codes}
-use Rattle.serde_json.specs.Data.{Data, string, array, object, member}
-use Rattle.serde_json.specs.View.{items_of}
-use Rattle.html_page_nesting.specs.Misnested.{Finding}
-use Rattle.html_page_nesting.specs.MisnestingWords.{rule_words}
-use Rattle.html_page_nesting.specs.declared.misnesting.Misnesting.{Misnesting}
+use Rattle.serde_json.specs.{Data.{Data, string, array, object, member}, View.{items_of}}
+use Rattle.html_page_nesting.specs.{Misnested.{Finding}, MisnestingWords.{rule_words}, declared.misnesting.Misnesting.{Misnesting}}
 use Rattle.html_page_nesting.specs.declared.misnesting.Misnesting.TheVariants as why
 use Rattle.html_page_read.specs.PagePlaces.{place_at}
 use Rattle.html_text.specs.declared.place.Place.{Place}

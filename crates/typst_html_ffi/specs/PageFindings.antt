@@ -3,13 +3,10 @@
 --     "misnested":[{"rule":t,"why":t,..},..]}
 use Rattle.std.specs.Prelude.{ℕ, List, codes}
 use Rattle.serde_json.specs.Data.{Data, object, member, no_members}
-use Rattle.html_page_findings.specs.Fragments.{dead_fragments}
-use Rattle.html_page_findings.specs.RepeatedIds.{repeated_ids}
+use Rattle.html_page_findings.specs.{Fragments.{dead_fragments}, RepeatedIds.{repeated_ids}}
 use Rattle.html_page_nesting.specs.Misnested.{misnested_nodes}
 use Rattle.html_dom_tree.specs.Tree.{ElementView}
-use Rattle.typst_html_ffi.specs.FindingLists.{element_place, findings}
-use Rattle.typst_html_ffi.specs.MisnestedNodes.{misnested_data}
-use Rattle.typst_html_ffi.specs.PageReports.{Report, report_by}
+use Rattle.typst_html_ffi.specs.{FindingLists.{element_place, findings}, MisnestedNodes.{misnested_data}, PageReports.{Report, report_by}}
 
 -- the dead fragments, the repeated ids and the misnested nodes of a page with that text and that
 -- element

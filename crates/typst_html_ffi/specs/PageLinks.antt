@@ -3,11 +3,9 @@
 --     {"ids":[{"id":t,..},..],"names":[{"name":t,..},..],"links":[{"href":t,..},..]}
 use Rattle.std.specs.Prelude.{ℕ, List, codes}
 use Rattle.serde_json.specs.Data.{Data, object, member, no_members}
-use Rattle.html_page_findings.specs.PlacedTexts.{TextKind, document_placed}
-use Rattle.html_page_findings.specs.WantedTexts.{hrefs, linked_ids, linked_names}
+use Rattle.html_page_findings.specs.{PlacedTexts.{TextKind, document_placed}, WantedTexts.{hrefs, linked_ids, linked_names}}
 use Rattle.html_dom_tree.specs.Tree.{ElementView}
-use Rattle.typst_html_ffi.specs.FindingLists.{element_place, findings}
-use Rattle.typst_html_ffi.specs.PageReports.{Report, report_by}
+use Rattle.typst_html_ffi.specs.{FindingLists.{element_place, findings}, PageReports.{Report, report_by}}
 
 -- the list of the texts of that kind in a page, in document order, each as the member of that name
 abbrev pub listed : (text : List ℕ) → ElementView → (name : List ℕ) → TextKind → Data

@@ -1,18 +1,12 @@
 -- What a call reports of a page, and its reply.
-use Rattle.std.specs.Prelude.{◌≡◌, ℕ, List, chars, if◌then◌else◌, Option, Some, None, Result, Ok, Err}
-use Rattle.std.specs.Str.{is_utf8}
+use Rattle.std.specs.{Prelude.{◌≡◌, ℕ, List, chars, if◌then◌else◌, Option, Some, None, Result, Ok, Err}, Str.{is_utf8}}
 use Rattle.std.specs.Str.Lossy.{utf8_valid_len}
-use Rattle.serde_json.specs.Data.{Data}
-use Rattle.serde_json.specs.Written.{compact_text}
+use Rattle.serde_json.specs.{Data.{Data}, Written.{compact_text}}
 use Rattle.html_dom_tree.specs.Tree.{ElementView}
-use Rattle.html_page_read.specs.PageAnswers.{valid_text}
-use Rattle.html_page_read.specs.PagePlaces.{place_at}
-use Rattle.html_page_read.specs.PageReading.{page_read}
-use Rattle.html_page_stack.specs.PageRefusals.{refusal_number}
-use Rattle.html_page_stack.specs.Pages.{Notes, Reads}
+use Rattle.html_page_read.specs.{PageAnswers.{valid_text}, PagePlaces.{place_at}, PageReading.{page_read}}
+use Rattle.html_page_stack.specs.{PageRefusals.{refusal_number}, Pages.{Notes, Reads}}
 use Rattle.html_text.specs.declared.place.Place.{Place}
-use Rattle.typst_html_ffi.specs.CallReplies.{buffer_with, page_limit_of, text_reply, without_text}
-use Rattle.typst_html_ffi.specs.declared.reply.Reply.{Reply}
+use Rattle.typst_html_ffi.specs.{CallReplies.{buffer_with, page_limit_of, text_reply, without_text}, declared.reply.Reply.{Reply}}
 
 -- the reply of a call that has no text because of a fault at that place of a page
 abbrev pub placed : (status n : ℕ) → Place → Reply

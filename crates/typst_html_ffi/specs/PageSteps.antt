@@ -1,30 +1,17 @@
 -- The results of the steps that make the report on a page.
-use Rattle.std.specs.Prelude.{◌≡◌, ℕ, List, ◌++◌, Result, Err, Ok, MatchResult, String, string_bytes, Vec}
-use Rattle.std.specs.declared.alloc.Global.{Global}
-use Rattle.serde_json.specs.Data.{Data}
-use Rattle.serde_json.specs.View.{items_of}
-use Rattle.serde_json.specs.Written.{items_text}
+use Rattle.std.specs.{Prelude.{◌≡◌, ℕ, List, ◌++◌, Result, Err, Ok, MatchResult, String, string_bytes, Vec}, declared.alloc.Global.{Global}}
+use Rattle.serde_json.specs.{Data.{Data}, View.{items_of}, Written.{items_text}}
 use Rattle.html_page_findings.specs.PlacedTexts.{Placed}
 use Rattle.html_page_nesting.specs.Misnested.{Finding}
-use Rattle.html_dom_tree.specs.Tree.{ElementView}
-use Rattle.html_dom_tree.specs.Views.{element_view}
-use Rattle.html_page_read.specs.PlaceViews.{text_of}
-use Rattle.html_page_read.specs.declared.fault.PageFault.{PageFault}
+use Rattle.html_dom_tree.specs.{Tree.{ElementView}, Views.{element_view}}
+use Rattle.html_page_read.specs.{PlaceViews.{text_of}, declared.fault.PageFault.{PageFault}}
 use Rattle.html_page_read.specs.declared.fault.PageFault.TheVariants.{OutOfMemory, NotText, Refused}
 use Rattle.html_page_stack.specs.PageRefusals.{refusal_number}
 use Rattle.html_text.specs.declared.place.Place.{Place}
-use Rattle.typst_html_ffi.specs.CallReplies.{without_text}
-use Rattle.typst_html_ffi.specs.FindingLists.{element_place, findings_behind}
-use Rattle.typst_html_ffi.specs.MisnestedNodes.{misnested_behind}
-use Rattle.typst_html_ffi.specs.PageFindings.{page_findings}
-use Rattle.typst_html_ffi.specs.PageLinks.{page_links}
-use Rattle.typst_html_ffi.specs.PageReports.{Report, placed}
-use Rattle.typst_html_ffi.specs.LongTexts.{pieces_bytes, text_bytes}
-use Rattle.typst_html_ffi.specs.declared.lists.FindingList.{FindingList}
-use Rattle.typst_html_ffi.specs.declared.misnested.NodeList.{NodeList}
-use Rattle.typst_html_ffi.specs.declared.page.Page.{Page}
-use Rattle.typst_html_ffi.specs.declared.reply.Reply.{Reply}
-use Rattle.typst_html_ffi.specs.declared.report.Asked.{Asked}
+use Rattle.typst_html_ffi.specs.{CallReplies.{without_text}, FindingLists.{element_place, findings_behind}}
+use Rattle.typst_html_ffi.specs.{LongTexts.{pieces_bytes, text_bytes}, MisnestedNodes.{misnested_behind}, PageFindings.{page_findings}}
+use Rattle.typst_html_ffi.specs.{PageLinks.{page_links}, PageReports.{Report, placed}, declared.lists.FindingList.{FindingList}}
+use Rattle.typst_html_ffi.specs.declared.{misnested.NodeList.{NodeList}, page.Page.{Page}, reply.Reply.{Reply}, report.Asked.{Asked}}
 use Rattle.typst_html_ffi.specs.declared.report.Asked.TheVariants as asked
 
 -- the place of the element at a path

@@ -2,8 +2,7 @@
 
 ghost use Rattle.std.specs.Prelude.{◌≡◌, string_bytes, IfOk};
 ghost use Rattle.html_anchors.specs.DeadLinks.{dead_link_view, dead_links_view};
-ghost use Rattle.serde_json.specs.View.{view};
-ghost use Rattle.serde_json.specs.Written.{compact_text};
+ghost use Rattle.serde_json.specs.{View.{view}, Written.{compact_text}};
 ghost use Rattle.typst_html_ffi.specs.DeadLinks.{dead_link_data, dead_links_data};
 
 use html_anchors::DeadLink;

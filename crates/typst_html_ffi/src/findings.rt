@@ -4,8 +4,7 @@ ghost use Rattle.std.specs.Prelude.{◌≡◌, IfOk};
 ghost use Rattle.serde_json.specs.Written.{compact_text};
 ghost use Rattle.html_dom_tree.specs.Views.{element_view};
 ghost use Rattle.html_page_read.specs.PlaceViews.{text_of};
-ghost use Rattle.typst_html_ffi.specs.PageFindings.{page_findings};
-ghost use Rattle.typst_html_ffi.specs.LongTexts.{pieces_bytes};
+ghost use Rattle.typst_html_ffi.specs.{LongTexts.{pieces_bytes}, PageFindings.{page_findings}};
 
 use crate::lists::{begun, ended, push_key};
 use crate::misnested;

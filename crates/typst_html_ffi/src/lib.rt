@@ -8,15 +8,10 @@
 
 ghost use Rattle.std.specs.Prelude.{◌≡◌, IfOk};
 ghost use Rattle.html_anchors.specs.DeadLinks.{dead_links_view};
-ghost use Rattle.typst_html_run.specs.DocumentAnswers.{text_given};
-ghost use Rattle.typst_html_run.specs.Replies.{GivesAnswer};
+ghost use Rattle.typst_html_run.specs.{DocumentAnswers.{text_given}, Replies.{GivesAnswer}};
 ghost use Rattle.typst_html_ffi.specs.CallReplies.{Replies, RepliesWith, call_dead_links, document_call_answer, write_answer};
-ghost use Rattle.typst_html_ffi.specs.DeadLinks.{dead_links_answer};
-ghost use Rattle.typst_html_ffi.specs.Fragments.{fragment_call_answer};
-ghost use Rattle.typst_html_ffi.specs.PageFindings.{check_report};
-ghost use Rattle.typst_html_ffi.specs.PageLinks.{links_report};
-ghost use Rattle.typst_html_ffi.specs.PageReports.{Reports};
-ghost use Rattle.typst_html_ffi.specs.Unused.{unused_call_answer};
+ghost use Rattle.typst_html_ffi.specs.{DeadLinks.{dead_links_answer}, Fragments.{fragment_call_answer}, PageFindings.{check_report}};
+ghost use Rattle.typst_html_ffi.specs.{PageLinks.{links_report}, PageReports.{Reports}, Unused.{unused_call_answer}};
 
 mod dead_links;
 mod findings;

@@ -1,8 +1,7 @@
 //! Lists of the findings in a page, as JSON.
 
 ghost use Rattle.std.specs.Prelude.{◌≡◌, ◌≤◌, true, ℕ, List, [], ◌++◌, drop, length, codes, decimal, string_bytes, IfOk, OnOk};
-ghost use Rattle.serde_json.specs.Data.{number, string, unsigned};
-ghost use Rattle.serde_json.specs.Written.{comma_if, compact_text, members_text};
+ghost use Rattle.serde_json.specs.{Data.{number, string, unsigned}, Written.{comma_if, compact_text, members_text}};
 ghost use Rattle.html_page_findings.specs.PlacedTexts.{Placed};
 ghost use Rattle.typst_html_ffi.specs.FindingLists.{finding_data, findings, kept_count, path_data, where_behind, where_members};
 ghost use Rattle.typst_html_ffi.specs.PageSteps.{place_in, text_with};

@@ -4,9 +4,8 @@ ghost use Rattle.std.specs.Prelude.{◌≡◌, List, ℕ, [], ◌++◌, string_b
 ghost use Rattle.serde_json.specs.Written.{compact_text};
 ghost use Rattle.html_page_nesting.specs.Misnested.{Finding};
 ghost use Rattle.html_page_read.specs.PlaceViews.{text_of};
-ghost use Rattle.typst_html_ffi.specs.MisnestedNodes.{misnested_data, node_data, rule_name};
+ghost use Rattle.typst_html_ffi.specs.{LongTexts.{text_bytes}, MisnestedNodes.{misnested_data, node_data, rule_name}};
 ghost use Rattle.typst_html_ffi.specs.PageSteps.{text_with_nodes};
-ghost use Rattle.typst_html_ffi.specs.LongTexts.{text_bytes};
 
 use crate::lists::{push_comma_if, push_key, push_string, push_where};
 use crate::pieces::LongText;

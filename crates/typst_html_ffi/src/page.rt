@@ -2,8 +2,7 @@
 
 ghost use Rattle.std.specs.Prelude.{◌≡◌};
 ghost use Rattle.html_dom_tree.specs.Views.{element_view};
-ghost use Rattle.typst_html_ffi.specs.FindingLists.{offset_at};
-ghost use Rattle.typst_html_ffi.specs.PageSteps.{place_in};
+ghost use Rattle.typst_html_ffi.specs.{FindingLists.{offset_at}, PageSteps.{place_in}};
 
 use html_dom_tree::HtmlElement;
 use html_page_findings::element_at;

@@ -1,15 +1,10 @@
 //! Replies, and texts in the caller's buffer.
 
 ghost use Rattle.std.specs.Prelude.{◌≡◌, List, IfOk, Ok};
-ghost use Rattle.html_anchors.specs.DeadLinks.{dead_links_view};
-ghost use Rattle.typst_html_run.specs.Answers.{Answer};
-ghost use Rattle.typst_html_run.specs.DocumentAnswers.{text_given};
-ghost use Rattle.typst_html_run.specs.Replies.{GivesAnswer};
-ghost use Rattle.html_anchors.specs.Links.{DeadLinkView};
-ghost use Rattle.typst_html_ffi.specs.CallReplies.{Replies, bad_reply, fault_reply, text_reply, buffer_with, without_text};
-ghost use Rattle.typst_html_ffi.specs.CallReplies.{RepliesWith, with_dead_links};
-ghost use Rattle.typst_html_ffi.specs.PageReports.{Report, Reports, placed};
-ghost use Rattle.typst_html_ffi.specs.LongTexts.{pieces_bytes};
+ghost use Rattle.html_anchors.specs.{DeadLinks.{dead_links_view}, Links.{DeadLinkView}};
+ghost use Rattle.typst_html_run.specs.{Answers.{Answer}, DocumentAnswers.{text_given}, Replies.{GivesAnswer}};
+ghost use Rattle.typst_html_ffi.specs.CallReplies.{Replies, bad_reply, fault_reply, text_reply, buffer_with, without_text, RepliesWith, with_dead_links};
+ghost use Rattle.typst_html_ffi.specs.{LongTexts.{pieces_bytes}, PageReports.{Report, Reports, placed}};
 
 use crate::pieces::{copy_pieces, length_of};
 use html_anchors::DeadLink;

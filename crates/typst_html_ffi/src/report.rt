@@ -4,10 +4,9 @@ ghost use Rattle.std.specs.Prelude.{◌≡◌, ◌≤◌, IfOk};
 ghost use Rattle.serde_json.specs.Written.{compact_text};
 ghost use Rattle.html_dom_tree.specs.Views.{element_view};
 ghost use Rattle.html_page_read.specs.PlaceViews.{text_of};
-ghost use Rattle.typst_html_ffi.specs.PageLinks.{page_links};
-ghost use Rattle.typst_html_ffi.specs.PageSteps.{GivesReport, asked_data, unread_reply};
+ghost use Rattle.typst_html_ffi.specs.{LongTexts.{pieces_bytes}, PageLinks.{page_links}};
 ghost use Rattle.typst_html_ffi.specs.PageReports.{Report, Reports, page_report, report_by};
-ghost use Rattle.typst_html_ffi.specs.LongTexts.{pieces_bytes};
+ghost use Rattle.typst_html_ffi.specs.PageSteps.{GivesReport, asked_data, unread_reply};
 
 use crate::findings::findings_text;
 use crate::links::links_text;

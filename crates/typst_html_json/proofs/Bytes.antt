@@ -1,9 +1,7 @@
 -- The text of a value is UTF-8.
-use Rattle.std.proofs.Common.{◌≡◌, ℕ, List, None, Some, Bool, true, false, refl}
+use Rattle.std.proofs.{Common.{◌≡◌, ℕ, List, None, Some, Bool, true, false, refl}, lemmas.Str.{IsUtf8-from_is_utf8, is_utf8-from_IsUtf8}}
 use Rattle.std.specs.Str.{is_utf8, IsUtf8}
-use Rattle.std.proofs.lemmas.Str.{IsUtf8-from_is_utf8, is_utf8-from_IsUtf8}
-use Rattle.serde_json.specs.Data.{Data}
-use Rattle.serde_json.specs.Read.{read}
+use Rattle.serde_json.specs.{Data.{Data}, Read.{read}}
 use Rattle.typst_html_json.specs.Json.{json_of}
 
 pub json_of-value : (bytes : List ℕ) (d : Data) → IsUtf8 bytes → read bytes ≡ Some d

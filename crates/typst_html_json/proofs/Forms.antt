@@ -1,10 +1,8 @@
 -- The forms of a value, by the length of its list.
 use Rattle.std.proofs.Common.{◌≡◌, ◌≢◌, ◌≤◌, List, [], ◌∷◌, length, get_or, drop, Some, None, Err, refl, arith}
-use Rattle.serde_json.specs.declared.value.Value.{Value}
-use Rattle.serde_json.specs.View.{view, items_view}
+use Rattle.serde_json.specs.{View.{view, items_view}, declared.value.Value.{Value}}
 use Rattle.typst_html_json.specs.Fields.{text_at, pairs_at, pair_form, text_form, no_fields, plain_start_form, start_form, end_form, element_from}
-use Rattle.typst_html_json.specs.Marks.{Mark}
-use Rattle.typst_html_json.specs.Spelled.{element_form, element_made, list_at}
+use Rattle.typst_html_json.specs.{Marks.{Mark}, Spelled.{element_form, element_made, list_at}}
 use Rattle.typst_html_json.specs.declared.input_forms.Forms.TheVariants.{Document}
 
 pub text_form-other : (vs : List Value) → length vs ≢ 2

@@ -1,26 +1,18 @@
 -- The forms of an item, by the length of its list.
 use Rattle.std.proofs.Common.{◌≡◌, ◌≢◌, List, [], ◌∷◌, length, get_or, drop, Some, Err, refl, rules, arith, String, Vec}
 use Rattle.std.specs.declared.alloc.Global.{Global}
-use Rattle.serde_json.specs.declared.value.Value.{Value}
-use Rattle.serde_json.specs.View.{view, items_view}
+use Rattle.serde_json.specs.{View.{view, items_view}, declared.value.Value.{Value}}
 use Rattle.html_flow_convert.specs.Items as flow
 use Rattle.html_flow_convert.specs.Views as flow_views
 use Rattle.html_flow_convert.specs.declared.item.HtmlElem.{HtmlElem, HtmlElem-F, roll-HtmlElem}
 use Rattle.html_flow_convert.specs.declared.item.Item as Item
 use Rattle.html_flow_convert.specs.declared.item.Item.{Item, the_lemmas}
 use Rattle.html_flow_convert.specs.declared.item.Pair as pairs
-use Rattle.html_flow_convert.specs.declared.item.Pair.{Pair}
-use Rattle.html_flow_convert.specs.declared.item.Role.{Role}
-use Rattle.html_dom_tree.specs.FrameViews.{tag_view}
-use Rattle.html_dom_tree.specs.Views.{text_view}
-use Rattle.html_dom_tree.specs.declared.introspection.Tag.{Tag}
-use Rattle.html_dom_tree.specs.declared.span.Span.{Span}
-use Rattle.typst_html_json.specs.Fields.{text_at, pairs_at, element_from}
-use Rattle.typst_html_json.specs.LeftForms.{from_part}
-use Rattle.typst_html_json.specs.Marks.{Mark}
+use Rattle.html_flow_convert.specs.declared.item.{Pair.{Pair}, Role.{Role}}
+use Rattle.html_dom_tree.specs.{FrameViews.{tag_view}, Views.{text_view}, declared.introspection.Tag.{Tag}, declared.span.Span.{Span}}
+use Rattle.typst_html_json.specs.{Fields.{text_at, pairs_at, element_from}, LeftForms.{from_part}, Marks.{Mark}}
 use Rattle.typst_html_json.specs.SpelledItems.{element_made, element_form, body_form, role_form, role_from, role_at, css_at, spelled_part, list_at}
-use Rattle.typst_html_json.specs.declared.input_forms.Forms.{Forms}
-use Rattle.typst_html_json.specs.declared.input_forms.Forms.TheVariants.{Document}
+use Rattle.typst_html_json.specs.declared.input_forms.{Forms.{Forms}, Forms.TheVariants.{Document}}
 
 -- in no form does an element have another number of parts
 pub element_form-other : (forms : Forms) (vs : List Value) (m : Mark) → length vs ≢ 4

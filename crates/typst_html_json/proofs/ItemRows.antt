@@ -1,22 +1,14 @@
 -- Items in a row, each with its role, and the items at the root.
-use Rattle.std.proofs.Common.{◌≡◌, ℕ, List, [], ◌∷◌, ◌++◌, Some, None, refl, ap}
-use Rattle.std.specs.Prelude.{IsOkAnd}
+use Rattle.std.{proofs.Common.{◌≡◌, ℕ, List, [], ◌∷◌, ◌++◌, Some, None, refl, ap}, specs.Prelude.{IsOkAnd}}
 use Rattle.serde_json.specs.Data.{Data}
-use Rattle.html_dom_tree.specs.Tree.{TextPair}
-use Rattle.html_dom_tree.specs.declared.span.Span.{Span}
+use Rattle.html_dom_tree.specs.{Tree.{TextPair}, declared.span.Span.{Span}}
 use Rattle.html_flow_convert.specs.Items as flow
-use Rattle.html_flow_convert.specs.Items.{ItemsView}
-use Rattle.html_flow_convert.specs.Views.{items_of}
-use Rattle.typst_html_json.proofs.Readings.{IsOwnFirst, refused_whole}
-use Rattle.typst_html_json.proofs.Rows.{Row, joined}
-use Rattle.typst_html_json.specs.Marks.{at_start}
-use Rattle.typst_html_json.specs.NameRefusals.{item_refusals, items_refusals}
-use Rattle.typst_html_json.specs.Reading.{IsRead, mark, part_refusals}
+use Rattle.html_flow_convert.specs.{Items.{ItemsView}, Views.{items_of}}
+use Rattle.typst_html_json.proofs.{Readings.{IsOwnFirst, refused_whole}, Rows.{Row, joined}}
+use Rattle.typst_html_json.specs.{Marks.{at_start}, NameRefusals.{item_refusals, items_refusals}, Reading.{IsRead, mark, part_refusals}}
 use Rattle.typst_html_json.specs.Refusals.{IsFirst}
 use Rattle.typst_html_json.specs.SpelledItems.{Part, element_made, with_part, spelled_part, spelled_list, list_at, items_at}
-use Rattle.typst_html_json.specs.declared.fault.Fault.TheVariants.{Refused}
-use Rattle.typst_html_json.specs.declared.input_forms.Forms.{Forms}
-use Rattle.typst_html_json.specs.declared.reader.Reader.{Reader}
+use Rattle.typst_html_json.specs.declared.{fault.Fault.TheVariants.{Refused}, input_forms.Forms.{Forms}, reader.Reader.{Reader}}
 
 pub none_clean : items_refusals flow.no_items ≡ []
 unfolding items_refusals

@@ -1,11 +1,8 @@
 -- One byte of a text that goes on, or does not.
 use Rattle.std.proofs.Common.{◌≡◌, ℕ, suc, ◌-◌, ◌<◌, ◌≤◌, List, [], ◌∷◌, ◌++◌, length, take, Some, None, ap, ◌∙◌}
-use Rattle.std.specs.Prelude.{if◌then◌else◌}
-use Rattle.std.proofs.lemmas.Bool.{le-ltb, lt-ltb}
+use Rattle.std.{proofs.lemmas.Bool.{le-ltb, lt-ltb}, specs.Prelude.{if◌then◌else◌}}
 use Rattle.typst_html_json.specs.JsonPlaces.{begun, behind_byte, first_stage, innermost_of, max_depth, move_at}
-use Rattle.typst_html_json.specs.declared.json_stage.Bracket.{Bracket}
-use Rattle.typst_html_json.specs.declared.json_stage.Move.TheVariants.{GoOn, Open, Close}
-use Rattle.typst_html_json.specs.declared.json_stage.Stage.{Stage}
+use Rattle.typst_html_json.specs.declared.json_stage.{Bracket.{Bracket}, Stage.{Stage}, Move.TheVariants.{GoOn, Open, Close}}
 use Rattle.typst_html_json.specs.declared.json_stage.Stage.TheVariants.{Behind}
 
 module _ (here : Stage) (brackets : List Bracket) (b : ℕ) (text : List ℕ) where

@@ -1,14 +1,10 @@
 -- The forms of a list, by its kind.
 use Rattle.std.proofs.Common.{◌≡◌, List, [], ◌∷◌, drop, refl}
-use Rattle.serde_json.specs.declared.value.Value.{Value}
-use Rattle.serde_json.specs.View.{items_view}
-use Rattle.typst_html_json.specs.FormKinds.{list_kind}
-use Rattle.typst_html_json.specs.LeftForms.{from_part}
-use Rattle.typst_html_json.specs.Marks.{Mark}
+use Rattle.serde_json.specs.{View.{items_view}, declared.value.Value.{Value}}
+use Rattle.typst_html_json.specs.{FormKinds.{list_kind}, LeftForms.{from_part}, Marks.{Mark}}
 use Rattle.typst_html_json.specs.Spelled as tree
 use Rattle.typst_html_json.specs.SpelledItems as flow
-use Rattle.typst_html_json.specs.declared.input_forms.Forms.{Forms}
-use Rattle.typst_html_json.specs.declared.input_forms.Forms.TheVariants.{Program}
+use Rattle.typst_html_json.specs.declared.input_forms.{Forms.{Forms}, Forms.TheVariants.{Program}}
 
 pub part_form-kind : (forms : Forms) (vs : List Value) (m : Mark)
     → flow.part_form forms (items_view vs) m

@@ -1,36 +1,22 @@
 -- Nodes in a row, and the element at the root.
 use Rattle.std.proofs.Common.{◌≡◌, ℕ, ◌+◌, true, false, List, [], ◌∷◌, ◌++◌, map, Some, None, Result, Ok, Err, refl, sym, ap, ◌∙◌, slice_index_or, arith, append_assoc, append-nil}
-use Rattle.std.specs.Prelude.{IsOkAnd}
-use Rattle.serde_json.specs.Data.{Data}
-use Rattle.serde_json.specs.View.{view, items_view}
-use Rattle.serde_json.specs.declared.value.Value.{Value}
-use Rattle.std.proofs.lemmas.List.{length-map}
-use Rattle.html_dom_flat.proofs.Closings.{closed_element}
-use Rattle.html_dom_flat.specs.Builders.{builder_view, built_count}
-use Rattle.html_dom_flat.specs.ClosedElements.{closed_at}
-use Rattle.html_dom_flat.specs.Flat.{flat_element, node_flat, nodes_count, nodes_flat}
-use Rattle.html_dom_flat.specs.FlatViews.{flat_node_view}
-use Rattle.html_dom_flat.specs.FlatTrees.{tree_nodes}
-use Rattle.html_dom_flat.specs.declared.builder.Builder.{Builder}
-use Rattle.html_dom_flat.specs.declared.flat_tree.FlatTree.{FlatTree}
-use Rattle.html_dom_tree.specs.Tree.{Head, NodeView, tag_node, text_node, element_node, frame_node, NodesView, none, node}
+use Rattle.std.{proofs.lemmas.List.{length-map}, specs.Prelude.{IsOkAnd}}
+use Rattle.serde_json.specs.{Data.{Data}, View.{view, items_view}, declared.value.Value.{Value}}
+use Rattle.html_dom_flat.{proofs.Closings.{closed_element}, specs.Builders.{builder_view, built_count}, specs.ClosedElements.{closed_at}}
+use Rattle.html_dom_flat.specs.{Flat.{flat_element, node_flat, nodes_count, nodes_flat}, FlatTrees.{tree_nodes}, FlatViews.{flat_node_view}}
+use Rattle.html_dom_flat.specs.declared.{builder.Builder.{Builder}, flat_tree.FlatTree.{FlatTree}}
 use Rattle.html_dom_tree.proofs.Basics.{node_view-Element}
-use Rattle.html_dom_tree.specs.Views.{node_view, nodes_view, element_view}
-use Rattle.html_dom_tree.specs.declared.node.HtmlElement.{HtmlElement}
+use Rattle.html_dom_tree.specs.Tree.{Head, NodeView, tag_node, text_node, element_node, frame_node, NodesView, none, node}
+use Rattle.html_dom_tree.specs.{Views.{node_view, nodes_view, element_view}, declared.node.HtmlElement.{HtmlElement}}
 use Rattle.html_dom_tree.specs.declared.node.HtmlNode as HtmlNode
-use Rattle.html_dom_tree.specs.declared.node.HtmlNode.{HtmlNode}
-use Rattle.html_dom_tree.specs.declared.span.Span.{Span}
+use Rattle.html_dom_tree.specs.declared.{node.HtmlNode.{HtmlNode}, span.Span.{Span}}
 use Rattle.typst_html_json.proofs.Readings.{IsOwnFirst, first_of_none, read_from, refused_whole}
 use Rattle.typst_html_json.proofs.Rows.{Row, joined, joined-more, IsPartRead, none_read, one_read, all_read}
-use Rattle.typst_html_json.specs.LeftForms.{Left}
-use Rattle.typst_html_json.specs.Marks.{Mark, at_start}
+use Rattle.typst_html_json.specs.{LeftForms.{Left}, Marks.{Mark, at_start}}
 use Rattle.typst_html_json.specs.NameRefusals.{Refusal, name_refusals, all_name_refusals, element_refusals}
-use Rattle.typst_html_json.specs.Reading.{first_of, mark, IsRead, IsAdded, AreAdded, AddsNode}
-use Rattle.typst_html_json.specs.Refusals.{IsFirst}
+use Rattle.typst_html_json.specs.{Reading.{first_of, mark, IsRead, IsAdded, AreAdded, AddsNode}, Refusals.{IsFirst}}
 use Rattle.typst_html_json.specs.Spelled.{begins_with_element, IsFirstElement, element_made, spelled_node, spelled_all, element_of, spelled_element}
-use Rattle.typst_html_json.specs.Spelling.{IsTreeOf}
-use Rattle.typst_html_json.specs.declared.fault.Fault.{Fault}
-use Rattle.typst_html_json.specs.declared.fault.Fault.TheVariants.{Refused}
+use Rattle.typst_html_json.specs.{Spelling.{IsTreeOf}, declared.fault.Fault.{Fault}, declared.fault.Fault.TheVariants.{Refused}}
 use Rattle.typst_html_json.specs.declared.reader.Reader.{Reader}
 
 pub none_clean : all_name_refusals none ≡ []

@@ -3,9 +3,7 @@ use Rattle.std.proofs.Common.{◌≡◌, ℕ, List, [], ◌∷◌, Option, Some,
 use Rattle.html_names_core.specs.Names.{attr_fault}
 use Rattle.html_dom_tree.specs.Tree.{TextPair}
 use Rattle.typst_html_json.proofs.Rows.{Row, joined}
-use Rattle.typst_html_json.specs.Fields.{pair_at, pairs_of, row_from}
-use Rattle.typst_html_json.specs.Marks.{Mark}
-use Rattle.typst_html_json.specs.NameRefusals.{refusals, pairs_refusals}
+use Rattle.typst_html_json.specs.{Fields.{pair_at, pairs_of, row_from}, Marks.{Mark}, NameRefusals.{refusals, pairs_refusals}}
 use Rattle.typst_html_json.specs.Reading.{marked}
 
 pub pairs_step : (m : Mark) (pair : Option TextPair) (pairs : Option (List TextPair))

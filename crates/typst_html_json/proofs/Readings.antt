@@ -2,22 +2,14 @@
 use Rattle.std.proofs.Common.{◌≡◌, ◌≢◌, ℕ, List, [], ◌∷◌, ◌++◌, Option, Some, None, option_map, Result, Ok, Err, option_to_list, refl, sym, ap, ◌∙◌, subst}
 use Rattle.html_names_core.proofs.Faults.{some_first}
 use Rattle.html_names_core.specs.NameFaults as name
-use Rattle.html_names_core.specs.Names.{tag_fault}
-use Rattle.html_names_core.specs.declared.fault.NameFault.{NameFault}
+use Rattle.html_names_core.specs.{Names.{tag_fault}, declared.fault.NameFault.{NameFault}}
 use Rattle.html_names_core.specs.declared.fault.NameFault.TheVariants as name_fault
-use Rattle.html_dom_tree.specs.Tree.{TextPair}
-use Rattle.html_dom_tree.specs.declared.span.Span.{Span}
-use Rattle.typst_html_json.specs.Fields.{element_from}
-use Rattle.typst_html_json.specs.LeftForms.{Left, mapped, and_then, IsLeft}
-use Rattle.typst_html_json.specs.Marks.{Mark}
+use Rattle.html_dom_tree.specs.{Tree.{TextPair}, declared.span.Span.{Span}}
+use Rattle.typst_html_json.specs.{Fields.{element_from}, LeftForms.{Left, mapped, and_then, IsLeft}, Marks.{Mark}}
 use Rattle.typst_html_json.specs.NameRefusals.{Refusal, refusals, pairs_refusals, own_refusals}
-use Rattle.typst_html_json.specs.Reading.{first_of, mark, IsWrong, IsRead, Reads, marked}
-use Rattle.typst_html_json.specs.Refusals.{IsFirst}
-use Rattle.typst_html_json.specs.declared.fault.Fault.{Fault}
-use Rattle.typst_html_json.specs.declared.fault.Fault.TheVariants.{OutOfMemory, BadInput, Refused}
-use Rattle.typst_html_json.specs.declared.fault.InputPlace.{InputPlace}
-use Rattle.typst_html_json.specs.declared.fault.InputPlace.TheVariants.{Unknown, Text, Form}
-use Rattle.typst_html_json.specs.declared.reader.Reader.{Reader}
+use Rattle.typst_html_json.specs.{Reading.{first_of, mark, IsWrong, IsRead, Reads, marked}, Refusals.{IsFirst}}
+use Rattle.typst_html_json.specs.declared.fault.{Fault.{Fault}, InputPlace.{InputPlace}, Fault.TheVariants.{OutOfMemory, BadInput, Refused}}
+use Rattle.typst_html_json.specs.declared.{fault.InputPlace.TheVariants.{Unknown, Text, Form}, reader.Reader.{Reader}}
 
 pub first_of_nil : (o : Option (ℕ × Span)) → first_of o [] ≡ o
 first_of_nil (Some r) = refl

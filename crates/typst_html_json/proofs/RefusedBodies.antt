@@ -1,23 +1,15 @@
 -- What was read of the items, the footnotes and the head of a document.
-use Rattle.std.proofs.Common.{◌≡◌, ℕ, List, ◌++◌, Option, None, Some, Ok, refl, ap, ◌∙◌}
-use Rattle.std.specs.Prelude.{IsOkAnd}
-use Rattle.html_dom_tree.specs.Tree.{NodesView}
-use Rattle.html_dom_tree.specs.declared.span.Span.{Span}
+use Rattle.std.{proofs.Common.{◌≡◌, ℕ, List, ◌++◌, Option, None, Some, Ok, refl, ap, ◌∙◌}, specs.Prelude.{IsOkAnd}}
+use Rattle.html_dom_tree.specs.{Tree.{NodesView}, declared.span.Span.{Span}}
 use Rattle.html_flow_convert.specs.Items.{ItemsView}
 use Rattle.typst_html_json.proofs.Readings.{first_of_more, refused_whole}
-use Rattle.typst_html_json.specs.NameRefusals.{Refusal, items_refusals, all_name_refusals}
-use Rattle.typst_html_json.specs.LeftForms.{Left, from_part}
-use Rattle.typst_html_json.specs.Marks.{at_start}
-use Rattle.typst_html_json.specs.Reading.{IsRead, IsMissing, first_of, mark}
-use Rattle.typst_html_json.specs.Refusals.{IsFirst}
+use Rattle.typst_html_json.specs.{LeftForms.{Left, from_part}, Marks.{at_start}, NameRefusals.{Refusal, items_refusals, all_name_refusals}}
+use Rattle.typst_html_json.specs.{Reading.{IsRead, IsMissing, first_of, mark}, Refusals.{IsFirst}}
 use Rattle.typst_html_json.specs.Spelled as tree
-use Rattle.typst_html_json.specs.SpelledDocuments.{Spelling, DocumentPartsView, spelling_from, names_refusals}
-use Rattle.typst_html_json.specs.SpelledItems.{list_at}
-use Rattle.typst_html_json.specs.Spelling.{IsSpellingFault}
-use Rattle.typst_html_json.specs.declared.fault.Fault.{Fault}
+use Rattle.typst_html_json.specs.{SpelledDocuments.{Spelling, DocumentPartsView, spelling_from, names_refusals}, SpelledItems.{list_at}}
+use Rattle.typst_html_json.specs.{Spelling.{IsSpellingFault}, declared.fault.Fault.{Fault}}
 use Rattle.typst_html_json.specs.declared.fault.Fault.TheVariants.{OutOfMemory, BadInput, Refused}
-use Rattle.typst_html_json.specs.declared.input_forms.Forms.TheVariants.{Document}
-use Rattle.typst_html_json.specs.declared.reader.Reader.{Reader}
+use Rattle.typst_html_json.specs.declared.{input_forms.Forms.TheVariants.{Document}, reader.Reader.{Reader}}
 
 -- the items, the footnotes and the head were read, and a name in them was refused
 pub refused_bodies : (parts : DocumentPartsView) (made others : ItemsView) (nodes : NodesView)

@@ -1,16 +1,9 @@
 -- Values in a row, each of which spells one thing.
 use Rattle.std.proofs.Common.{◌≡◌, ℕ, List, [], ◌∷◌, ◌++◌, map, Ok, Err, refl, ap, ◌∙◌}
-use Rattle.serde_json.specs.Data.{Data, Items, no_items, item}
-use Rattle.serde_json.specs.declared.value.Value.{Value}
-use Rattle.serde_json.specs.View.{view, items_view}
+use Rattle.serde_json.specs.{Data.{Data, Items, no_items, item}, View.{view, items_view}, declared.value.Value.{Value}}
 use Rattle.typst_html_json.proofs.Readings.{wrong_by, read_clean, then_read}
-use Rattle.typst_html_json.specs.Fields.{row_from}
-use Rattle.typst_html_json.specs.LeftForms.{Left}
-use Rattle.typst_html_json.specs.Marks.{Mark}
-use Rattle.typst_html_json.specs.NameRefusals.{Refusal}
-use Rattle.typst_html_json.specs.Reading.{mark, IsWrong, IsRead}
-use Rattle.typst_html_json.specs.declared.fault.Fault.{Fault}
-use Rattle.typst_html_json.specs.declared.reader.Reader.{Reader}
+use Rattle.typst_html_json.specs.{Fields.{row_from}, LeftForms.{Left}, Marks.{Mark}, NameRefusals.{Refusal}}
+use Rattle.typst_html_json.specs.{Reading.{mark, IsWrong, IsRead}, declared.fault.Fault.{Fault}, declared.reader.Reader.{Reader}}
 
 -- how a row is spelled, `add` putting one before the others, and what is refused in it
 pub record Row (A B : Type 0) : Type 0 where

@@ -5,13 +5,9 @@ use Rattle.html_flow_convert.specs.Items.{tag_item}
 use Rattle.html_flow_places.specs.NamedLocations.{location_in}
 use Rattle.html_names_table.specs.NameTables.{with_name}
 use Rattle.typst_html_json.proofs.Readings.{read_clean, read_mapped, wrong_by}
-use Rattle.typst_html_json.specs.Fields.{named_leaf, numbered_leaf}
-use Rattle.typst_html_json.specs.LeftForms.{Left, mapped}
-use Rattle.typst_html_json.specs.Marks.{Mark, are_there}
-use Rattle.typst_html_json.specs.NameRefusals.{Refusal, name_refusals, item_refusals}
-use Rattle.typst_html_json.specs.Reading.{IsBesideNumbers, IsRead, IsWrong, mark}
-use Rattle.typst_html_json.specs.declared.fault.Fault.{Fault}
-use Rattle.typst_html_json.specs.declared.fault.Fault.TheVariants.{OutOfMemory, BadInput, Refused}
+use Rattle.typst_html_json.specs.{Fields.{named_leaf, numbered_leaf}, LeftForms.{Left, mapped}, Marks.{Mark, are_there}}
+use Rattle.typst_html_json.specs.{NameRefusals.{Refusal, name_refusals, item_refusals}, Reading.{IsBesideNumbers, IsRead, IsWrong, mark}}
+use Rattle.typst_html_json.specs.declared.fault.{Fault.{Fault}, Fault.TheVariants.{OutOfMemory, BadInput, Refused}}
 use Rattle.typst_html_json.specs.declared.reader.Reader.{Reader}
 
 abbrev unless : {B : Type 0} → Bool → (n : ℕ) → B → Mark → Left (B × Mark)

@@ -1,15 +1,12 @@
 -- The parts of what a JSON value spells, whether it spells a tree or items: texts, numbers and
 -- attributes, and the fields of texts and of tags.
 use Rattle.std.specs.Prelude.{ℕ, List, [], ◌∷◌, chars, true, Option, Some, None, option_map, option_and_then, Ok, Err, if◌then◌else◌}
-use Rattle.serde_json.specs.Data.{Data, null, Items, no_items, item}
-use Rattle.serde_json.specs.Find.{as_str, as_array, as_number, as_u64}
+use Rattle.serde_json.specs.{Data.{Data, null, Items, no_items, item}, Find.{as_str, as_array, as_number, as_u64}}
 use Rattle.html_dom_tree.specs.Tree.{TextPair, TagView, starts, ends}
 use Rattle.html_names_table.specs.NameTables.{with_name}
 use Rattle.html_flow_places.specs.NamedLocations.{location_in}
-use Rattle.typst_html_json.specs.LeftForms.{Left, mapped, and_then, from_part}
-use Rattle.typst_html_json.specs.Marks.{Mark, are_there}
-use Rattle.typst_html_json.specs.declared.input_forms.Forms.{Forms}
-use Rattle.typst_html_json.specs.declared.input_forms.Forms.TheVariants.{Document}
+use Rattle.typst_html_json.specs.{LeftForms.{Left, mapped, and_then, from_part}, Marks.{Mark, are_there}}
+use Rattle.typst_html_json.specs.declared.input_forms.{Forms.{Forms}, Forms.TheVariants.{Document}}
 
 -- the characters of a text
 abbrev pub text_at : Data → Option (List ℕ)

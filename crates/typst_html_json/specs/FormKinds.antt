@@ -1,11 +1,8 @@
 -- The kinds of the lists that spell nodes and items.
 use Rattle.std.specs.Prelude.{ℕ, List, codes, bytes_eq, Option, Some, None, option_and_then, if◌then◌else◌}
-use Rattle.serde_json.specs.Data.{Items, no_items, item}
-use Rattle.serde_json.specs.Find.{as_str}
+use Rattle.serde_json.specs.{Data.{Items, no_items, item}, Find.{as_str}}
 use Rattle.html_dom_tree.specs.Attributes.{or_else}
-use Rattle.typst_html_json.specs.declared.input_forms.Forms.{Forms}
-use Rattle.typst_html_json.specs.declared.input_forms.Forms.TheVariants.{Program, Document}
-use Rattle.typst_html_json.specs.declared.kind.Kind.{Kind}
+use Rattle.typst_html_json.specs.declared.{input_forms.Forms.{Forms}, input_forms.Forms.TheVariants.{Program, Document}, kind.Kind.{Kind}}
 use Rattle.typst_html_json.specs.declared.kind.Kind.TheVariants.{Text, Element, Block, Box, Start, End, Space, Break, Hole, Place, Link, Role}
 
 -- the kind of that name in the forms of the program

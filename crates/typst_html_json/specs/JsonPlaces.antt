@@ -1,16 +1,12 @@
 -- Where a text that is not JSON is wrong (RFC 8259): at the first byte with which no JSON text
 -- begins as this one does, or at the end, if more could follow. Arrays and objects are nested at
 -- most 127 levels deep, as `serde_json` reads them, and surrogates stand in pairs alone.
-use Rattle.std.specs.Prelude.{ℕ, suc, ◌+◌, ◌-◌, ◌==◌, ◌&&◌, ◌||◌, Bool, true, false, List, [], ◌∷◌, ◌++◌, length, take, nat_le, nat_lt, slice_get, Option, Some, None, option_map, if◌then◌else◌}
 use Rattle.std.specs.Bool.{then_some}
+use Rattle.std.specs.Prelude.{ℕ, suc, ◌+◌, ◌-◌, ◌==◌, ◌&&◌, ◌||◌, Bool, true, false, List, [], ◌∷◌, ◌++◌, length, take, nat_le, nat_lt, slice_get, Option, Some, None, option_map, if◌then◌else◌}
 use Rattle.std.specs.Str.Lossy.{utf8_valid_len}
-use Rattle.typst_html_json.specs.declared.fault.InputPlace.{InputPlace}
-use Rattle.typst_html_json.specs.declared.fault.InputPlace.TheVariants.{Text}
-use Rattle.typst_html_json.specs.declared.json_stage.Bracket.{Bracket}
-use Rattle.typst_html_json.specs.declared.json_stage.Bracket.TheVariants.{Array, Object}
-use Rattle.typst_html_json.specs.declared.json_stage.Move.{Move}
-use Rattle.typst_html_json.specs.declared.json_stage.Move.TheVariants.{GoOn, Open, Close}
-use Rattle.typst_html_json.specs.declared.json_stage.NumberPart.{NumberPart}
+use Rattle.typst_html_json.specs.declared.fault.{InputPlace.{InputPlace}, InputPlace.TheVariants.{Text}}
+use Rattle.typst_html_json.specs.declared.json_stage.{Bracket.{Bracket}, Move.{Move}, NumberPart.{NumberPart}}
+use Rattle.typst_html_json.specs.declared.json_stage.{Bracket.TheVariants.{Array, Object}, Move.TheVariants.{GoOn, Open, Close}}
 use Rattle.typst_html_json.specs.declared.json_stage.NumberPart.TheVariants as part
 use Rattle.typst_html_json.specs.declared.json_stage.Stage.{Stage}
 use Rattle.typst_html_json.specs.declared.json_stage.Stage.TheVariants as stage

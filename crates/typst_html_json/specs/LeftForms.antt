@@ -1,8 +1,7 @@
 -- What a JSON value spells, or the place where it leaves the form: how many lists of nodes or items
 -- are opened up to the first value that does not fit the form.
 use Rattle.std.specs.Prelude.{◌≡◌, ℕ, Option, Some, None, Result, Ok, Err}
-use Rattle.typst_html_json.specs.declared.fault.InputPlace.{InputPlace}
-use Rattle.typst_html_json.specs.declared.fault.InputPlace.TheVariants.{Unknown, Text, Form}
+use Rattle.typst_html_json.specs.declared.fault.{InputPlace.{InputPlace}, InputPlace.TheVariants.{Unknown, Text, Form}}
 
 -- what a value spells, or the place where it leaves the form
 abbrev pub Left : Type 0 → Type 0

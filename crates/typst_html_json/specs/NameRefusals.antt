@@ -1,9 +1,7 @@
 -- The refusals of the names of a tree or of items, in order: for each element those of its tag, of
 -- its attributes, and then of its content.
 use Rattle.std.specs.Prelude.{ℕ, List, [], ◌∷◌, ◌++◌, Option, Some, None}
-use Rattle.html_names_core.specs.NameFaults.{number_of}
-use Rattle.html_names_core.specs.Names.{tag_fault, attr_fault}
-use Rattle.html_names_core.specs.declared.fault.NameFault.{NameFault}
+use Rattle.html_names_core.specs.{NameFaults.{number_of}, Names.{tag_fault, attr_fault}, declared.fault.NameFault.{NameFault}}
 use Rattle.html_dom_tree.specs.Tree.{TextPair, NodeView, element_node, NodesView, none, node, ElementView}
 use Rattle.html_flow_convert.specs.Items as flow
 use Rattle.html_flow_convert.specs.Items.{ItemView, element_item, box_item, block_item, ItemsView, BodyView, absent, present}

@@ -3,36 +3,22 @@
 -- may fail where the part leaves the form.
 use Rattle.std.specs.Prelude.{◌≡◌, ◌≢◌, ℕ, ◌+◌, true, false, List, [], ◌∷◌, ◌++◌, Option, Some, None, Result, Ok, MatchResult, String, Vec}
 use Rattle.std.specs.declared.alloc.Global.{Global}
-use Rattle.serde_json.specs.Data.{Data}
-use Rattle.serde_json.specs.View.{view}
-use Rattle.serde_json.specs.declared.value.Value.{Value}
-use Rattle.html_dom_flat.specs.Builders.{builder_view, built_count}
-use Rattle.html_dom_flat.specs.Flat.{node_count, nodes_count, node_flat, nodes_flat}
+use Rattle.serde_json.specs.{Data.{Data}, View.{view}, declared.value.Value.{Value}}
+use Rattle.html_dom_flat.specs.{Builders.{builder_view, built_count}, Flat.{node_count, nodes_count, node_flat, nodes_flat}}
 use Rattle.html_dom_flat.specs.declared.builder.Builder.{Builder}
 use Rattle.html_names_table.specs.NameTables.{with_name}
-use Rattle.html_names_core.specs.Names.{attr_fault}
-use Rattle.html_names_core.specs.declared.fault.NameFault.{NameFault}
-use Rattle.html_names_core.specs.declared.html_attr.HtmlAttr.{HtmlAttr}
-use Rattle.html_dom_tree.specs.Tree.{TextPair, NodeView, NodesView}
-use Rattle.html_dom_tree.specs.Views.{pair_view, attrs_view, nodes_view}
-use Rattle.html_dom_tree.specs.declared.attrs.HtmlAttrs.{HtmlAttrs}
-use Rattle.html_dom_tree.specs.declared.introspection.Location.{Location}
-use Rattle.html_dom_tree.specs.declared.node.HtmlNode.{HtmlNode}
+use Rattle.html_names_core.specs.{Names.{attr_fault}, declared.fault.NameFault.{NameFault}, declared.html_attr.HtmlAttr.{HtmlAttr}}
+use Rattle.html_dom_tree.specs.{Tree.{TextPair, NodeView, NodesView}, Views.{pair_view, attrs_view, nodes_view}}
+use Rattle.html_dom_tree.specs.declared.{attrs.HtmlAttrs.{HtmlAttrs}, introspection.Location.{Location}, node.HtmlNode.{HtmlNode}}
 use Rattle.html_dom_tree.specs.declared.span.Span.{Span}
 use Rattle.html_flow_convert.specs.Items.{ItemView, ItemsView}
 use Rattle.html_flow_convert.specs.Views as flow
-use Rattle.html_flow_convert.specs.Views.{item_view, items_view}
-use Rattle.html_flow_convert.specs.declared.item.Item.{Item}
-use Rattle.html_flow_convert.specs.declared.item.Pair.{Pair}
+use Rattle.html_flow_convert.specs.{Views.{item_view, items_view}, declared.item.Item.{Item}, declared.item.Pair.{Pair}}
 use Rattle.html_flow_places.specs.NamedLocations.{location_in}
-use Rattle.typst_html_json.specs.LeftForms.{Left, IsLeft, from_part}
-use Rattle.typst_html_json.specs.Marks.{Mark}
+use Rattle.typst_html_json.specs.{LeftForms.{Left, IsLeft, from_part}, Marks.{Mark}}
 use Rattle.typst_html_json.specs.NameRefusals.{Refusal, refusals, pairs_refusals, name_refusals, all_name_refusals, item_refusals, items_refusals}
-use Rattle.typst_html_json.specs.SpelledItems.{Part}
-use Rattle.typst_html_json.specs.declared.fault.Fault.{Fault}
-use Rattle.typst_html_json.specs.declared.fault.Fault.TheVariants.{OutOfMemory, BadInput, Refused}
-use Rattle.typst_html_json.specs.declared.fault.InputPlace.{InputPlace}
-use Rattle.typst_html_json.specs.declared.fault.InputPlace.TheVariants.{Form}
+use Rattle.typst_html_json.specs.{SpelledItems.{Part}, declared.fault.Fault.{Fault}, declared.fault.InputPlace.{InputPlace}}
+use Rattle.typst_html_json.specs.declared.fault.{Fault.TheVariants.{OutOfMemory, BadInput, Refused}, InputPlace.TheVariants.{Form}}
 use Rattle.typst_html_json.specs.declared.reader.Reader.{Reader}
 
 -- the state of a reader, apart from refusals

@@ -2,8 +2,7 @@
 use Rattle.std.specs.Prelude.{◌≡◌, ℕ, ◌==◌, List, ◌∷◌, Result, if◌then◌else◌}
 use Rattle.html_names_core.specs.Endings.{GivesBy}
 use Rattle.html_dom_tree.specs.declared.span.Span.{Span}
-use Rattle.typst_html_json.specs.NameRefusals.{Refusal}
-use Rattle.typst_html_json.specs.declared.fault.Fault.{Fault}
+use Rattle.typst_html_json.specs.{NameRefusals.{Refusal}, declared.fault.Fault.{Fault}}
 use Rattle.typst_html_json.specs.declared.fault.Fault.TheVariants.{OutOfMemory, BadInput, Refused}
 
 -- the fault with that number; 0 is the number of an allocation that failed

@@ -8,11 +8,8 @@ use Rattle.std.specs.Prelude.{◌≡◌, ℕ, Bool, true, false, List, Ok, Err}
 use Rattle.serde_json.specs.Data.{Data, array, Items, no_items, item}
 use Rattle.html_dom_tree.specs.Tree.{TextPair, plain_head, NodeView, tag_node, text_node, element_node, frame_node, NodesView, none, node, ElementView}
 use Rattle.typst_html_json.specs.Fields.{text_at, pairs_at, text_form, plain_start_form, end_form, leaf, numbered_leaf, element_from, row_from}
-use Rattle.typst_html_json.specs.FormKinds.{list_kind}
-use Rattle.typst_html_json.specs.LeftForms.{Left, and_then, from_part}
-use Rattle.typst_html_json.specs.Marks.{Mark, opened, at_start}
-use Rattle.typst_html_json.specs.declared.input_forms.Forms.TheVariants.{Program}
-use Rattle.typst_html_json.specs.declared.kind.Kind.{Kind}
+use Rattle.typst_html_json.specs.{FormKinds.{list_kind}, LeftForms.{Left, and_then, from_part}, Marks.{Mark, opened, at_start}}
+use Rattle.typst_html_json.specs.declared.{input_forms.Forms.TheVariants.{Program}, kind.Kind.{Kind}}
 use Rattle.typst_html_json.specs.declared.kind.Kind.TheVariants.{Text, Element, Start, End}
 
 abbrev pub element_made : (span : ℕ) → List ℕ → List TextPair → NodesView → NodeView

@@ -9,18 +9,14 @@
 -- head. If a member is wrong, or there is no object, the value leaves the form before the first
 -- list, at 0.
 use Rattle.std.specs.Prelude.{ℕ, List, [], ◌∷◌, ◌++◌, codes, bytes_eq, Option, Some, None, option_map, option_and_then, if◌then◌else◌}
-use Rattle.serde_json.specs.Data.{Data, array, Items, no_items, item, Members, no_members, member}
-use Rattle.serde_json.specs.Find.{as_array, as_object}
+use Rattle.serde_json.specs.{Data.{Data, array, Items, no_items, item, Members, no_members, member}, Find.{as_array, as_object}}
 use Rattle.html_dom_document.specs.Documents.{InfoView, LocaleView, locale_of, no_info}
 use Rattle.html_dom_tree.specs.Tree.{NodesView}
 use Rattle.html_flow_convert.specs.Items.{ItemsView}
-use Rattle.typst_html_json.specs.Fields.{text_at}
-use Rattle.typst_html_json.specs.LeftForms.{Left, mapped, and_then, from_part}
-use Rattle.typst_html_json.specs.Marks.{Mark, at_start}
+use Rattle.typst_html_json.specs.{Fields.{text_at}, LeftForms.{Left, mapped, and_then, from_part}, Marks.{Mark, at_start}}
 use Rattle.typst_html_json.specs.NameRefusals.{Refusal, items_refusals, all_name_refusals}
 use Rattle.typst_html_json.specs.Spelled as tree
-use Rattle.typst_html_json.specs.SpelledItems.{list_at}
-use Rattle.typst_html_json.specs.declared.info_members.InfoMember.{InfoMember}
+use Rattle.typst_html_json.specs.{SpelledItems.{list_at}, declared.info_members.InfoMember.{InfoMember}}
 use Rattle.typst_html_json.specs.declared.info_members.InfoMember.TheVariants.{Title, Description, Authors, Keywords, Lang, Region}
 use Rattle.typst_html_json.specs.declared.input_forms.Forms.TheVariants.{Document}
 

@@ -10,19 +10,14 @@
 -- its label, and a link leads there; a value has tags with names or tags with numbers, not both. A
 -- value that spells no items leaves the form at the same places as one that spells no tree.
 use Rattle.std.specs.Prelude.{ℕ, Bool, true, false, List, [], None, Some, Option, option_and_then, option_map, Ok, Err, if◌then◌else◌}
-use Rattle.serde_json.specs.Data.{Data, null, array, Items, no_items, item}
-use Rattle.serde_json.specs.Find.{as_array}
+use Rattle.serde_json.specs.{Data.{Data, null, array, Items, no_items, item}, Find.{as_array}}
 use Rattle.html_dom_tree.specs.Tree.{TextPair, starts}
 use Rattle.html_values_css.specs.Properties.{with_property}
 use Rattle.html_flow_convert.specs.Items as flow
 use Rattle.html_flow_convert.specs.Items.{ElemHead, ItemView, tag_item, element_item, space_item, text_item, hole_item, break_item, box_item, block_item, ItemsView, RoleView, inheriting, present}
 use Rattle.typst_html_json.specs.Fields.{text_at, pair_at, pairs_at, text_form, start_form, end_form, no_fields, leaf, numbered_leaf, named_leaf, element_from, row_from}
-use Rattle.typst_html_json.specs.FormKinds.{list_kind}
-use Rattle.typst_html_json.specs.LeftForms.{Left, mapped, from_part}
-use Rattle.typst_html_json.specs.Marks.{Mark, opened, at_start}
-use Rattle.typst_html_json.specs.declared.input_forms.Forms.{Forms}
-use Rattle.typst_html_json.specs.declared.input_forms.Forms.TheVariants.{Program, Document}
-use Rattle.typst_html_json.specs.declared.kind.Kind.{Kind}
+use Rattle.typst_html_json.specs.{FormKinds.{list_kind}, LeftForms.{Left, mapped, from_part}, Marks.{Mark, opened, at_start}}
+use Rattle.typst_html_json.specs.declared.{input_forms.Forms.{Forms}, input_forms.Forms.TheVariants.{Program, Document}, kind.Kind.{Kind}}
 use Rattle.typst_html_json.specs.declared.kind.Kind.TheVariants.{Text, Element, Block, Box, Start, End, Space, Break, Hole, Place, Link, Role}
 
 -- an item and its role

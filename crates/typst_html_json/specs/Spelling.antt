@@ -1,24 +1,15 @@
 -- The outcomes of calls that make something of what a JSON value spells.
-use Rattle.std.specs.Prelude.{◌≡◌, List, [], Result, Ok, IsOkAnd, MatchResult, Vec}
-use Rattle.std.specs.declared.alloc.Global.{Global}
+use Rattle.std.specs.{Prelude.{◌≡◌, List, [], Result, Ok, IsOkAnd, MatchResult, Vec}, declared.alloc.Global.{Global}}
 use Rattle.serde_json.specs.View.{view}
-use Rattle.html_dom_flat.specs.FlatTrees.{tree_nodes}
-use Rattle.html_dom_flat.specs.declared.flat_tree.FlatTree.{FlatTree}
-use Rattle.html_dom_tree.specs.Tree.{element_node, none, node, ElementView}
-use Rattle.html_dom_tree.specs.Views.{element_view, nodes_view}
+use Rattle.html_dom_flat.specs.{FlatTrees.{tree_nodes}, declared.flat_tree.FlatTree.{FlatTree}}
+use Rattle.html_dom_tree.specs.{Tree.{element_node, none, node, ElementView}, Views.{element_view, nodes_view}}
 use Rattle.html_dom_tree.specs.declared.node.HtmlElement.{HtmlElement}
 use Rattle.html_dom_document.specs.Views.{info_view}
-use Rattle.html_flow_convert.specs.Items.{ItemsView}
-use Rattle.html_flow_convert.specs.Views.{items_view}
-use Rattle.html_flow_convert.specs.declared.item.Pair.{Pair}
-use Rattle.typst_html_json.specs.LeftForms.{Left, IsLeft}
-use Rattle.typst_html_json.specs.NameRefusals.{Refusal, element_refusals, items_refusals}
-use Rattle.typst_html_json.specs.Refusals.{IsFirst}
+use Rattle.html_flow_convert.specs.{Items.{ItemsView}, Views.{items_view}, declared.item.Pair.{Pair}}
+use Rattle.typst_html_json.specs.{LeftForms.{Left, IsLeft}, NameRefusals.{Refusal, element_refusals, items_refusals}, Refusals.{IsFirst}}
 use Rattle.typst_html_json.specs.SpelledDocuments.{Spelling, DocumentPartsView, names_refusals}
-use Rattle.typst_html_json.specs.declared.documents.SpelledDocument.{SpelledDocument}
-use Rattle.typst_html_json.specs.declared.documents.DocumentParts.{DocumentParts}
-use Rattle.typst_html_json.specs.declared.fault.Fault.{Fault}
-use Rattle.typst_html_json.specs.declared.fault.Fault.TheVariants.{OutOfMemory, BadInput, Refused}
+use Rattle.typst_html_json.specs.declared.documents.{DocumentParts.{DocumentParts}, SpelledDocument.{SpelledDocument}}
+use Rattle.typst_html_json.specs.declared.fault.{Fault.{Fault}, Fault.TheVariants.{OutOfMemory, BadInput, Refused}}
 
 -- the value leaves the form, or the fault is that of the first name that is refused in what it
 -- spells, or an allocation failed

@@ -4,8 +4,7 @@
 ghost use Rattle.std.specs.Prelude.{◌≡◌};
 ghost use Rattle.serde_json.specs.View.{view};
 ghost use Rattle.typst_html_json.specs.Reading.{ReadsMember};
-ghost use Rattle.typst_html_json.specs.SpelledDocuments.{no_parts, spelled_document, spelling_from};
-ghost use Rattle.typst_html_json.specs.SpelledDocuments.{list_value, parts_at, with_known, with_member};
+ghost use Rattle.typst_html_json.specs.SpelledDocuments.{no_parts, spelled_document, spelling_from, list_value, parts_at, with_known, with_member};
 ghost use Rattle.typst_html_json.specs.Spelling.{GivesSpelledDocument, document_parts_view};
 
 use crate::fault::{Fault, InputPlace};

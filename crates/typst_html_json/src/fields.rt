@@ -2,10 +2,8 @@
 
 ghost use Rattle.std.specs.Prelude.{◌≡◌, ◌≢◌, length, drop, option_map, option_and_then, IfSome, IfNone};
 ghost use Rattle.serde_json.specs.View.{view, items_view};
-ghost use Rattle.html_dom_tree.specs.Tree.{TextPair};
-ghost use Rattle.html_dom_tree.specs.Views.{tag_view, text_view};
-ghost use Rattle.typst_html_json.specs.Fields.{text_at, pair_at, pair_form, text_form, end_form, no_fields};
-ghost use Rattle.typst_html_json.specs.Fields.{dest_at, labelled_start, plain_start_form, start_form};
+ghost use Rattle.html_dom_tree.specs.{Tree.{TextPair}, Views.{tag_view, text_view}};
+ghost use Rattle.typst_html_json.specs.Fields.{text_at, pair_at, pair_form, text_form, end_form, no_fields, dest_at, labelled_start, plain_start_form, start_form};
 ghost use Rattle.typst_html_json.specs.declared.input_forms.Forms.TheVariants.{Document};
 
 use crate::input_forms::Forms;

@@ -5,8 +5,7 @@ ghost use Rattle.serde_json.specs.View.{view};
 ghost use Rattle.html_dom_tree.specs.Views.{text_view};
 ghost use Rattle.html_dom_document.specs.Views.{info_view, locale_view};
 ghost use Rattle.html_names_core.specs.Texts.{texts_view};
-ghost use Rattle.typst_html_json.specs.Fields.{text_at};
-ghost use Rattle.typst_html_json.specs.Reading.{ReadsMember};
+ghost use Rattle.typst_html_json.specs.{Fields.{text_at}, Reading.{ReadsMember}};
 ghost use Rattle.typst_html_json.specs.SpelledDocuments.{named_member, texts_at, with_info_member, with_region};
 
 use crate::fault::{Fault, InputPlace};

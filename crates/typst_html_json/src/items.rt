@@ -3,18 +3,11 @@
 ghost use Rattle.std.specs.Prelude.{◌≡◌, ◌≢◌, [], drop, length, option_map};
 ghost use Rattle.serde_json.specs.View.{view, items_view};
 ghost use Rattle.html_dom_tree.specs.Views.{tag_view};
-ghost use Rattle.html_flow_convert.specs.Items.{tag_item, space_item, break_item, hole_item};
-ghost use Rattle.html_flow_convert.specs.Views.{role_view};
-ghost use Rattle.typst_html_json.specs.Fields.{numbered_leaf, text_at, pairs_at, element_from};
+ghost use Rattle.html_flow_convert.specs.{Items.{tag_item, space_item, break_item, hole_item}, Views.{role_view}};
+ghost use Rattle.typst_html_json.specs.{Fields.{numbered_leaf, text_at, pairs_at, element_from}, LeftForms.{from_part}};
 ghost use Rattle.typst_html_json.specs.Reading.{ReadsItem, ReadsItems, ReadsPart, mark};
-ghost use Rattle.typst_html_json.specs.SpelledItems.{items_at, spelled_document_items, spelled_items};
-ghost use Rattle.typst_html_json.specs.SpelledItems.{spelled_part, part_form, part_of_kind, item_of_kind};
-ghost use Rattle.typst_html_json.specs.SpelledItems.{element_form, block_form, box_form, body_form, role_form};
-ghost use Rattle.typst_html_json.specs.SpelledItems.{lone, spelled_link, spelled_place, spelled_text};
-ghost use Rattle.typst_html_json.specs.SpelledItems.{css_at, element_made, is_role, list_at, role_at, role_from};
-ghost use Rattle.typst_html_json.specs.LeftForms.{from_part};
-ghost use Rattle.typst_html_json.specs.Spelling.{GivesItems};
-ghost use Rattle.typst_html_json.specs.declared.input_forms.Forms.TheVariants.{Document};
+ghost use Rattle.typst_html_json.specs.SpelledItems.{items_at, spelled_document_items, spelled_items, spelled_part, part_form, part_of_kind, item_of_kind, element_form, block_form, box_form, body_form, role_form, lone, spelled_link, spelled_place, spelled_text, css_at, element_made, is_role, list_at, role_at, role_from};
+ghost use Rattle.typst_html_json.specs.{Spelling.{GivesItems}, declared.input_forms.Forms.TheVariants.{Document}};
 
 use crate::fault::Fault;
 use crate::fields::{end_in, nothing_in, parts_of, start_in, text_at, text_in};

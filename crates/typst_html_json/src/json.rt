@@ -1,8 +1,6 @@
 //! Parsing of bytes as JSON, with the line and the column where they are wrong.
 
-ghost use Rattle.typst_html_json.specs.Json.{json_of};
-ghost use Rattle.typst_html_json.specs.JsonPlaces.{input_place};
-ghost use Rattle.typst_html_json.specs.Reading.{ReadsJson};
+ghost use Rattle.typst_html_json.specs.{Json.{json_of}, JsonPlaces.{input_place}, Reading.{ReadsJson}};
 
 use crate::json_place::wrong_place;
 use crate::{Fault, InputPlace};

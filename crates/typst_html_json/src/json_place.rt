@@ -1,10 +1,8 @@
 //! Where a text that is not JSON is wrong.
 
-ghost use Rattle.std.specs.Prelude.{◌≡◌, ◌≤◌, suc, ℕ, List, [], ◌∷◌, length, IfOk, if◌then◌else◌};
-ghost use Rattle.std.specs.Str.Lossy.{utf8_valid_len};
+ghost use Rattle.std.specs.{Prelude.{◌≡◌, ◌≤◌, suc, ℕ, List, [], ◌∷◌, length, IfOk, if◌then◌else◌}, Str.Lossy.{utf8_valid_len}};
 ghost use Rattle.typst_html_json.specs.JsonPlaces as places;
-ghost use Rattle.typst_html_json.specs.declared.json_stage.Move.TheVariants.{GoOn};
-ghost use Rattle.typst_html_json.specs.declared.json_stage.NumberPart.TheVariants.{Zero, Whole, Fraction};
+ghost use Rattle.typst_html_json.specs.declared.json_stage.{Move.TheVariants.{GoOn}, NumberPart.TheVariants.{Zero, Whole, Fraction}};
 ghost use Rattle.typst_html_json.specs.declared.json_stage.Stage.TheVariants.{Value, Number};
 ghost use Rattle.typst_html_json.specs.declared.json_stage.TextPart.TheVariants.{Plain, Escape, Unit, UnitD};
 

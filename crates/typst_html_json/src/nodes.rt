@@ -2,13 +2,11 @@
 
 ghost use Rattle.std.specs.Prelude.{◌≡◌, true, drop, option_map, IfOk};
 ghost use Rattle.serde_json.specs.View.{view, items_view};
-ghost use Rattle.html_dom_tree.specs.Tree.{tag_node};
-ghost use Rattle.html_dom_tree.specs.Views.{tag_view, element_view};
+ghost use Rattle.html_dom_tree.specs.{Tree.{tag_node}, Views.{tag_view, element_view}};
 ghost use Rattle.html_dom_flat.specs.FlatTrees.{tree_nodes};
 ghost use Rattle.typst_html_json.specs.Fields.{numbered_leaf, text_at, pairs_at, element_from};
 ghost use Rattle.typst_html_json.specs.Reading.{AddsNode, AddsNodes, ReadsNodes, mark};
-ghost use Rattle.typst_html_json.specs.Spelled.{spelled_element, spelled_node, form, node_of_kind, spelled_text};
-ghost use Rattle.typst_html_json.specs.Spelled.{begins_with_element, element_form, element_made, list_at, IsFirstElement};
+ghost use Rattle.typst_html_json.specs.Spelled.{spelled_element, spelled_node, form, node_of_kind, spelled_text, begins_with_element, element_form, element_made, list_at, IsFirstElement};
 ghost use Rattle.typst_html_json.specs.Spelling.{GivesElement, GivesTree};
 
 use crate::fault::{Fault, InputPlace};

@@ -2,14 +2,11 @@
 
 ghost use Rattle.std.specs.Prelude.{◌≡◌, [], None, OnOk, IfErr, chars, option_map};
 ghost use Rattle.serde_json.specs.View.{view};
-ghost use Rattle.html_names_core.specs.NameFaults.{number_of};
-ghost use Rattle.html_names_core.specs.Names.{tag_fault, attr_fault};
+ghost use Rattle.html_names_core.specs.{NameFaults.{number_of}, Names.{tag_fault, attr_fault}};
 ghost use Rattle.html_dom_tree.specs.Views.{tag_view};
-ghost use Rattle.typst_html_json.specs.Fields.{numbered_leaf, pairs_at, pair_at};
-ghost use Rattle.typst_html_json.specs.Marks.{are_there, at_start, opened};
+ghost use Rattle.typst_html_json.specs.{Fields.{numbered_leaf, pairs_at, pair_at}, Marks.{are_there, at_start, opened}};
 ghost use Rattle.typst_html_json.specs.Reading.{IsWant, Locates, Notes, Reads, ReadsHere, ReadsName, ReadsPair, ReadsPairs, mark};
-ghost use Rattle.typst_html_json.specs.SpelledItems.{css_at};
-ghost use Rattle.typst_html_json.specs.declared.fault.Fault.TheVariants.{BadInput};
+ghost use Rattle.typst_html_json.specs.{SpelledItems.{css_at}, declared.fault.Fault.TheVariants.{BadInput}};
 ghost use Rattle.typst_html_json.specs.declared.fault.InputPlace.TheVariants.{Form};
 
 use crate::fault::{Fault, InputPlace};

@@ -1,15 +1,12 @@
 -- Changes of attributes that bring no `href`: others behind them, a changed value, a `style`, a role.
 use Rattle.std.proofs.Common.{◌≡◌, ℕ, Bool, true, false, List, [], ◌∷◌, ◌++◌, ◌&&◌, Option, Some, None, inl, inr, codes, bytes_eq, refl, ap, ◌∙◌}
-use Rattle.std.specs.Prelude.{if◌then◌else◌, is_some}
-use Rattle.std.proofs.lemmas.Bool.{cases_Bool}
+use Rattle.std.{proofs.lemmas.Bool.{cases_Bool}, specs.Prelude.{if◌then◌else◌, is_some}}
 use Rattle.html_values_css.specs.Properties.{inline_text}
 use Rattle.html_dom_tree.proofs.Folds.{first-append}
-use Rattle.html_dom_tree.specs.Attributes.{first, has_name, or_else, with_value}
-use Rattle.html_dom_tree.specs.Styled.{attrs_with_style, head_with_style, styled_attrs}
+use Rattle.html_dom_tree.specs.{Attributes.{first, has_name, or_else, with_value}, Styled.{attrs_with_style, head_with_style, styled_attrs}}
 use Rattle.html_dom_tree.specs.Tree.{TextPair, Head}
 use Rattle.html_page_findings.specs.Hyperlinks.{is_hyperlink, HeadIsNoHyperlink, may_link}
-use Rattle.html_flow_convert.specs.Converted.{RoleText, passes_role, role_pairs, element_head}
-use Rattle.html_flow_convert.specs.Items.{ElemHead}
+use Rattle.html_flow_convert.specs.{Converted.{RoleText, passes_role, role_pairs, element_head}, Items.{ElemHead}}
 
 more_behind : (attrs more : List TextPair) (name : List ℕ) → has_name more name ≡ false →
     has_name (attrs ++ more) name ≡ has_name attrs name

@@ -1,32 +1,24 @@
 -- Checks of a tree whose links are given an `href`, and of one whose names differ.
 use Rattle.std.proofs.Common.{◌≡◌, ℕ, Bool, true, false, not, ◌||◌, List, [], ◌++◌, Option, Some, None, codes, bytes_eq, refl, ap, ◌∙◌}
+use Rattle.std.proofs.lemmas.{Bool.{and_parts}, List.Elements.{filter-append}}
 use Rattle.std.specs.Prelude.{if◌then◌else◌, is_some, option_to_list}
-use Rattle.std.proofs.lemmas.Bool.{and_parts}
-use Rattle.std.proofs.lemmas.List.Elements.{filter-append}
 use Rattle.html_names_core.specs.Names.{stands_in}
 use Rattle.html_dom_tree.specs.Tree.{Head, ElementView}
-use Rattle.html_dom_document.specs.Documents.{DocumentView, document_root}
-use Rattle.html_dom_document.specs.Views.{document_view}
+use Rattle.html_dom_document.specs.{Documents.{DocumentView, document_root}, Views.{document_view}}
 use Rattle.html_dom_document.specs.declared.document.HtmlDocument.{HtmlDocument}
+use Rattle.html_anchors.proofs.{ChangedRoots.{root_has_links}, GivenLinks.{location_leads, no_href, texts_in}}
+use Rattle.html_anchors.proofs.{KeptBases.{base_stays_elsewhere}, LeadingLinks.{id_stays, names_stay}, LinkedParts.{document_links}}
 use Rattle.html_anchors.specs.GivenLinks.{AnchorsAreTexts, KnownAnchorsArePlaces}
-use Rattle.html_links.specs.Indicated.{LeadsTo, element_places, indicated_name, leads, leads_to_top, place_names, url_fragment}
-use Rattle.html_links.specs.Bases.{base_is_elsewhere}
-use Rattle.html_links.specs.InDocument.{document_places, in_document}
 use Rattle.html_anchors.specs.Links.{Hrefs, attrs_with_href, document_hrefs, head_with_link, href_of, is_open, root_with_links}
+use Rattle.html_links.proofs.{InDocument.{place_in_tree}, Narrowed.{leads_within}}
+use Rattle.html_links.specs.{Bases.{base_is_elsewhere}, InDocument.{document_places, in_document}}
+use Rattle.html_links.specs.Indicated.{LeadsTo, element_places, indicated_name, leads, leads_to_top, place_names, url_fragment}
 use Rattle.html_links.specs.TreeNames.{Name}
-use Rattle.html_anchors.proofs.KeptBases.{base_stays_elsewhere}
-use Rattle.html_anchors.proofs.ChangedRoots.{root_has_links}
-use Rattle.html_anchors.proofs.GivenLinks.{location_leads, no_href, texts_in}
-use Rattle.html_anchors.proofs.LinkedParts.{document_links}
-use Rattle.html_links.proofs.InDocument.{place_in_tree}
-use Rattle.html_anchors.proofs.LeadingLinks.{id_stays, names_stay}
-use Rattle.html_links.proofs.Narrowed.{leads_within}
-use Rattle.typst_html_links_laws.specs.LinkedChecks.{HrefsLead, LinksAddNoDeadFragment, LinksRepeatNoId, LinksStaySound, ResolvedStaySound}
-use Rattle.html_page_findings.specs.Fragments.{dead_among, dead_fragments, fragment_links, fragments}
-use Rattle.html_page_findings.specs.PlacedTexts.{Placed, element_placed, head_texts, placed_at}
-use Rattle.html_page_findings.specs.RepeatedIds.{ids, repeated, repeated_ids}
-use Rattle.html_page_findings.proofs.DistinctIds.{distinct_are_not_repeated}
 use Rattle.typst_html_links_laws.proofs.LinkedTexts.{tree_stays}
+use Rattle.typst_html_links_laws.specs.LinkedChecks.{HrefsLead, LinksAddNoDeadFragment, LinksRepeatNoId, LinksStaySound, ResolvedStaySound}
+use Rattle.html_page_findings.proofs.DistinctIds.{distinct_are_not_repeated}
+use Rattle.html_page_findings.specs.Fragments.{dead_among, dead_fragments, fragment_links, fragments}
+use Rattle.html_page_findings.specs.{PlacedTexts.{Placed, element_placed, head_texts, placed_at}, RepeatedIds.{ids, repeated, repeated_ids}}
 
 -- the `href` of a link is no `id`
 pub links_repeat_no_id : LinksRepeatNoId

@@ -1,30 +1,23 @@
 -- Items without hyperlinks make documents without: no step on which they are made brings one, nor
 -- do the head and the body that are made, styles and anchors.
 use Rattle.std.proofs.Common.{ℕ, zero, suc, false, List, [], None, refl, sym, subst, Bool}
-use Rattle.html_dom_tree.specs.Styled.{styled_nodes}
-use Rattle.html_dom_tree.specs.Tree.{Head, NodeView, element_node, NodesView, none, node, ElementView}
+use Rattle.html_dom_tree.specs.{Styled.{styled_nodes}, Tree.{Head, NodeView, element_node, NodesView, none, node, ElementView}}
 use Rattle.html_dom_document.specs.Documents.{InfoView, DocumentView, document_root, element_at_index, given_root}
-use Rattle.html_anchors.specs.Anchors.{element_with_anchors}
-use Rattle.html_anchors.specs.Events.{Targets}
-use Rattle.html_anchors.specs.LinkAnchors.{document_targets}
 use Rattle.html_anchors.proofs.ChangedRoots.{root_has_anchors}
+use Rattle.html_anchors.specs.{Anchors.{element_with_anchors}, Events.{Targets}, LinkAnchors.{document_targets}}
 use Rattle.html_page_findings.specs.Hyperlinks.{HeadIsNoHyperlink, ElementHasNoHyperlink, NodesHaveNoHyperlink}
-use Rattle.html_flow_convert.specs.Items.{ItemsView}
-use Rattle.html_flow_convert.specs.LoneNode.{node_list}
-use Rattle.html_flow_convert.specs.declared.convert.ConversionLevel.TheVariants.{Block}
+use Rattle.html_flow_convert.specs.{Items.{ItemsView}, LoneNode.{node_list}, declared.convert.ConversionLevel.TheVariants.{Block}}
 use Rattle.html_flow_convert.specs.declared.convert.Whitespace.TheVariants.{Normal}
+use Rattle.typst_html_spaces.proofs.{Anchored.{heads_anchored}, Changed.{holds_then, heads_styled}}
+use Rattle.typst_html_spaces.proofs.DeepNodes.{of_converted, Known, HoldsOfItems, of_each, of_both, each_of, HoldsOnTheWay, HoldsOfBoxes, of_text}
 use Rattle.typst_html_spaces.specs.Anchored.{NewAttribute, new_id, new_href, with_front_attribute}
 use Rattle.typst_html_spaces.specs.DeepNodes.{HoldsOf, HoldsOfAll, Wanted, of_heads}
-use Rattle.typst_html_spaces.proofs.Anchored.{heads_anchored}
-use Rattle.typst_html_spaces.proofs.Changed.{holds_then, heads_styled}
-use Rattle.typst_html_spaces.proofs.DeepNodes.{of_converted, Known, HoldsOfItems, of_each, of_both, each_of, HoldsOnTheWay, HoldsOfBoxes, of_text}
+use Rattle.typst_html_export.proofs.{AnchoredRoots.{root_anchored_by}, Entries.{of_entries}}
 use Rattle.typst_html_export.specs.Assembled.{Outline, own_html, nothing_own, document_outline, document_nodes, assembled_document, assembled_output, both_nodes, body_node, html_output, output_by}
 use Rattle.typst_html_export.specs.DocumentHead.{entry_nodes, head_node}
-use Rattle.typst_html_export.proofs.AnchoredRoots.{root_anchored_by}
-use Rattle.typst_html_export.proofs.Entries.{of_entries}
+use Rattle.typst_html_links_laws.proofs.KeptHeads.{styled_head, head_with_role}
 use Rattle.typst_html_links_laws.specs.ItemHyperlinks.{ItemsHaveNoHyperlink, ItemHasNoHyperlink, BodyHasNoHyperlink}
 use Rattle.typst_html_links_laws.specs.SoundLinks.{NoHyperlinkIsMade}
-use Rattle.typst_html_links_laws.proofs.KeptHeads.{styled_head, head_with_role}
 
 -- items
 

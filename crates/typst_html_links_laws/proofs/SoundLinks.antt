@@ -1,17 +1,11 @@
 -- Once the links of such a document are resolved, each link in it leads.
 use Rattle.std.proofs.Common.{subst, ◌∙◌}
-use Rattle.html_dom_document.specs.Documents.{DocumentView}
-use Rattle.html_dom_document.specs.Views.{document_view}
-use Rattle.html_dom_document.specs.declared.document.HtmlDocument.{HtmlDocument}
-use Rattle.html_anchors.specs.GivenLinks.{AnchorsAreTexts}
-use Rattle.html_anchors.proofs.GivenLinks.{texts_in}
-use Rattle.html_page_findings.proofs.Hyperlinks.{no_hyperlink_no_dead_fragment}
-use Rattle.html_page_findings.proofs.DistinctIds.{distinct_are_not_repeated}
-use Rattle.typst_html_links_laws.proofs.LinkedChecks.{resolved_stay_sound}
-use Rattle.typst_html_export.specs.Exported.{linked_root, resolved_root}
-use Rattle.typst_html_export.specs.Linked.{linked_document}
+use Rattle.html_dom_document.specs.{Documents.{DocumentView}, Views.{document_view}, declared.document.HtmlDocument.{HtmlDocument}}
+use Rattle.html_anchors.{proofs.GivenLinks.{texts_in}, specs.GivenLinks.{AnchorsAreTexts}}
+use Rattle.html_page_findings.proofs.{DistinctIds.{distinct_are_not_repeated}, Hyperlinks.{no_hyperlink_no_dead_fragment}}
+use Rattle.typst_html_links_laws.proofs.{LinkedChecks.{resolved_stay_sound}, MadeDocuments.{no_hyperlink_is_made}}
 use Rattle.typst_html_links_laws.specs.SoundLinks.{ExportedLinksAreSound, MadeLinksAreSound}
-use Rattle.typst_html_links_laws.proofs.MadeDocuments.{no_hyperlink_is_made}
+use Rattle.typst_html_export.specs.{Exported.{linked_root, resolved_root}, Linked.{linked_document}}
 
 pub exported_links_are_sound : ExportedLinksAreSound
 exported_links_are_sound info items notes texts =

@@ -3,14 +3,10 @@ use Rattle.std.specs.Prelude.{◌≡◌, ℕ, List, [], Some}
 use Rattle.html_names_core.specs.Names.{stands_in}
 use Rattle.html_dom_tree.specs.Tree.{ElementView}
 use Rattle.html_dom_document.specs.Documents.{DocumentView, document_root}
-use Rattle.html_anchors.specs.DistinctIds.{IdsAreDistinct}
-use Rattle.html_anchors.specs.GivenLinks.{AnchorsAreTexts, KnownAnchorsArePlaces}
-use Rattle.html_links.specs.Indicated.{LeadsTo}
-use Rattle.html_links.specs.InDocument.{document_places}
+use Rattle.html_anchors.specs.{DistinctIds.{IdsAreDistinct}, GivenLinks.{AnchorsAreTexts, KnownAnchorsArePlaces}}
 use Rattle.html_anchors.specs.Links.{Hrefs, document_with_links, root_with_links}
-use Rattle.html_links.specs.TreeNames.{Name}
-use Rattle.html_page_findings.specs.Fragments.{dead_fragments}
-use Rattle.html_page_findings.specs.RepeatedIds.{repeated_ids}
+use Rattle.html_links.specs.{InDocument.{document_places}, Indicated.{LeadsTo}, TreeNames.{Name}}
+use Rattle.html_page_findings.specs.{Fragments.{dead_fragments}, RepeatedIds.{repeated_ids}}
 
 -- each `href` leads to a name in the document
 abbrev pub HrefsLead : Hrefs → ElementView → Type 0

@@ -1,14 +1,10 @@
 -- The links of a document of items, once they are resolved.
 use Rattle.std.specs.Prelude.{◌≡◌, []}
 use Rattle.html_dom_document.specs.Documents.{InfoView, DocumentView}
-use Rattle.html_anchors.specs.DistinctIds.{IdsAreDistinct}
-use Rattle.html_anchors.specs.GivenLinks.{AnchorsAreTexts, KnownAnchorsArePlaces}
-use Rattle.html_page_findings.specs.Fragments.{dead_fragments}
-use Rattle.html_page_findings.specs.Hyperlinks.{ElementHasNoHyperlink}
-use Rattle.html_page_findings.specs.RepeatedIds.{repeated_ids}
+use Rattle.html_anchors.specs.{DistinctIds.{IdsAreDistinct}, GivenLinks.{AnchorsAreTexts, KnownAnchorsArePlaces}}
+use Rattle.html_page_findings.specs.{Fragments.{dead_fragments}, Hyperlinks.{ElementHasNoHyperlink}, RepeatedIds.{repeated_ids}}
 use Rattle.html_flow_convert.specs.Items.{ItemsView}
-use Rattle.typst_html_export.specs.Exported.{linked_root, resolved_document, resolved_root}
-use Rattle.typst_html_export.specs.Linked.{linked_document}
+use Rattle.typst_html_export.specs.{Exported.{linked_root, resolved_document, resolved_root}, Linked.{linked_document}}
 use Rattle.typst_html_links_laws.specs.ItemHyperlinks.{ItemsHaveNoHyperlink}
 
 -- items without hyperlinks make a tree without hyperlinks, with anchors too

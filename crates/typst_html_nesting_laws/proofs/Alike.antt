@@ -1,28 +1,22 @@
 -- What is known of ancestors is known of the open elements that they are.
 use Rattle.std.proofs.Common.{◌≡◌, ℕ, suc, Bool, true, false, not, ◌&&◌, ◌||◌, List, [], ◌∷◌, length, refl, sym, ap, ◌∙◌, Some}
-use Rattle.std.specs.List.{list_any}
-use Rattle.std.specs.Prelude.{if◌then◌else◌}
-use Rattle.std.proofs.Math.Bool.{or-false}
-use Rattle.std.proofs.lemmas.Bool.{false≢true}
-use Rattle.std.proofs.lemmas.Option.{none-some}
+use Rattle.std.proofs.{Math.Bool.{or-false}, lemmas.Bool.{false≢true}, lemmas.Option.{none-some}}
+use Rattle.std.specs.{List.{list_any}, Prelude.{if◌then◌else◌}}
 use Rattle.html_dom_tree.specs.Tree.{Head}
 use Rattle.html_page_nesting.specs.Ancestors as nest
 use Rattle.html_page_nesting.specs.Ancestors.{Ancestor, begun_space, bounds_scope, bounds_button_scope, foreign_space, hides_formatting, is_in, is_point, is_read_as_html, is_template, place_in, place_inside, place_of, reading_in, reading_of, space_of}
 use Rattle.html_page_nesting.specs.declared.reading.Place.TheVariants as place
 use Rattle.html_page_nesting.specs.declared.reading.Reading.TheVariants as reading
-use Rattle.html_page_nesting.specs.declared.reading.Space.{Space}
-use Rattle.html_page_nesting.specs.declared.reading.Space.TheVariants.{Html, Svg, MathMl}
+use Rattle.html_page_nesting.specs.declared.reading.{Space.{Space}, Space.TheVariants.{Html, Svg, MathMl}}
 use Rattle.html_page_names.specs.PageNames.{of}
 use Rattle.html_page_names.specs.declared.kind.Kind.TheVariants as kind
 use Rattle.html_page_stack.specs.OpenElements as open_elements
 use Rattle.html_page_stack.specs.OpenElements.{OpenElement, at, bounds, bounds_general, current_space, in_scope, is_active, is_at, is_foreign_bound, has, has_item, mode, named_mode}
-use Rattle.html_page_stack.specs.Pages.{StartTag, Start}
-use Rattle.html_page_stack.specs.declared.modes.Mode.{Mode}
+use Rattle.html_page_stack.specs.{Pages.{StartTag, Start}, declared.modes.Mode.{Mode}}
 use Rattle.html_page_stack.specs.declared.modes.Space.TheVariants as spaces
 use Rattle.html_page_stack.specs.declared.modes.Scope.TheVariants.{General, Button}
 use Rattle.html_page_tree.specs.PageTrees.{holds_html_in, holds_svg_in, holds_text_in, is_foreign_token, says_html}
-use Rattle.typst_html_nesting_laws.proofs.KindFacts.{fails_of, names}
-use Rattle.typst_html_nesting_laws.proofs.Modes.{mode_in, place_mode}
+use Rattle.typst_html_nesting_laws.proofs.{KindFacts.{fails_of, names}, Modes.{mode_in, place_mode}}
 use Rattle.typst_html_nesting_laws.proofs.Ways.{AreAlike, HaveNoTemplate, IsAlike, open_space}
 
 pub html_is : (s : Space) → open_elements.is_html (open_space s) ≡ nest.is_html s

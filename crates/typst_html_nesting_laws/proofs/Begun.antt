@@ -1,35 +1,23 @@
 -- The start tag of an element that breaks no rule opens it, and does nothing else.
 use Rattle.std.proofs.Common.{◌≡◌, ◌<◌, true, false, not, ◌||◌, List, length, refl, sym, ap, subst, ◌∙◌, Ok}
-use Rattle.std.specs.Prelude.{if◌then◌else◌, Some, None}
-use Rattle.std.proofs.lemmas.Bool.{false≢true, not-false, not-true}
+use Rattle.std.{proofs.lemmas.Bool.{false≢true, not-false, not-true}, specs.Prelude.{if◌then◌else◌, Some, None}}
 use Rattle.html_names_core.specs.Kinds.{is_void}
 use Rattle.html_dom_tree.specs.Tree.{Head, NodesView}
 use Rattle.html_page_nesting.specs.Ancestors.{Ancestor, begun_space, foreign_space, is_read_as_html, place_of, reading_of, space_of}
-use Rattle.html_page_nesting.specs.Contents.{has_unread_end}
-use Rattle.html_page_nesting.specs.NestingRules.{element_misnesting, has_place, named_misnesting}
-use Rattle.html_page_nesting.specs.Surroundings.{surroundings_of}
-use Rattle.html_page_nesting.specs.WrittenTags.{capital_tags, keeps_case}
-use Rattle.html_page_nesting.specs.declared.reading.Place.{Place}
+use Rattle.html_page_nesting.specs.{Contents.{has_unread_end}, NestingRules.{element_misnesting, has_place, named_misnesting}}
+use Rattle.html_page_nesting.specs.{Surroundings.{surroundings_of}, WrittenTags.{capital_tags, keeps_case}, declared.reading.Place.{Place}}
 use Rattle.html_page_nesting.specs.declared.reading.Place.TheVariants as place
 use Rattle.html_page_nesting.specs.declared.surroundings.Surroundings.{Surroundings}
-use Rattle.html_page_names.specs.ForeignNames.{lowered}
-use Rattle.html_page_names.specs.PageNames.{of}
+use Rattle.html_page_names.specs.{ForeignNames.{lowered}, PageNames.{of}}
 use Rattle.html_page_names.specs.declared.kind.Kind.TheVariants as kind
-use Rattle.html_page_stack.specs.OpenElements.{mode}
-use Rattle.html_page_stack.specs.Pages.{Page, Reads, Start, StartTag, Turn, closed, taken}
+use Rattle.html_page_stack.specs.{OpenElements.{mode}, Pages.{Page, Reads, Start, StartTag, Turn, closed, taken}}
 use Rattle.html_page_stack.specs.declared.modes.Mode.{Mode}
 use Rattle.html_page_tree.specs.PageTrees.{by_mode, is_foreign_token, token_read, turn}
-use Rattle.typst_html_nesting_laws.proofs.Alike.{length_is, mode_is, start_foreign}
-use Rattle.typst_html_nesting_laws.proofs.Opened.{Opens, one_of}
-use Rattle.typst_html_nesting_laws.proofs.BegunForeign.{foreign_taken}
-use Rattle.typst_html_nesting_laws.proofs.BegunInBody.{body_taken, stays_in_body}
-use Rattle.typst_html_nesting_laws.proofs.BegunInTables.{place_taken}
-use Rattle.typst_html_nesting_laws.proofs.Branches.{either, else_none}
-use Rattle.typst_html_nesting_laws.proofs.KeptTags.{reading_small, small_begun, written_opens}
-use Rattle.typst_html_nesting_laws.proofs.Modes.{mode_in}
-use Rattle.typst_html_nesting_laws.proofs.Readers.{written_tag}
-use Rattle.typst_html_nesting_laws.proofs.Rules.{content_fits, named_kept, stays_foreign, tag_fits}
-use Rattle.typst_html_nesting_laws.proofs.Turns.{turn_taken}
+use Rattle.typst_html_nesting_laws.proofs.{Alike.{length_is, mode_is, start_foreign}, BegunForeign.{foreign_taken}}
+use Rattle.typst_html_nesting_laws.proofs.{BegunInBody.{body_taken, stays_in_body}, BegunInTables.{place_taken}}
+use Rattle.typst_html_nesting_laws.proofs.{Branches.{either, else_none}, KeptTags.{reading_small, small_begun, written_opens}}
+use Rattle.typst_html_nesting_laws.proofs.{Modes.{mode_in}, Opened.{Opens, one_of}, Readers.{written_tag}}
+use Rattle.typst_html_nesting_laws.proofs.{Rules.{content_fits, named_kept, stays_foreign, tag_fits}, Turns.{turn_taken}}
 use Rattle.typst_html_nesting_laws.proofs.Ways.{IsCalm, IsSteady, begun, ends_at_once, is_page_place}
 
 -- by the rules of HTML, in each place

@@ -1,30 +1,19 @@
 -- The start tag of an element that stays in SVG or MathML opens it, and does nothing else.
-use Rattle.std.proofs.Common.{◌≡◌, ◌<◌, false, ◌&&◌, ◌||◌, List, length, inl, inr, refl, sym, ap, ◌∙◌}
-use Rattle.std.specs.List.{list_any}
-use Rattle.std.proofs.Math.Bool.{or-false}
-use Rattle.std.proofs.lemmas.Bool.{and_cases, and_left, and_right, or_from, or_parts}
+use Rattle.std.proofs.{Common.{◌≡◌, ◌<◌, false, ◌&&◌, ◌||◌, List, length, inl, inr, refl, sym, ap, ◌∙◌}, Math.Bool.{or-false}}
+use Rattle.std.{proofs.lemmas.Bool.{and_cases, and_left, and_right, or_from, or_parts}, specs.List.{list_any}}
 use Rattle.html_names_core.specs.Kinds.{is_foreign_self_closing}
 use Rattle.html_dom_tree.specs.Tree.{Head, NodesView}
 use Rattle.html_page_nesting.specs.Ancestors.{Ancestor, is_read_as_html, reading_of, space_of}
 use Rattle.html_page_nesting.specs.NestingRules as rules
-use Rattle.html_page_nesting.specs.WrittenTags.{capital_attrs, capital_tags}
-use Rattle.html_page_nesting.specs.declared.reading.Space.{Space}
+use Rattle.html_page_nesting.specs.{WrittenTags.{capital_attrs, capital_tags}, declared.reading.Space.{Space}}
 use Rattle.html_page_nesting.specs.declared.reading.Space.TheVariants.{Html}
-use Rattle.html_page_names.specs.ForeignNames.{is_font_attr, lowered}
-use Rattle.html_page_names.specs.PageNames.{of}
+use Rattle.html_page_names.specs.{ForeignNames.{is_font_attr, lowered}, PageNames.{of}}
 use Rattle.html_page_names.specs.declared.kind.Kind.TheVariants as kind
 use Rattle.html_page_stack.specs.Pages.{Page, Start, taken}
-use Rattle.html_page_tree.specs.PageBodies.{entered}
-use Rattle.html_page_tree.specs.PageTrees.{breaks_out, in_foreign}
-use Rattle.typst_html_nesting_laws.proofs.Alike.{space_is}
-use Rattle.typst_html_nesting_laws.proofs.Opened.{one_of}
-use Rattle.typst_html_nesting_laws.proofs.Branches.{skip}
-use Rattle.typst_html_nesting_laws.proofs.Capitals.{attrs_fail, fails_small}
-use Rattle.typst_html_nesting_laws.proofs.KeptTags.{entered_back}
-use Rattle.typst_html_nesting_laws.proofs.KindFacts.{AllFail, names}
-use Rattle.typst_html_nesting_laws.proofs.Readers.{lowered_attrs, written_tag}
-use Rattle.typst_html_nesting_laws.proofs.Rules.{StaysForeign, TagFits}
-use Rattle.typst_html_nesting_laws.proofs.Ways.{IsCalm, begun, ends_at_once}
+use Rattle.html_page_tree.specs.{PageBodies.{entered}, PageTrees.{breaks_out, in_foreign}}
+use Rattle.typst_html_nesting_laws.proofs.{Alike.{space_is}, Branches.{skip}, Capitals.{attrs_fail, fails_small}, KeptTags.{entered_back}}
+use Rattle.typst_html_nesting_laws.proofs.{KindFacts.{AllFail, names}, Opened.{one_of}, Readers.{lowered_attrs, written_tag}}
+use Rattle.typst_html_nesting_laws.proofs.{Rules.{StaysForeign, TagFits}, Ways.{IsCalm, begun, ends_at_once}}
 
 -- no name with capitals is in small letters one that closes SVG and MathML
 capitals_stay : (s : Space) → AllFail (λ m. of kind.Breakout (lowered m)) (capital_tags s)

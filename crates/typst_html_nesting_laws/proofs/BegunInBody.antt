@@ -1,28 +1,21 @@
 -- The start tag of an element that stays in a body opens it, and does nothing else.
 use Rattle.std.proofs.Common.{◌≡◌, ℕ, true, false, not, ◌&&◌, ◌||◌, List, inl, inr, refl, sym, ap, ◌∙◌}
-use Rattle.std.specs.Prelude.{None}
-use Rattle.std.proofs.lemmas.Bool.{and_left, and_right, cases_Bool, false≢true, or_left, or_parts}
+use Rattle.std.{proofs.lemmas.Bool.{and_left, and_right, cases_Bool, false≢true, or_left, or_parts}, specs.Prelude.{None}}
 use Rattle.html_names_core.specs.Kinds.{is_void}
-use Rattle.html_page_nesting.specs.Ancestors.{Ancestor}
-use Rattle.html_page_nesting.specs.Contents.{has_unread_end}
+use Rattle.html_page_nesting.specs.{Ancestors.{Ancestor}, Contents.{has_unread_end}}
 use Rattle.html_page_nesting.specs.NestingRules.{body_misnesting, is_never_read, is_selected_content}
 use Rattle.html_page_nesting.specs.Surroundings.{open_of, surroundings_of}
 use Rattle.html_page_nesting.specs.declared.misnesting.Misnesting.TheVariants as why
 use Rattle.html_page_nesting.specs.declared.surroundings.Surroundings.{Surroundings}
 use Rattle.html_page_names.specs.PageNames.{is, of}
 use Rattle.html_page_names.specs.declared.kind.Kind.TheVariants as kind
-use Rattle.html_page_stack.specs.OpenElements.{has, in_scope}
-use Rattle.html_page_stack.specs.Pages.{Page, Start, StartTag, ◌next◌, taken}
-use Rattle.html_page_stack.specs.declared.modes.Mode.{Mode}
-use Rattle.html_page_stack.specs.declared.modes.Mode.TheVariants.{InBody, InCaption, InCell}
-use Rattle.html_page_stack.specs.declared.modes.Scope.TheVariants.{General}
-use Rattle.html_page_tree.specs.PageBodies.{element_begun, formatted, in_body_start, inserted, is_nested}
-use Rattle.html_page_tree.specs.PageTrees.{by_mode}
-use Rattle.typst_html_nesting_laws.proofs.Opened.{Opens, head_begun, leaf_begun, not_void, one_of, void_of}
+use Rattle.html_page_stack.specs.{OpenElements.{has, in_scope}, Pages.{Page, Start, StartTag, ◌next◌, taken}, declared.modes.Mode.{Mode}}
+use Rattle.html_page_stack.specs.declared.modes.{Mode.TheVariants.{InBody, InCaption, InCell}, Scope.TheVariants.{General}}
+use Rattle.html_page_tree.specs.{PageBodies.{element_begun, formatted, in_body_start, inserted, is_nested}, PageTrees.{by_mode}}
 use Rattle.typst_html_nesting_laws.proofs.Branches.{either, first_false, if_none, second_false, skip}
 use Rattle.typst_html_nesting_laws.proofs.ClosedBefore.{ClosesNone, closes_none, none_same_open, nothing_closed, nothing_formatted, select_none}
 use Rattle.typst_html_nesting_laws.proofs.KindFacts.{fails_of, names, outside_of}
-use Rattle.typst_html_nesting_laws.proofs.Ways.{IsCalm, is_body_mode}
+use Rattle.typst_html_nesting_laws.proofs.{Opened.{Opens, head_begun, leaf_begun, not_void, one_of, void_of}, Ways.{IsCalm, is_body_mode}}
 
 -- the rules of an element of HTML in a body
 pub record StaysInBody (n : List ℕ) (around : Surroundings) : Type 0 where

@@ -1,24 +1,16 @@
 -- The start tag of an element that stays in a head or in a table opens it, and does nothing else.
 use Rattle.std.proofs.Common.{◌≡◌, ℕ, Bool, true, false, not, ◌&&◌, ◌||◌, List, inl, inr, map, refl, sym, ap, ◌∙◌}
-use Rattle.std.specs.Prelude.{Option, Some, None}
-use Rattle.std.proofs.lemmas.Bool.{and_parts, not-true, or_cases}
+use Rattle.std.{proofs.lemmas.Bool.{and_parts, not-true, or_cases}, specs.Prelude.{Option, Some, None}}
 use Rattle.html_names_core.specs.Kinds.{is_void}
-use Rattle.html_page_nesting.specs.Contents.{has_unread_end}
-use Rattle.html_page_nesting.specs.NestingRules.{has_place, is_in_tables}
-use Rattle.html_page_nesting.specs.declared.reading.Place.{Place}
+use Rattle.html_page_nesting.specs.{Contents.{has_unread_end}, NestingRules.{has_place, is_in_tables}, declared.reading.Place.{Place}}
 use Rattle.html_page_nesting.specs.declared.reading.Place.TheVariants as place
-use Rattle.html_page_names.specs.PageNames.{kind_names, of}
-use Rattle.html_page_names.specs.declared.kind.Kind.{Kind}
+use Rattle.html_page_names.specs.{PageNames.{kind_names, of}, declared.kind.Kind.{Kind}}
 use Rattle.html_page_names.specs.declared.kind.Kind.TheVariants as kind
-use Rattle.html_page_stack.specs.Pages.{Page, Reads, Start, StartTag, Turn, opened, taken}
-use Rattle.html_page_stack.specs.declared.modes.Mode.{Mode}
+use Rattle.html_page_stack.specs.{Pages.{Page, Reads, Start, StartTag, Turn, opened, taken}, declared.modes.Mode.{Mode}}
 use Rattle.html_page_stack.specs.declared.modes.Mode.TheVariants.{InHead, InHeadNoscript, InTable, InColumns, InSection, InRow}
-use Rattle.html_page_tree.specs.PageBodies.{head_element, leaf}
-use Rattle.html_page_tree.specs.PageTrees.{by_mode}
+use Rattle.html_page_tree.specs.{PageBodies.{head_element, leaf}, PageTrees.{by_mode}}
+use Rattle.typst_html_nesting_laws.proofs.{Branches.{first_true}, KindFacts.{AllPass, agree_of, names, passes_of}, Modes.{mode_in}}
 use Rattle.typst_html_nesting_laws.proofs.Opened.{Opens, head_begun, leaf_begun, one_of}
-use Rattle.typst_html_nesting_laws.proofs.Branches.{first_true}
-use Rattle.typst_html_nesting_laws.proofs.KindFacts.{AllPass, agree_of, names, passes_of}
-use Rattle.typst_html_nesting_laws.proofs.Modes.{mode_in}
 
 -- neither `svg` nor `math`
 abbrev is_html_name : List ℕ → Bool

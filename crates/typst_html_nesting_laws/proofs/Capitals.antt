@@ -1,23 +1,14 @@
 -- Names that keep their case get their capitals back, once all their letters are small.
 use Rattle.std.proofs.Common.{◌≡◌, ℕ, Bool, true, false, not, List, [], ◌∷◌, bytes_eq, map, map-id, refl, sym, ap, ◌∙◌, arith, None, unwrap_or, find}
-use Rattle.std.specs.Char.{to_ascii_lowercase}
-use Rattle.std.specs.List.{list_any}
-use Rattle.std.specs.Prelude.{if◌then◌else◌}
-use Rattle.std.proofs.lemmas.Bool.{and_from, and_parts, both_ways, false_from_ne_true, not-true, or_parts}
-use Rattle.std.proofs.lemmas.Bool.Decides.{nat_tests}
+use Rattle.std.proofs.lemmas.{Bool.{and_from, and_parts, both_ways, false_from_ne_true, not-true, or_parts}, Bool.Decides.{nat_tests}}
 use Rattle.std.proofs.lemmas.Slice.Eq.{bytes_eq-Decides}
-use Rattle.html_names_core.proofs.Basics.{bytes_eq-same}
-use Rattle.html_names_core.specs.Characters.{is_capital}
-use Rattle.html_names_core.specs.Names.{stands_in}
-use Rattle.html_dom_tree.specs.Attributes.{first, has_name, names_differ}
-use Rattle.html_dom_tree.specs.Tree.{TextPair}
-use Rattle.html_page_nesting.specs.WrittenTags.{capital_attrs, keep_case, keeps_case}
-use Rattle.html_page_nesting.specs.declared.reading.Space.{Space}
+use Rattle.std.specs.{Char.{to_ascii_lowercase}, List.{list_any}, Prelude.{if◌then◌else◌}}
+use Rattle.html_names_core.{proofs.Basics.{bytes_eq-same}, specs.Characters.{is_capital}, specs.Names.{stands_in}}
+use Rattle.html_dom_tree.specs.{Attributes.{first, has_name, names_differ}, Tree.{TextPair}}
+use Rattle.html_page_nesting.specs.{WrittenTags.{capital_attrs, keep_case, keeps_case}, declared.reading.Space.{Space}}
 use Rattle.html_page_nesting.specs.declared.reading.Space.TheVariants.{Html}
 use Rattle.html_page_names.specs.ForeignNames.{lowered, with_capitals}
-use Rattle.typst_html_nesting_laws.proofs.Branches.{absent_parts}
-use Rattle.typst_html_nesting_laws.proofs.KindFacts.{AllFail, agree_in}
-use Rattle.typst_html_nesting_laws.proofs.Readers.{lowered_attrs}
+use Rattle.typst_html_nesting_laws.proofs.{Branches.{absent_parts}, KindFacts.{AllFail, agree_in}, Readers.{lowered_attrs}}
 
 -- a name without capitals is itself in small letters
 

@@ -1,16 +1,14 @@
 -- The start tag of an element that breaks no rule closes nothing before it.
 use Rattle.std.proofs.Common.{◌≡◌, ℕ, zero, suc, Bool, true, false, not, ◌&&◌, ◌||◌, List, [], ◌∷◌, length, inl, inr, refl, sym, ap, ◌∙◌, Ok}
-use Rattle.std.specs.Prelude.{if◌then◌else◌, None}
 use Rattle.std.proofs.lemmas.Bool.{and_from, and_left, and_parts, and_right, cases_Bool, false≢true, or_from, or_left, or_parts, or_right}
+use Rattle.std.specs.Prelude.{if◌then◌else◌, None}
 use Rattle.html_page_nesting.specs.Ancestors as nest
 use Rattle.html_page_nesting.specs.Ancestors.{Ancestor, bounds_scope, is_in, is_template}
 use Rattle.html_page_nesting.specs.NestingRules.{closes_item, closes_option, closes_paragraph, closes_ruby_part, closes_same, closing_misnesting, is_option_part}
 use Rattle.html_page_nesting.specs.Surroundings.{open_of, surroundings_of}
 use Rattle.html_page_nesting.specs.declared.misnesting.Misnesting.TheVariants as why
-use Rattle.html_page_nesting.specs.declared.surroundings.Open.{Open}
-use Rattle.html_page_nesting.specs.declared.surroundings.Surroundings.{Surroundings}
-use Rattle.html_page_names.specs.PageNames.{is, kind_names, of}
-use Rattle.html_page_names.specs.declared.kind.Kind.{Kind}
+use Rattle.html_page_nesting.specs.declared.surroundings.{Open.{Open}, Surroundings.{Surroundings}}
+use Rattle.html_page_names.specs.{PageNames.{is, kind_names, of}, declared.kind.Kind.{Kind}}
 use Rattle.html_page_names.specs.declared.kind.Kind.TheVariants as kind
 use Rattle.html_page_stack.specs.OpenElements as elements
 use Rattle.html_page_stack.specs.OpenElements.{OpenElement, bounds, has, has_item, in_scope, is_active, is_at}
@@ -20,8 +18,7 @@ use Rattle.html_page_stack.specs.declared.modes.Scope.TheVariants.{General, Butt
 use Rattle.html_page_tree.specs.PageBodies.{adopted, anchor_closed, closed_before, closed_before_block, formatted, heading_closed, item_closed, nested_closed, option_closed, p_closed, ruby_closed, select_closed, table_closes}
 use Rattle.typst_html_nesting_laws.proofs.Alike.{at_is, in_button_scope_is, in_scope_is, none_active, none_item, of_is, scope_is, unreached}
 use Rattle.typst_html_nesting_laws.proofs.Branches.{either, first_false, if_none, second_false, skip}
-use Rattle.typst_html_nesting_laws.proofs.Closed.{marks_hold_none, marks_lose_none}
-use Rattle.typst_html_nesting_laws.proofs.KindFacts.{AllPass, names, of_same, passes_of}
+use Rattle.typst_html_nesting_laws.proofs.{Closed.{marks_hold_none, marks_lose_none}, KindFacts.{AllPass, names, of_same, passes_of}}
 use Rattle.typst_html_nesting_laws.proofs.Ways.{AreAlike, HaveNoTemplate, IsAlike, IsCalm}
 
 -- a search for elements of a name, where there are none of its kind

@@ -1,44 +1,30 @@
 -- An end tag of the current node's name closes it, where nothing is misnested.
 use Rattle.std.proofs.Common.{◌≡◌, ℕ, Bool, true, false, not, ◌&&◌, ◌||◌, List, ◌∷◌, length, inl, inr, refl, sym, ap, subst, ◌∙◌, Ok}
-use Rattle.std.proofs.lemmas.Bool.{and_from, and_parts, cases_Bool, false≢true, or_from, or_left, or_parts}
-use Rattle.std.proofs.lemmas.Slice.Eq.{bytes_eq-Decides}
+use Rattle.std.proofs.lemmas.{Bool.{and_from, and_parts, cases_Bool, false≢true, or_from, or_left, or_parts}, Slice.Eq.{bytes_eq-Decides}}
 use Rattle.std.specs.Prelude.{None, bytes_eq, if◌then◌else◌}
 use Rattle.html_names_core.specs.Kinds.{is_foreign_self_closing, is_void}
 use Rattle.html_dom_tree.specs.Tree.{Head, NodesView}
 use Rattle.html_page_nesting.specs.Ancestors as nest
-use Rattle.html_page_nesting.specs.Ancestors.{Ancestor, ancestor, place_of, reading_of, space_of}
-use Rattle.html_page_nesting.specs.NestingRules.{element_misnesting}
-use Rattle.html_page_nesting.specs.Surroundings.{surroundings_of}
-use Rattle.html_page_nesting.specs.WrittenTags.{capital_tags, keeps_case}
-use Rattle.html_page_nesting.specs.declared.reading.Place.{Place}
+use Rattle.html_page_nesting.specs.{Ancestors.{Ancestor, ancestor, place_of, reading_of, space_of}, NestingRules.{element_misnesting}}
+use Rattle.html_page_nesting.specs.{Surroundings.{surroundings_of}, WrittenTags.{capital_tags, keeps_case}, declared.reading.Place.{Place}}
 use Rattle.html_page_nesting.specs.declared.reading.Place.TheVariants as place
-use Rattle.html_page_nesting.specs.declared.reading.Space.{Space}
-use Rattle.html_page_nesting.specs.declared.reading.Space.TheVariants.{Html}
-use Rattle.html_page_names.specs.ForeignNames.{lowered}
-use Rattle.html_page_names.specs.PageNames.{is, kind_names, of}
-use Rattle.html_page_names.specs.declared.kind.Kind.{Kind}
+use Rattle.html_page_nesting.specs.declared.reading.{Space.{Space}, Space.TheVariants.{Html}}
+use Rattle.html_page_names.specs.{ForeignNames.{lowered}, PageNames.{is, kind_names, of}, declared.kind.Kind.{Kind}}
 use Rattle.html_page_names.specs.declared.kind.Kind.TheVariants as kind
 use Rattle.html_page_stack.specs.OpenElements.{OpenElement, at, bounds, in_scope, is_at, is_foreign_of, is_html, mode, named_mode}
 use Rattle.html_page_stack.specs.Pages.{Page, End, ◌next◌, closed, closed_in, closed_to, closed_to_goal, closed_while, implied_closed, loses_some, no_name, noted, noted_if, refused, taken}
 use Rattle.html_page_stack.specs.declared.error.PageError.TheVariants as error
 use Rattle.html_page_stack.specs.declared.fault.PageRefusal.TheVariants as refusal
-use Rattle.html_page_stack.specs.declared.modes.Mode.{Mode}
+use Rattle.html_page_stack.specs.declared.modes.{Mode.{Mode}, Scope.{Scope}}
 use Rattle.html_page_stack.specs.declared.modes.Mode.TheVariants.{InHead, InHeadNoscript, InBody, InText, InTable, InCaption, InColumns, InSection, InRow, InCell}
-use Rattle.html_page_stack.specs.declared.modes.Scope.{Scope}
 use Rattle.html_page_stack.specs.declared.modes.Scope.TheVariants as scope
 use Rattle.html_page_tree.proofs.OwnEnds as own
 use Rattle.html_page_tree.specs.PageBodies.{element_ended, form_closed}
 use Rattle.html_page_tree.specs.PageTrees.{by_mode, closes_foreign, foreign_closed, in_foreign, in_foreign_end, part_closed, token_read, turn}
-use Rattle.typst_html_nesting_laws.proofs.Alike.{space_html}
-use Rattle.typst_html_nesting_laws.proofs.Branches.{either, pick}
-use Rattle.typst_html_nesting_laws.proofs.Capitals.{fails_small}
-use Rattle.typst_html_nesting_laws.proofs.Closed.{at_stack, marks_lose_none}
-use Rattle.typst_html_nesting_laws.proofs.KeptTags.{small_html}
-use Rattle.typst_html_nesting_laws.proofs.KindFacts.{AllFail, fails_of, names, outside_of}
-use Rattle.typst_html_nesting_laws.proofs.Modes.{brings, own_mode}
-use Rattle.typst_html_nesting_laws.proofs.Rules.{foreign_fits, tag_fits}
-use Rattle.typst_html_nesting_laws.proofs.Stands.{Stands, html_stands, parts}
-use Rattle.typst_html_nesting_laws.proofs.Steady.{around_steady}
+use Rattle.typst_html_nesting_laws.proofs.{Alike.{space_html}, Branches.{either, pick}, Capitals.{fails_small}}
+use Rattle.typst_html_nesting_laws.proofs.{Closed.{at_stack, marks_lose_none}, KeptTags.{small_html}}
+use Rattle.typst_html_nesting_laws.proofs.{KindFacts.{AllFail, fails_of, names, outside_of}, Modes.{brings, own_mode}}
+use Rattle.typst_html_nesting_laws.proofs.{Rules.{foreign_fits, tag_fits}, Stands.{Stands, html_stands, parts}, Steady.{around_steady}}
 use Rattle.typst_html_nesting_laws.proofs.Turns.{turn_taken}
 use Rattle.typst_html_nesting_laws.proofs.Ways.{AreAlike, IsAlike, IsCalm, IsSteady, ends_at_once, is_body_mode, is_page_place, marks}
 

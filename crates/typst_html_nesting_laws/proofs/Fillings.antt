@@ -1,49 +1,37 @@
 -- An element is opened, filled and closed: what stands in it leads to a page with one child more.
 use Rattle.std.proofs.Common.{◌≡◌, ℕ, ◌+◌, Bool, true, false, ◌&&◌, ◌||◌, inl, inr, List, [], ◌∷◌, ◌++◌, Option, codes, refl, sym, ap, subst, ◌∙◌, arith, Ok}
-use Rattle.std.specs.List.{fold}
-use Rattle.std.specs.Prelude.{if◌then◌else◌}
 use Rattle.std.proofs.lemmas.Bool.{and_from, and_parts, and_right, both_ways, false_from_ne_true, false≢true, not_from_false, or_cases}
-use Rattle.html_names_core.specs.Characters.{IsOf, all, is_tag_char, is_text_char}
-use Rattle.html_names_core.specs.Kinds.{is_escapable_raw, is_raw}
+use Rattle.std.specs.{List.{fold}, Prelude.{if◌then◌else◌}}
+use Rattle.html_names_core.specs.{Characters.{IsOf, all, is_tag_char, is_text_char}, Kinds.{is_escapable_raw, is_raw}}
 use Rattle.html_dom_tree.specs.PlainTree.{branch, Plains, plain, put_words, nodes_normal}
 use Rattle.html_dom_tree.specs.Tree.{Head, NodeView, tag_node, text_node, element_node, frame_node, NodesView, none, node, with_last}
 use Rattle.html_page_nesting.specs.Ancestors.{Ancestor, is_html, reading_of, space_of}
 use Rattle.html_page_nesting.specs.Contents.{begin_with_feed, is_escaped, is_listing, is_raw_when_read, state_behind}
-use Rattle.html_page_nesting.specs.WrittenTags.{begins_with_letter}
-use Rattle.html_page_nesting.specs.WrittenTexts.{has_return, is_empty}
+use Rattle.html_page_nesting.specs.{WrittenTags.{begins_with_letter}, WrittenTexts.{has_return, is_empty}}
 use Rattle.html_page_nesting.specs.declared.content.ScriptState.TheVariants as state
-use Rattle.typst_html_encode.proofs.Plainly.{shut}
-use Rattle.typst_html_encode.proofs.References.{raw_good}
-use Rattle.typst_html_encode.proofs.Runs.{left_empty, right_empty, test_fails}
-use Rattle.html_text.specs.ClosingTags.{holds_closing}
+use Rattle.typst_html_encode.proofs.{Plainly.{shut}, References.{raw_good}, Runs.{left_empty, right_empty, test_fails}}
 use Rattle.typst_html_encode.specs.Content.{by_kind, content_kind}
 use Rattle.typst_html_encode.specs.ExportFaults.{closing_faults, nodes_faults, nodes_raw_faults, raw_content_faults}
-use Rattle.typst_html_encode.specs.FrameWriters.{Frames}
-use Rattle.typst_html_encode.specs.Reader.{drops_feed}
+use Rattle.typst_html_encode.specs.{FrameWriters.{Frames}, Reader.{drops_feed}}
 use Rattle.typst_html_encode.specs.Text.{begins_with_feed, end_tag_text, escaped_text, escaping_of, feed_text, nodes_raw_text, nodes_text, start_tag_text}
 use Rattle.typst_html_encode.specs.declared.fault.ExportFault.{ExportFault}
+use Rattle.html_text.specs.ClosingTags.{holds_closing}
 use Rattle.typst_html_encode.specs.declared.fault.ExportFault.TheVariants as fault
-use Rattle.html_page_names.specs.ForeignNames.{lowered}
-use Rattle.html_page_names.specs.PageNames.{of}
+use Rattle.html_page_names.specs.{ForeignNames.{lowered}, PageNames.{of}}
 use Rattle.html_page_names.specs.declared.kind.Kind.TheVariants as kind
 use Rattle.html_page_stack.specs.OpenElements as open_elements
 use Rattle.html_page_stack.specs.OpenElements.{OpenElement, completed, is_at, is_of, with_last_child, with_text}
 use Rattle.html_page_stack.specs.Pages.{Page, StartTag, End, Start, closed}
 use Rattle.html_page_stack.specs.declared.modes.Space.TheVariants as spaces
 use Rattle.html_page_tree.specs.PageTrees.{token_read}
-use Rattle.html_page_read.specs.PageReading.{run}
-use Rattle.html_page_read.specs.PageTokens.{PageReader}
-use Rattle.typst_html_nesting_laws.proofs.Alike.{html_is, html_space}
-use Rattle.typst_html_nesting_laws.proofs.Branches.{second_false}
-use Rattle.typst_html_nesting_laws.proofs.Closed.{closed_is}
-use Rattle.typst_html_nesting_laws.proofs.EndTags.{end_emits}
+use Rattle.html_page_read.specs.{PageReading.{run}, PageTokens.{PageReader}}
+use Rattle.typst_html_nesting_laws.proofs.{Alike.{html_is, html_space}, Branches.{second_false}, Closed.{closed_is}, EndTags.{end_emits}}
 use Rattle.typst_html_nesting_laws.proofs.Forms.{AreGathered, IsFilled, are_texts, filled_normal, on, put_last, put_nodes, put_texted, put_texts, texted_children, texts_by_faults, with_text_is}
 use Rattle.typst_html_nesting_laws.proofs.InnerTexts.{feed_is, first_feed, none_closes, plain_texts, plains_written, states_of, texts_clean, texts_good, texts_written}
 use Rattle.typst_html_nesting_laws.proofs.KindFacts.{dropped_feed, escapable_same, feed_dropped, not_escapable, raw_keeps, script_or_style}
 use Rattle.typst_html_nesting_laws.proofs.RawTexts.{escapable_emits, raw_emits}
 use Rattle.typst_html_nesting_laws.proofs.Readers.{Emits, Takes, behind, data_at, raw_at, run_on, written_tag}
-use Rattle.typst_html_nesting_laws.proofs.Rules.{ContentFits, ForeignFits}
-use Rattle.typst_html_nesting_laws.proofs.Ways.{begun, begun_element, marks}
+use Rattle.typst_html_nesting_laws.proofs.{Rules.{ContentFits, ForeignFits}, Ways.{begun, begun_element, marks}}
 
 -- whether a line feed is still dropped behind a node, and behind nodes
 abbrev pub fresh_after : Bool → NodeView → Bool

@@ -1,17 +1,13 @@
 -- Children that are gathered, with the text since the last of them, and their normal form.
 use Rattle.std.proofs.Common.{◌≡◌, ℕ, Bool, true, false, List, [], ◌∷◌, ◌++◌, refl, sym, ap, ◌∙◌, Ok}
-use Rattle.html_dom_tree.proofs.Basics.{put_twice}
-use Rattle.html_dom_tree.specs.PlainTree.{branch, Plains, no_plains, plain, put_words, nodes_normal}
+use Rattle.html_dom_tree.{proofs.Basics.{put_twice}, specs.PlainTree.{branch, Plains, no_plains, plain, put_words, nodes_normal}}
 use Rattle.html_dom_tree.specs.Tree.{NodeView, tag_node, text_node, element_node, frame_node, NodesView, none, node, with_last}
 use Rattle.typst_html_encode.proofs.Runs.{right_empty}
-use Rattle.typst_html_encode.specs.ExportFaults.{nodes_raw_faults, text_faults, void_faults}
-use Rattle.typst_html_encode.specs.Text.{nodes_raw_text}
+use Rattle.typst_html_encode.specs.{ExportFaults.{nodes_raw_faults, text_faults, void_faults}, Text.{nodes_raw_text}}
 use Rattle.html_page_names.specs.ForeignNames.{lowered}
-use Rattle.html_page_stack.specs.OpenElements.{OpenElement, with_text}
-use Rattle.html_page_stack.specs.Pages.{Page, End}
+use Rattle.html_page_stack.specs.{OpenElements.{OpenElement, with_text}, Pages.{Page, End}}
 use Rattle.html_page_tree.specs.PageTrees.{token_read}
-use Rattle.html_page_read.specs.PageReading.{run}
-use Rattle.html_page_read.specs.PageTokens.{PageReader}
+use Rattle.html_page_read.specs.{PageReading.{run}, PageTokens.{PageReader}}
 use Rattle.typst_html_nesting_laws.proofs.Readers.{data_at, run_on}
 
 -- plain nodes behind a node, and behind nodes

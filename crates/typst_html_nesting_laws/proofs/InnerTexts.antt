@@ -1,37 +1,21 @@
 -- The texts in an element that breaks no rule, and how they are written.
 use Rattle.std.proofs.Common.{◌≡◌, ℕ, suc, Bool, true, false, not, ◌||◌, List, [], ◌∷◌, ◌++◌, None, refl, sym, ap, ◌∙◌, arith}
-use Rattle.std.specs.List.{fold, list_all}
-use Rattle.std.specs.Prelude.{◌==◌}
-use Rattle.std.specs.Char.{to_ascii_lowercase}
-use Rattle.std.proofs.Math.Bool.{or-false}
-use Rattle.std.proofs.lemmas.Bool.{and_from, and_parts, false≢true, not-true, or_from, or_parts}
-use Rattle.std.proofs.lemmas.Bool.Decides.{nat_tests}
-use Rattle.std.proofs.lemmas.List.Folds.{list_all-append, list_any-append}
-use Rattle.std.proofs.lemmas.List.Sums.{fold-append}
-use Rattle.html_names_core.specs.Characters.{all, is_element_text_char, is_text_char}
-use Rattle.html_names_core.proofs.Basics.{all_append}
+use Rattle.std.proofs.{Math.Bool.{or-false}, lemmas.Bool.{and_from, and_parts, false≢true, not-true, or_from, or_parts}}
+use Rattle.std.proofs.lemmas.{Bool.Decides.{nat_tests}, List.Folds.{list_all-append, list_any-append}, List.Sums.{fold-append}}
+use Rattle.std.specs.{Char.{to_ascii_lowercase}, List.{fold, list_all}, Prelude.{◌==◌}}
+use Rattle.html_names_core.{proofs.Basics.{all_append}, specs.Characters.{all, is_element_text_char, is_text_char}}
 use Rattle.html_dom_tree.specs.Tree.{tag_node, text_node, NodesView, none, node}
-use Rattle.html_page_nesting.specs.Ancestors.{Ancestor}
-use Rattle.html_page_nesting.specs.Contents.{are_plain, begin_with_feed, state_behind, state_behind_nodes}
-use Rattle.html_page_nesting.specs.Misnested.{found, node_misnested, nodes_misnested}
-use Rattle.html_page_nesting.specs.NestingRules.{text_misnesting}
-use Rattle.html_page_nesting.specs.Surroundings.{surroundings_of}
-use Rattle.html_page_nesting.specs.WrittenTexts.{has_return, is_plain_char, is_plain_text, is_return}
+use Rattle.html_page_nesting.specs.{Ancestors.{Ancestor}, Contents.{are_plain, begin_with_feed, state_behind, state_behind_nodes}}
+use Rattle.html_page_nesting.specs.{Misnested.{found, node_misnested, nodes_misnested}, NestingRules.{text_misnesting}}
+use Rattle.html_page_nesting.specs.{Surroundings.{surroundings_of}, WrittenTexts.{has_return, is_plain_char, is_plain_text, is_return}}
 use Rattle.html_page_nesting.specs.declared.content.ScriptState.{ScriptState}
 use Rattle.html_page_nesting.specs.declared.misnesting.Misnesting.TheVariants as why
 use Rattle.html_page_nesting.specs.declared.surroundings.Surroundings.{Surroundings}
-use Rattle.typst_html_encode.proofs.Escapes.{escaped_text-append}
-use Rattle.typst_html_encode.proofs.Plainly.{shut}
-use Rattle.typst_html_encode.proofs.References.{text_good}
-use Rattle.typst_html_encode.proofs.Runs.{left_empty, right_empty}
-use Rattle.html_text.specs.ClosingTags.{holds_closing}
-use Rattle.typst_html_encode.specs.ExportFaults.{node_faults, nodes_faults, text_faults}
-use Rattle.typst_html_encode.specs.FrameWriters.{Frames}
+use Rattle.typst_html_encode.proofs.{Escapes.{escaped_text-append}, Plainly.{shut}, References.{text_good}, Runs.{left_empty, right_empty}}
+use Rattle.typst_html_encode.specs.{ExportFaults.{node_faults, nodes_faults, text_faults}, FrameWriters.{Frames}}
 use Rattle.typst_html_encode.specs.Text.{begins_with_feed, escaped_text, escaping_of, node_text, nodes_raw_text, nodes_text}
-use Rattle.typst_html_nesting_laws.proofs.Branches.{if_none}
-use Rattle.typst_html_nesting_laws.proofs.Forms.{are_texts}
-use Rattle.typst_html_nesting_laws.proofs.Rules.{found_none}
-use Rattle.typst_html_nesting_laws.proofs.Texts.{begins_with_lf}
+use Rattle.html_text.specs.ClosingTags.{holds_closing}
+use Rattle.typst_html_nesting_laws.proofs.{Branches.{if_none}, Forms.{are_texts}, Rules.{found_none}, Texts.{begins_with_lf}}
 
 pub no_return : (s : List ℕ) (around : Surroundings) → text_misnesting s around ≡ None →
     has_return s ≡ false

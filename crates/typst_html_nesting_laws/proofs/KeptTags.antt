@@ -1,28 +1,20 @@
 -- A start tag whose name and attributes keep their case is read as it is.
 use Rattle.std.proofs.Common.{◌≡◌, ℕ, ◌<◌, Bool, true, false, not, List, [], length, inl, inr, map-id, refl, sym, ap, ◌∙◌, Ok}
-use Rattle.std.specs.Prelude.{if◌then◌else◌}
-use Rattle.std.proofs.lemmas.Bool.{cases_Bool, false≢true}
+use Rattle.std.{proofs.lemmas.Bool.{cases_Bool, false≢true}, specs.Prelude.{if◌then◌else◌}}
 use Rattle.html_names_core.specs.Kinds.{is_foreign_self_closing}
-use Rattle.html_dom_tree.specs.Attributes.{names_differ}
-use Rattle.html_dom_tree.specs.Tree.{TextPair, Head}
+use Rattle.html_dom_tree.specs.{Attributes.{names_differ}, Tree.{TextPair, Head}}
 use Rattle.html_page_nesting.specs.Ancestors.{begun_space, is_html, is_read_as_html, space_of}
-use Rattle.html_page_nesting.specs.WrittenTags.{capital_attrs, capital_tags, keep_case, keeps_case}
-use Rattle.html_page_nesting.specs.declared.reading.Reading.{Reading}
+use Rattle.html_page_nesting.specs.{WrittenTags.{capital_attrs, capital_tags, keep_case, keeps_case}, declared.reading.Reading.{Reading}}
 use Rattle.html_page_nesting.specs.declared.reading.Reading.TheVariants as reading
-use Rattle.html_page_nesting.specs.declared.reading.Space.{Space}
-use Rattle.html_page_nesting.specs.declared.reading.Space.TheVariants.{Html, Svg, MathMl}
-use Rattle.html_page_names.specs.ForeignNames.{lowered, svg_attrs, svg_names, math_attrs}
-use Rattle.html_page_names.specs.PageNames.{of}
+use Rattle.html_page_nesting.specs.declared.reading.{Space.{Space}, Space.TheVariants.{Html, Svg, MathMl}}
+use Rattle.html_page_names.specs.{ForeignNames.{lowered, svg_attrs, svg_names, math_attrs}, PageNames.{of}}
 use Rattle.html_page_names.specs.declared.kind.Kind.TheVariants as kind
 use Rattle.html_page_stack.specs.Pages.{Page, StartTag, ◌next◌, opened}
 use Rattle.html_page_stack.specs.declared.modes.Space.TheVariants as spaces
 use Rattle.html_page_tree.specs.PageBodies.{entered, foreign_attrs, foreign_name}
-use Rattle.typst_html_nesting_laws.proofs.Opened.{Opens, made, one_of, opens}
 use Rattle.typst_html_nesting_laws.proofs.Capitals.{attrs_back, attrs_come_back, attrs_small, capitals_back, names_lowered_differ, small_back}
-use Rattle.typst_html_nesting_laws.proofs.KindFacts.{agree_of, fails_of, names}
-use Rattle.typst_html_nesting_laws.proofs.Readers.{lowered_attrs, written_tag}
-use Rattle.typst_html_nesting_laws.proofs.Rules.{TagFits}
-use Rattle.typst_html_nesting_laws.proofs.Ways.{open_space}
+use Rattle.typst_html_nesting_laws.proofs.{KindFacts.{agree_of, fails_of, names}, Opened.{Opens, made, one_of, opens}}
+use Rattle.typst_html_nesting_laws.proofs.{Readers.{lowered_attrs, written_tag}, Rules.{TagFits}, Ways.{open_space}}
 
 -- its attributes differ in small letters
 pub lowered_differ : (s : Space) (h : Head) → TagFits s h →

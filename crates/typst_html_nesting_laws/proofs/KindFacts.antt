@@ -6,9 +6,7 @@ use Rattle.html_names_core.specs.Kinds.{foreign_self_closing_names, is_escapable
 use Rattle.html_names_core.specs.Names.{stands_in}
 use Rattle.html_page_nesting.specs.Contents.{is_listing}
 use Rattle.typst_html_encode.specs.Reader.{drops_feed}
-use Rattle.html_page_names.specs.ForeignNames.{lowered}
-use Rattle.html_page_names.specs.PageNames.{kind_names, is, of}
-use Rattle.html_page_names.specs.declared.kind.Kind.{Kind}
+use Rattle.html_page_names.specs.{ForeignNames.{lowered}, PageNames.{kind_names, is, of}, declared.kind.Kind.{Kind}}
 use Rattle.html_page_names.specs.declared.kind.Kind.TheVariants as kind
 use Rattle.typst_html_nesting_laws.proofs.Branches.{second_true}
 

@@ -1,17 +1,12 @@
 -- The mode that an element of HTML brings, that around it, and what may stand in it.
-use Rattle.std.proofs.Common.{◌≡◌, ℕ, Bool, true, false, ◌&&◌, List, ◌∷◌, length, map, refl, ap, ◌∙◌}
-use Rattle.std.proofs.Math.Dec.{eqb-suc-zero}
-use Rattle.std.proofs.lemmas.Bool.{and_parts, false≢true}
-use Rattle.std.proofs.lemmas.Option.{none-some}
+use Rattle.std.proofs.{Common.{◌≡◌, ℕ, Bool, true, false, ◌&&◌, List, ◌∷◌, length, map, refl, ap, ◌∙◌}, Math.Dec.{eqb-suc-zero}}
+use Rattle.std.proofs.lemmas.{Bool.{and_parts, false≢true}, Option.{none-some}}
 use Rattle.std.specs.Prelude.{if◌then◌else◌, ◌==◌, Option, Some, None, unwrap_or}
-use Rattle.html_page_nesting.specs.Ancestors.{place_in}
-use Rattle.html_page_nesting.specs.declared.reading.Place.{Place}
+use Rattle.html_page_nesting.specs.{Ancestors.{place_in}, declared.reading.Place.{Place}}
 use Rattle.html_page_nesting.specs.declared.reading.Place.TheVariants as place
-use Rattle.html_page_names.specs.PageNames.{kind_names, of}
-use Rattle.html_page_names.specs.declared.kind.Kind.{Kind}
+use Rattle.html_page_names.specs.{PageNames.{kind_names, of}, declared.kind.Kind.{Kind}}
 use Rattle.html_page_names.specs.declared.kind.Kind.TheVariants as kind
-use Rattle.html_page_stack.specs.OpenElements.{OpenElement, html_mode, is_at, is_html, mode, named_mode}
-use Rattle.html_page_stack.specs.declared.modes.Mode.{Mode}
+use Rattle.html_page_stack.specs.{OpenElements.{OpenElement, html_mode, is_at, is_html, mode, named_mode}, declared.modes.Mode.{Mode}}
 use Rattle.html_page_stack.specs.declared.modes.Mode.TheVariants.{InHead, InHeadNoscript, InText, InTable, InCaption, InColumns, InSection, InRow, InCell}
 use Rattle.typst_html_nesting_laws.proofs.KindFacts.{agree_of, names}
 

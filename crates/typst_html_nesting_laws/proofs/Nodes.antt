@@ -1,52 +1,36 @@
 -- Nodes that break no rule are read as they are.
 use Rattle.std.proofs.Common.{◌≡◌, ℕ, suc, ◌+◌, ◌<◌, ◌≤◌, Bool, true, false, ◌&&◌, List, [], ◌∷◌, ◌++◌, Some, None, length, refl, sym, ap, subst, ◌∙◌, append-nil, arith, Ok}
-use Rattle.std.specs.List.{list_all}
-use Rattle.std.specs.Prelude.{if◌then◌else◌}
 use Rattle.std.proofs.lemmas.Bool.{and_left, and_parts, and_right, both_ways, false_from_ne_true, false≢true, ltb-false, true≢false}
+use Rattle.std.specs.{List.{list_all}, Prelude.{if◌then◌else◌}}
 use Rattle.html_names_core.specs.Kinds.{is_escapable_raw, is_raw}
-use Rattle.html_dom_tree.proofs.Basics.{put_twice}
-use Rattle.html_dom_tree.specs.FrameFree.{NodeIsFrameFree, NodesAreFrameFree}
+use Rattle.html_dom_tree.{proofs.Basics.{put_twice}, specs.FrameFree.{NodeIsFrameFree, NodesAreFrameFree}}
 use Rattle.html_dom_tree.specs.Tree.{Head, NodeView, tag_node, text_node, element_node, frame_node, NodesView, none, node}
-use Rattle.html_page_nesting.specs.Ancestors.{Ancestor, ancestor, is_html, place_of, reading_of, space_of}
-use Rattle.html_page_nesting.specs.Contents.{begin_with_feed}
+use Rattle.html_page_nesting.specs.{Ancestors.{Ancestor, ancestor, is_html, place_of, reading_of, space_of}, Contents.{begin_with_feed}}
 use Rattle.html_page_nesting.specs.Misnested.{Finding, found, node_misnested, nodes_misnested}
 use Rattle.html_page_nesting.specs.NestingRules.{element_misnesting, is_too_deep, stranger_misnesting, text_misnesting}
-use Rattle.html_page_nesting.specs.Surroundings.{surroundings_of}
-use Rattle.html_page_nesting.specs.WrittenTexts.{has_return, is_empty, is_white, is_white_char}
+use Rattle.html_page_nesting.specs.{Surroundings.{surroundings_of}, WrittenTexts.{has_return, is_empty, is_white, is_white_char}}
 use Rattle.html_page_nesting.specs.declared.misnesting.Misnesting.TheVariants as why
 use Rattle.html_page_nesting.specs.declared.reading.Place.{Place}
 use Rattle.html_page_nesting.specs.declared.reading.Place.TheVariants as place
 use Rattle.html_page_nesting.specs.declared.reading.Space.{Space}
-use Rattle.typst_html_encode.proofs.Plainly.{shut}
-use Rattle.typst_html_encode.proofs.Runs.{left_empty, right_empty}
-use Rattle.typst_html_encode.specs.ExportFaults.{attrs_faults, node_faults, nodes_faults, text_faults, void_faults}
-use Rattle.typst_html_encode.specs.FrameWriters.{Frames}
-use Rattle.typst_html_encode.specs.Layout.{due_after}
-use Rattle.typst_html_encode.specs.ReadingBack.{HeadIsNamed, NodeIsNamed, NodesAreNamed}
+use Rattle.typst_html_encode.proofs.{Plainly.{shut}, Runs.{left_empty, right_empty}}
+use Rattle.typst_html_encode.specs.{ExportFaults.{attrs_faults, node_faults, nodes_faults, text_faults, void_faults}, FrameWriters.{Frames}}
+use Rattle.typst_html_encode.specs.{Layout.{due_after}, ReadingBack.{HeadIsNamed, NodeIsNamed, NodesAreNamed}}
 use Rattle.typst_html_encode.specs.Text.{escaped_text, escaping_of, node_text, nodes_raw_text, nodes_text, start_tag_text}
-use Rattle.html_page_names.specs.ForeignNames.{lowered}
-use Rattle.html_page_names.specs.PageNames.{of}
+use Rattle.html_page_names.specs.{ForeignNames.{lowered}, PageNames.{of}}
 use Rattle.html_page_names.specs.declared.kind.Kind.TheVariants as kind
-use Rattle.html_page_stack.specs.OpenElements.{OpenElement, is_at, is_of}
-use Rattle.html_page_stack.specs.Pages.{Page, End, Start, closed}
+use Rattle.html_page_stack.specs.{OpenElements.{OpenElement, is_at, is_of}, Pages.{Page, End, Start, closed}}
 use Rattle.html_page_tree.specs.PageTrees.{token_read}
-use Rattle.html_page_read.specs.PageReading.{run}
-use Rattle.html_page_read.specs.PageTokens.{PageReader, most_attrs}
-use Rattle.typst_html_nesting_laws.proofs.Alike.{html_is, html_space}
-use Rattle.typst_html_nesting_laws.proofs.Begun.{start_taken}
-use Rattle.typst_html_nesting_laws.proofs.Branches.{else_none, if_none}
-use Rattle.typst_html_nesting_laws.proofs.Closed.{calm_begun}
-use Rattle.typst_html_nesting_laws.proofs.Ended.{end_taken}
+use Rattle.html_page_read.specs.{PageReading.{run}, PageTokens.{PageReader, most_attrs}}
+use Rattle.typst_html_nesting_laws.proofs.{Alike.{html_is, html_space}, Begun.{start_taken}, Branches.{else_none, if_none}}
+use Rattle.typst_html_nesting_laws.proofs.{Closed.{calm_begun}, Ended.{end_taken}}
 use Rattle.typst_html_nesting_laws.proofs.Fillings.{KidsAreGathered, alone_filled, around, behind_data, child_normal, closes, element_closed, foreign_filled, fresh_behind, html_filled, filling, inside_faults, opened, opened_page, with_child}
 use Rattle.typst_html_nesting_laws.proofs.Forms.{AreGathered, IsFilled, gathered_on, no_children, on, put_nodes, texted_children, with_text_is}
-use Rattle.typst_html_nesting_laws.proofs.InnerTexts.{all_pass, no_return, no_returns}
-use Rattle.typst_html_nesting_laws.proofs.KeptTags.{lowered_differ, small_html}
+use Rattle.typst_html_nesting_laws.proofs.{InnerTexts.{all_pass, no_return, no_returns}, KeptTags.{lowered_differ, small_html}}
 use Rattle.typst_html_nesting_laws.proofs.KindFacts.{escapable_of, once_keeps, raw_of}
 use Rattle.typst_html_nesting_laws.proofs.Readers.{Emits, Takes, behind, data_at, written_tag}
 use Rattle.typst_html_nesting_laws.proofs.Rules.{ContentFits, TagFits, content_fits, foreign_fits, found_none, html_read, still_no_page, tag_fits}
-use Rattle.typst_html_nesting_laws.proofs.StartTags.{start_emits}
-use Rattle.typst_html_nesting_laws.proofs.Steady.{steady_begun}
-use Rattle.typst_html_nesting_laws.proofs.Taken.{body_takes, raw_takes, white_takes}
+use Rattle.typst_html_nesting_laws.proofs.{StartTags.{start_emits}, Steady.{steady_begun}, Taken.{body_takes, raw_takes, white_takes}}
 use Rattle.typst_html_nesting_laws.proofs.Texts.{begins_with_lf, text_leads}
 use Rattle.typst_html_nesting_laws.proofs.Ways.{AreAlike, IsAlike, IsCalm, IsSteady, ends_at_once, is_page_place, marks}
 use Rattle.typst_html_nesting_laws.specs.TreesStay.{NodeIsReadable, NodesAreReadable}

@@ -1,7 +1,7 @@
 -- An element is opened by its start tag, and closed at once where it is its start tag alone.
 use Rattle.std.proofs.Common.{◌≡◌, ℕ, ◌<◌, Bool, true, false, not, ◌||◌, List, length, refl, sym, ap, ◌∙◌, Ok}
-use Rattle.std.specs.Prelude.{if◌then◌else◌}
 use Rattle.std.proofs.lemmas.Bool.{both_ways, false_from_ne_true, lt-leb, not-false, not-true, or_from, or_right}
+use Rattle.std.specs.Prelude.{if◌then◌else◌}
 use Rattle.html_names_core.specs.Kinds.{is_void, void_names}
 use Rattle.html_dom_tree.specs.Tree.{TextPair, none}
 use Rattle.html_page_nesting.specs.Contents.{has_unread_end}
@@ -12,8 +12,7 @@ use Rattle.html_page_stack.specs.declared.fault.PageRefusal.TheVariants as refus
 use Rattle.html_page_stack.specs.declared.modes.Space.{Space}
 use Rattle.html_page_stack.specs.declared.modes.Space.TheVariants as spaces
 use Rattle.html_page_tree.specs.PageBodies.{entered, head_element, leaf}
-use Rattle.typst_html_nesting_laws.proofs.Branches.{either, second_false, second_true}
-use Rattle.typst_html_nesting_laws.proofs.KindFacts.{agree_in, fails_of, names, passes_of}
+use Rattle.typst_html_nesting_laws.proofs.{Branches.{either, second_false, second_true}, KindFacts.{agree_in, fails_of, names, passes_of}}
 
 -- the page with an element opened
 abbrev pub made : Space → (name : List ℕ) → List TextPair → Page → Page

@@ -1,34 +1,23 @@
 -- Elements of text alone are read as they are, as far as their end tags.
 use Rattle.std.proofs.Common.{◌≡◌, ℕ, zero, suc, ◌+◌, ◌-◌, ◌<◌, ◌≤◌, min, Bool, true, false, ◌&&◌, ◌⊎◌, inl, inr, eqb, List, [], ◌∷◌, ◌++◌, codes, length, take, drop, map, Some, None, refl, ap, ◌∙◌, sym, subst, append_assoc, arith, length-append, Ok}
-use Rattle.std.specs.Prelude.{if◌then◌else◌, nat_le}
-use Rattle.std.specs.Char.{len_utf8, to_ascii_lowercase}
-use Rattle.std.specs.List.{fold}
-use Rattle.std.proofs.Math.Seq.{drop-append-add}
+use Rattle.std.proofs.Math.{Bool.{and-false}, Seq.{drop-append-add}}
 use Rattle.std.proofs.lemmas.Bool.{and_parts, and_from, and_left, and_right, both_ways, or_parts, cases_Bool, false_from_ne_true, false≢true, eqb-true, leb-true, le-leb}
-use Rattle.std.proofs.Math.Bool.{and-false}
-use Rattle.std.proofs.lemmas.Bool.Decides.{nat_tests}
-use Rattle.std.proofs.lemmas.List.{append-nil, take-append-drop, take_at, drop_at, length-map}
-use Rattle.std.proofs.lemmas.List.Sums.{fold-append}
-use Rattle.std.proofs.lemmas.Slice.Eq.{bytes_eq-Decides}
-use Rattle.html_names_core.specs.Characters.{all, is_element_text_char, is_lower, is_tag_char, is_text_char}
-use Rattle.html_names_core.proofs.Basics.{all_append}
-use Rattle.html_page_nesting.specs.Contents.{is_escaped, state_behind}
-use Rattle.html_page_nesting.specs.WrittenTexts.{has_return, is_return}
+use Rattle.std.proofs.lemmas.{List.{append-nil, take-append-drop, take_at, drop_at, length-map}, Bool.Decides.{nat_tests}}
+use Rattle.std.proofs.lemmas.{List.Sums.{fold-append}, Slice.Eq.{bytes_eq-Decides}}
+use Rattle.std.specs.{Char.{len_utf8, to_ascii_lowercase}, List.{fold}, Prelude.{if◌then◌else◌, nat_le}}
+use Rattle.html_names_core.{proofs.Basics.{all_append}, specs.Characters.{all, is_element_text_char, is_lower, is_tag_char, is_text_char}}
+use Rattle.html_page_nesting.specs.{Contents.{is_escaped, state_behind}, WrittenTexts.{has_return, is_return}}
 use Rattle.html_page_nesting.specs.declared.content.ScriptState.{ScriptState}
 use Rattle.html_page_nesting.specs.declared.content.ScriptState.TheVariants as state
 use Rattle.typst_html_encode.proofs.RawBack.{ends_holds, is_not_less, no_end_at_less, tag_ends}
-use Rattle.html_text.specs.ClosingTags.{is_tag_end, closing, holds_closing, ends_closing, before_closing}
-use Rattle.typst_html_encode.specs.References.{reference_to}
-use Rattle.typst_html_encode.specs.Text.{char_text, end_tag_text, escaped_text, escaping_of}
-use Rattle.html_text.specs.RawEnds.{ends_in, ends_raw}
+use Rattle.typst_html_encode.specs.{References.{reference_to}, Text.{char_text, end_tag_text, escaped_text, escaping_of}}
+use Rattle.html_text.specs.{ClosingTags.{is_tag_end, closing, holds_closing, ends_closing, before_closing}, RawEnds.{ends_in, ends_raw}}
 use Rattle.html_page_names.specs.PageNames.{of}
 use Rattle.html_page_names.specs.declared.kind.Kind.TheVariants as kind
-use Rattle.html_page_stack.specs.OpenElements.{OpenElement, current_name, is_at}
-use Rattle.html_page_stack.specs.Pages.{Page, Token, End, ◌next◌}
+use Rattle.html_page_stack.specs.{OpenElements.{OpenElement, current_name, is_at}, Pages.{Page, Token, End, ◌next◌}}
 use Rattle.html_page_stack.specs.declared.modes.Space.TheVariants as spaces
 use Rattle.html_page_tree.specs.PageTrees.{token_read}
-use Rattle.html_page_read.proofs.PageStretches.{other}
-use Rattle.html_page_read.specs.PageReading.{run}
+use Rattle.html_page_read.{proofs.PageStretches.{other}, specs.PageReading.{run}}
 use Rattle.html_page_read.specs.PageTokens.{Raw, Reference, PageReader, depth_behind, ended_name, ended_of, is_name, may_end, step}
 use Rattle.typst_html_nesting_laws.proofs.KindFacts.{fails_of, names, passes_of}
 use Rattle.typst_html_nesting_laws.proofs.Readers.{Emits, Takes, data_at, raw_at, reading_at, run_on, texted}

@@ -2,13 +2,11 @@
 use Rattle.std.proofs.Common.{◌≡◌, ℕ, ◌+◌, Bool, true, false, List, [], ◌∷◌, ◌++◌, refl, ap, ◌∙◌, Ok, Err, map}
 use Rattle.html_names_core.specs.Kinds.{is_foreign_self_closing}
 use Rattle.html_dom_tree.specs.Tree.{TextPair, Head}
-use Rattle.html_page_names.specs.ForeignNames.{lowered}
-use Rattle.html_page_names.specs.PageNames.{of}
+use Rattle.html_page_names.specs.{ForeignNames.{lowered}, PageNames.{of}}
 use Rattle.html_page_names.specs.declared.kind.Kind.TheVariants as kind
 use Rattle.html_page_stack.specs.Pages.{Page, Reads, StartTag, Token, Char, Start, ◌next◌, with_char}
 use Rattle.html_page_tree.specs.PageTrees.{token_read}
-use Rattle.html_page_read.specs.PageReading.{run}
-use Rattle.html_page_read.specs.PageTokens.{Data, Raw, Reading, PageReader, behind_start_tag, past_char, step}
+use Rattle.html_page_read.specs.{PageReading.{run}, PageTokens.{Data, Raw, Reading, PageReader, behind_start_tag, past_char, step}}
 
 -- how far a page is read, where no carriage return was read before
 abbrev pub reading_at : (fresh : Bool) (place : ℕ) → Page → Reading

@@ -1,6 +1,5 @@
 -- Where a tree stays, both readers read the same.
-use Rattle.std.proofs.Common.{ap, sym, ◌∙◌}
-use Rattle.std.specs.Prelude.{Some}
+use Rattle.std.{proofs.Common.{ap, sym, ◌∙◌}, specs.Prelude.{Some}}
 use Rattle.typst_html_encode.proofs.ReadingBack.{plain_reads_back}
 use Rattle.typst_html_nesting_laws.specs.TreesStay.{ReadersAgree, TreesStay}
 

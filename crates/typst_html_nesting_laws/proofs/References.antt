@@ -1,23 +1,17 @@
 -- References that are written are read as the characters that they stand for.
 use Rattle.std.proofs.Common.{◌≡◌, ℕ, ◌+◌, ◌<◌, Bool, true, false, not, ◌||◌, ◌&&◌, inl, inr, subst, eqb, List, [], ◌∷◌, ◌++◌, Some, None, codes, length, arith, refl, ap, ◌∙◌, sym, append_assoc, Ok, Err}
-use Rattle.std.specs.Prelude.{if◌then◌else◌, nat_lt, nat_le}
-use Rattle.std.specs.Char.{digit_value, len_utf8}
-use Rattle.std.specs.Fmt.{digits}
+use Rattle.std.proofs.lemmas.{Bool.{cases_Bool, eqb-true, and_from, and_parts, ne_eqb, not-true, ltb-true}, Fmt.{digits_is_IsNumeral}}
+use Rattle.std.proofs.lemmas.{List.{append-nil}, Bool.Decides.{nat_tests}}
+use Rattle.std.specs.{Char.{digit_value, len_utf8}, Fmt.{digits}, Prelude.{if◌then◌else◌, nat_lt, nat_le}}
 use Rattle.std.specs.Str.Parse.{AllDigits, digits_value}
-use Rattle.std.proofs.lemmas.Bool.{cases_Bool, eqb-true, and_from, and_parts, ne_eqb, not-true, ltb-true}
-use Rattle.std.proofs.lemmas.Bool.Decides.{nat_tests}
-use Rattle.std.proofs.lemmas.Fmt.{digits_is_IsNumeral}
-use Rattle.std.proofs.lemmas.List.{append-nil}
 use Rattle.html_names_core.specs.Characters.{is_text_char, is_control, is_noncharacter}
 use Rattle.html_page_nesting.specs.WrittenTexts.{is_return}
-use Rattle.typst_html_encode.proofs.References.{numeric_is, text_scalar}
-use Rattle.typst_html_encode.specs.References.{numeric, reference_to}
+use Rattle.typst_html_encode.{proofs.References.{numeric_is, text_scalar}, specs.References.{numeric, reference_to}}
 use Rattle.html_page_names.specs.NamedReferences.{legacy_reference, named_reference, value_in_groups}
 use Rattle.html_page_names.specs.ReferenceRows.{legacy_groups, other_groups}
 use Rattle.html_page_stack.specs.Pages.{Page, Reads, ◌next◌}
 use Rattle.html_page_tree.specs.PageBodies.{is_space}
-use Rattle.html_page_read.proofs.PageStretches.{other}
-use Rattle.html_page_read.specs.PageReading.{run}
+use Rattle.html_page_read.{proofs.PageStretches.{other}, specs.PageReading.{run}}
 use Rattle.html_page_read.specs.PageReferences.{Resolved, continues, continues_number, is_hex_digit, is_surrogate, numbered, numbered_char, number_error, resolved}
 use Rattle.html_page_read.specs.PageTokens.{TagDraft, TokenState, Value, Reference, PageReader, in_value, past_char, reference_read, step}
 use Rattle.typst_html_nesting_laws.proofs.Readers.{reading_at, run_on}

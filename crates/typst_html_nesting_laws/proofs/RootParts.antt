@@ -1,20 +1,15 @@
 -- The elements `html`, `head` and `body`: their names, modes and start tags.
 use Rattle.std.proofs.Common.{◌≡◌, ℕ, Bool, true, false, List, [], ◌∷◌, None, codes, length, map, refl, sym, ap, ◌∙◌}
-use Rattle.std.specs.Prelude.{◌==◌, if◌then◌else◌, unwrap_or}
-use Rattle.std.proofs.lemmas.Slice.Eq.{bytes_eq-Decides}
-use Rattle.html_names_core.specs.Kinds.{is_escapable_raw, is_foreign_self_closing, is_raw, is_void}
-use Rattle.html_names_core.specs.Names.{listed_names, stands_in}
+use Rattle.std.{proofs.lemmas.Slice.Eq.{bytes_eq-Decides}, specs.Prelude.{◌==◌, if◌then◌else◌, unwrap_or}}
+use Rattle.html_names_core.specs.{Kinds.{is_escapable_raw, is_foreign_self_closing, is_raw, is_void}, Names.{listed_names, stands_in}}
 use Rattle.html_page_nesting.specs.Ancestors.{begun_space}
 use Rattle.html_page_nesting.specs.declared.reading.Space.TheVariants as nest
 use Rattle.typst_html_encode.specs.Reader.{drops_feed}
-use Rattle.html_page_names.specs.ForeignNames.{lowered}
-use Rattle.html_page_names.specs.PageNames.{kind_names, of}
-use Rattle.html_page_names.specs.declared.kind.Kind.{Kind}
+use Rattle.html_page_names.specs.{ForeignNames.{lowered}, PageNames.{kind_names, of}, declared.kind.Kind.{Kind}}
 use Rattle.html_page_names.specs.declared.kind.Kind.TheVariants as kind
 use Rattle.html_page_stack.specs.OpenElements as open_elements
 use Rattle.html_page_stack.specs.OpenElements.{OpenElement, completed, has_elements, html_mode, is_at, mode, named_mode, with_text}
-use Rattle.html_page_stack.specs.Pages.{Page, StartTag, Start, opened, taken}
-use Rattle.html_page_stack.specs.declared.modes.Mode.{Mode}
+use Rattle.html_page_stack.specs.{Pages.{Page, StartTag, Start, opened, taken}, declared.modes.Mode.{Mode}}
 use Rattle.html_page_stack.specs.declared.modes.Space.TheVariants as spaces
 use Rattle.html_page_tree.specs.PageBodies.{before as before_element, implied, repeated}
 use Rattle.typst_html_nesting_laws.proofs.KindFacts.{AllFail, agree_in, agree_of, names}

@@ -1,16 +1,12 @@
 -- The text of a page is read as its root: the document type, `html`, `head`, `body`, and the end.
 use Rattle.std.proofs.Common.{◌≡◌, ℕ, ◌+◌, ◌<◌, Bool, true, false, List, [], ◌∷◌, ◌++◌, codes, length, refl, sym, ap, subst, ◌∙◌, append-nil, append_assoc, arith, Ok}
-use Rattle.std.specs.Prelude.{if◌then◌else◌}
-use Rattle.std.proofs.lemmas.Bool.{and_left, and_parts, and_right, both_ways, false≢true}
+use Rattle.std.{proofs.lemmas.Bool.{and_left, and_parts, and_right, both_ways, false≢true}, specs.Prelude.{if◌then◌else◌}}
 use Rattle.html_names_core.specs.Names.{stands_in}
-use Rattle.html_dom_tree.proofs.Basics.{put_twice}
-use Rattle.html_dom_tree.specs.PlainTree.{branch, Plains, no_plains, plain, put_words, nodes_normal}
+use Rattle.html_dom_tree.{proofs.Basics.{put_twice}, specs.PlainTree.{branch, Plains, no_plains, plain, put_words, nodes_normal}}
 use Rattle.html_dom_tree.specs.Tree.{Head, tag_node, text_node, element_node, frame_node, NodesView, none, node, ElementView, with_last}
 use Rattle.html_page_nesting.specs.Ancestors.{Ancestor, ancestor, is_in, place_in, place_inside, place_of, reading_in, reading_of, space_of}
-use Rattle.html_page_nesting.specs.Misnested.{found, nodes_misnested}
-use Rattle.html_page_nesting.specs.NestingRules.{element_misnesting, root_misnesting}
-use Rattle.html_page_nesting.specs.PageRoots.{is_complete, is_page, stage_behind_nodes}
-use Rattle.html_page_nesting.specs.Surroundings.{surroundings_of}
+use Rattle.html_page_nesting.specs.{Misnested.{found, nodes_misnested}, NestingRules.{element_misnesting, root_misnesting}}
+use Rattle.html_page_nesting.specs.{PageRoots.{is_complete, is_page, stage_behind_nodes}, Surroundings.{surroundings_of}}
 use Rattle.html_page_nesting.specs.WrittenTexts.{is_white, is_white_char}
 use Rattle.html_page_nesting.specs.declared.misnesting.Misnesting.TheVariants as why
 use Rattle.html_page_nesting.specs.declared.page.Stage.{Stage}
@@ -19,42 +15,30 @@ use Rattle.html_page_nesting.specs.declared.reading.Place.{Place}
 use Rattle.html_page_nesting.specs.declared.reading.Place.TheVariants as places
 use Rattle.html_page_nesting.specs.declared.reading.Reading.TheVariants as reading
 use Rattle.html_page_nesting.specs.declared.reading.Space.TheVariants as nest
-use Rattle.typst_html_encode.proofs.Plainly.{shut}
-use Rattle.typst_html_encode.proofs.Runs.{left_empty, right_empty}
-use Rattle.typst_html_encode.specs.ExportFaults.{attrs_faults, node_faults, nodes_faults, text_faults, void_faults}
-use Rattle.typst_html_encode.specs.FrameWriters.{Frames}
-use Rattle.typst_html_encode.specs.Layout.{due_after}
-use Rattle.typst_html_encode.specs.ReadingBack.{NodeIsNamed}
+use Rattle.typst_html_encode.proofs.{Plainly.{shut}, Runs.{left_empty, right_empty}}
+use Rattle.typst_html_encode.specs.{ExportFaults.{attrs_faults, node_faults, nodes_faults, text_faults, void_faults}, FrameWriters.{Frames}}
+use Rattle.typst_html_encode.specs.{Layout.{due_after}, ReadingBack.{NodeIsNamed}}
 use Rattle.typst_html_encode.specs.Text.{end_tag_text, escaped_text, escaping_of, node_text, nodes_text, start_tag_text}
-use Rattle.html_page_names.specs.ForeignNames.{lowered}
-use Rattle.html_page_names.specs.PageNames.{of}
+use Rattle.html_page_names.specs.{ForeignNames.{lowered}, PageNames.{of}}
 use Rattle.html_page_names.specs.declared.kind.Kind.TheVariants as kind
 use Rattle.html_page_stack.proofs.Children.{element_counts}
 use Rattle.html_page_stack.specs.OpenElements as open_elements
 use Rattle.html_page_stack.specs.OpenElements.{OpenElement, completed, has_elements, html_mode, is_at, mode, with_text}
 use Rattle.html_page_stack.specs.Pages.{Notes, Page, Reads, Token, Char, Start, End, Finish, ◌next◌, closed, first_page, opened, taken}
-use Rattle.html_page_stack.specs.declared.modes.Mode.{Mode}
-use Rattle.html_page_stack.specs.declared.modes.Mode.TheVariants.{BeforeHtml, BeforeHead, InHead, AfterHead, InBody}
+use Rattle.html_page_stack.specs.declared.modes.{Mode.{Mode}, Mode.TheVariants.{BeforeHtml, BeforeHead, InHead, AfterHead, InBody}}
 use Rattle.html_page_stack.specs.declared.modes.Space.TheVariants as spaces
 use Rattle.html_page_stack.specs.declared.modes.TableRule.TheVariants as rule
 use Rattle.html_page_tree.specs.PageTrees.{by_mode, token_read}
-use Rattle.html_page_read.specs.DocumentTypes.{is_known, table_rule}
-use Rattle.html_page_read.specs.PageReading.{first_reader, page_made, run}
+use Rattle.html_page_read.specs.{DocumentTypes.{is_known, table_rule}, PageReading.{first_reader, page_made, run}}
 use Rattle.html_page_read.specs.PageTokens.{PageReader, finished}
-use Rattle.typst_html_nesting_laws.proofs.Branches.{else_none}
-use Rattle.typst_html_nesting_laws.proofs.Closed.{calm_begun}
-use Rattle.typst_html_nesting_laws.proofs.EndTags.{end_emits}
+use Rattle.typst_html_nesting_laws.proofs.{Branches.{else_none}, Closed.{calm_begun}, EndTags.{end_emits}}
 use Rattle.typst_html_nesting_laws.proofs.Fillings.{around, behind_data, element_closed, inside_faults, nodes_filled, opened as opened_element, opened_page}
 use Rattle.typst_html_nesting_laws.proofs.Forms.{AreGathered, IsFilled, filled_normal, normal_is, on, put_last, put_nodes, put_texted, texted_children, with_text_is}
-use Rattle.typst_html_nesting_laws.proofs.InnerTexts.{no_return}
-use Rattle.typst_html_nesting_laws.proofs.KeptTags.{opened_back}
-use Rattle.typst_html_nesting_laws.proofs.KindFacts.{names}
+use Rattle.typst_html_nesting_laws.proofs.{InnerTexts.{no_return}, KeptTags.{opened_back}, KindFacts.{names}}
 use Rattle.typst_html_nesting_laws.proofs.Nodes.{ElementFits, IsInside, NodesFit, calm_on, element_fits, element_starts, kids_gathered, nodes_lead, rest, rest_fits, text_fits}
 use Rattle.typst_html_nesting_laws.proofs.Readers.{Emits, Takes, data_at, lowered_attrs, reading_at, run_on, started, written_tag}
 use Rattle.typst_html_nesting_laws.proofs.RootParts.{IsPart, begins_named, mode_of, name_of, part_names, part_of}
-use Rattle.typst_html_nesting_laws.proofs.Rules.{found_none, tag_fits}
-use Rattle.typst_html_nesting_laws.proofs.Texts.{text_leads}
-use Rattle.typst_html_nesting_laws.proofs.Turns.{html_token, mode_taken}
+use Rattle.typst_html_nesting_laws.proofs.{Rules.{found_none, tag_fits}, Texts.{text_leads}, Turns.{html_token, mode_taken}}
 use Rattle.typst_html_nesting_laws.proofs.Ways.{IsCalm, begun, begun_element, ends_at_once, is_body_mode, is_page_place, open_space}
 use Rattle.typst_html_nesting_laws.specs.TreesStay.{NodeIsReadable, TreesStay, no_notes}
 

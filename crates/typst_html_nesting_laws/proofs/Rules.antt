@@ -1,35 +1,29 @@
 -- What is known of an element that breaks no rule.
 use Rattle.std.proofs.Common.{◌≡◌, ℕ, Bool, true, false, not, ◌&&◌, ◌||◌, List, [], ◌∷◌, inl, inr, refl, sym, ap, ◌∙◌}
-use Rattle.std.specs.List.{list_any}
-use Rattle.std.specs.Prelude.{if◌then◌else◌, Option, Some, None}
 use Rattle.std.proofs.lemmas.Bool.{and_parts, both_ways, cases_Bool, false≢true, not-false, or_cases, or_parts}
+use Rattle.std.specs.{List.{list_any}, Prelude.{if◌then◌else◌, Option, Some, None}}
 use Rattle.html_names_core.specs.Kinds.{is_foreign_self_closing, is_raw, is_void}
-use Rattle.html_dom_tree.specs.Attributes.{names_differ}
-use Rattle.html_dom_tree.specs.Tree.{Head, NodesView}
+use Rattle.html_dom_tree.specs.{Attributes.{names_differ}, Tree.{Head, NodesView}}
 use Rattle.html_page_nesting.specs.Ancestors.{Ancestor, ancestor, begun_space, foreign_space, is_html, is_in, is_read_as_html, place_in, place_of, reading_of, space_of}
 use Rattle.html_page_nesting.specs.Contents.{are_plain, begin_with_feed, content_misnesting, has_unread_end, hold_comment, is_listing, is_raw_when_read}
 use Rattle.html_page_nesting.specs.Misnested.{found}
 use Rattle.html_page_nesting.specs.NestingRules.{breaks_out, element_misnesting, foreign_misnesting, has_place, html_misnesting, is_never_read, named_misnesting, read_misnesting}
 use Rattle.html_page_nesting.specs.Surroundings.{surroundings_of}
 use Rattle.html_page_nesting.specs.WrittenTags.{attrs_misnesting, begins_with_letter, capital_attrs, capital_tags, keep_case, keeps_case, tag_misnesting}
-use Rattle.html_page_nesting.specs.WrittenTexts.{has_return}
-use Rattle.html_page_nesting.specs.declared.misnesting.Misnesting.{Misnesting}
+use Rattle.html_page_nesting.specs.{WrittenTexts.{has_return}, declared.misnesting.Misnesting.{Misnesting}}
 use Rattle.html_page_nesting.specs.declared.misnesting.Misnesting.TheVariants as why
 use Rattle.html_page_nesting.specs.declared.reading.Place.{Place}
 use Rattle.html_page_nesting.specs.declared.reading.Place.TheVariants as place
 use Rattle.html_page_nesting.specs.declared.reading.Reading.{Reading}
 use Rattle.html_page_nesting.specs.declared.reading.Reading.TheVariants as reading
-use Rattle.html_page_nesting.specs.declared.reading.Space.{Space}
-use Rattle.html_page_nesting.specs.declared.reading.Space.TheVariants.{Html, Svg, MathMl}
+use Rattle.html_page_nesting.specs.declared.reading.{Space.{Space}, Space.TheVariants.{Html, Svg, MathMl}}
 use Rattle.html_page_nesting.specs.declared.surroundings.Surroundings.{Surroundings}
 use Rattle.typst_html_encode.specs.Reader.{drops_feed}
-use Rattle.html_page_names.specs.PageNames.{kind_names, of}
-use Rattle.html_page_names.specs.declared.kind.Kind.{Kind}
+use Rattle.html_page_names.specs.{PageNames.{kind_names, of}, declared.kind.Kind.{Kind}}
 use Rattle.html_page_names.specs.declared.kind.Kind.TheVariants as kind
 use Rattle.typst_html_nesting_laws.proofs.Branches.{else_none, if_none, or_none, second_false}
 use Rattle.typst_html_nesting_laws.proofs.KindFacts.{AllFail, dropped_feed, fails_of, names, none_of, outside_of, script_or_style}
-use Rattle.typst_html_nesting_laws.proofs.Modes.{place_test, placed}
-use Rattle.typst_html_nesting_laws.proofs.Ways.{is_page_place}
+use Rattle.typst_html_nesting_laws.proofs.{Modes.{place_test, placed}, Ways.{is_page_place}}
 
 -- nothing is found at a node that breaks none
 pub found_none : (path : List ℕ) (span : ℕ) (m : Option Misnesting) → found path span m ≡ [] →

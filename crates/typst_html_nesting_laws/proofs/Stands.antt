@@ -1,7 +1,6 @@
 -- An element of HTML that stands where the rules let it brings its own mode, or none, in a body.
 use Rattle.std.proofs.Common.{◌≡◌, ◌⊎◌, ℕ, Bool, true, false, not, ◌&&◌, ◌||◌, List, [], ◌∷◌, inl, inr, refl, sym, ap, subst, ◌∙◌}
-use Rattle.std.proofs.lemmas.Bool.{and_from, both_ways, cases_Bool, false≢true, or_cases, or_parts}
-use Rattle.std.specs.Prelude.{if◌then◌else◌, None}
+use Rattle.std.{proofs.lemmas.Bool.{and_from, both_ways, cases_Bool, false≢true, or_cases, or_parts}, specs.Prelude.{if◌then◌else◌, None}}
 use Rattle.html_names_core.specs.Kinds.{is_foreign_self_closing, is_void}
 use Rattle.html_dom_tree.specs.Tree.{Head, NodesView}
 use Rattle.html_page_nesting.specs.Ancestors as nest
@@ -12,18 +11,13 @@ use Rattle.html_page_nesting.specs.declared.misnesting.Misnesting.TheVariants as
 use Rattle.html_page_nesting.specs.declared.reading.Place.{Place}
 use Rattle.html_page_nesting.specs.declared.reading.Place.TheVariants as place
 use Rattle.html_page_nesting.specs.declared.surroundings.Surroundings.{Surroundings}
-use Rattle.html_page_names.specs.PageNames.{kind_names, of}
-use Rattle.html_page_names.specs.declared.kind.Kind.{Kind}
+use Rattle.html_page_names.specs.{PageNames.{kind_names, of}, declared.kind.Kind.{Kind}}
 use Rattle.html_page_names.specs.declared.kind.Kind.TheVariants as kind
-use Rattle.html_page_stack.specs.OpenElements.{OpenElement, is_at, named_mode}
-use Rattle.html_page_stack.specs.declared.modes.Mode.{Mode}
+use Rattle.html_page_stack.specs.{OpenElements.{OpenElement, is_at, named_mode}, declared.modes.Mode.{Mode}}
 use Rattle.html_page_stack.specs.declared.modes.Mode.TheVariants.{InHeadNoscript, InText, InTable, InCaption, InColumns, InSection, InRow, InCell}
-use Rattle.typst_html_nesting_laws.proofs.Alike.{at_is}
-use Rattle.typst_html_nesting_laws.proofs.Branches.{first_false, first_true, if_none, second_true}
-use Rattle.typst_html_nesting_laws.proofs.KindFacts.{AllPass, names, outside_of, passes_of}
-use Rattle.typst_html_nesting_laws.proofs.Modes.{brings, place_test, placed}
-use Rattle.typst_html_nesting_laws.proofs.Rules.{content_fits, has, html_read, named_kept}
-use Rattle.typst_html_nesting_laws.proofs.Ways.{AreAlike, ends_at_once, is_page_place}
+use Rattle.typst_html_nesting_laws.proofs.{Alike.{at_is}, Branches.{first_false, first_true, if_none, second_true}}
+use Rattle.typst_html_nesting_laws.proofs.{KindFacts.{AllPass, names, outside_of, passes_of}, Modes.{brings, place_test, placed}}
+use Rattle.typst_html_nesting_laws.proofs.{Rules.{content_fits, has, html_read, named_kept}, Ways.{AreAlike, ends_at_once, is_page_place}}
 
 -- an element of that name brings a mode
 pub record IsOwn (n : List ℕ) (os : List OpenElement) : Type 0 where

@@ -1,24 +1,16 @@
 -- A start tag is read as one, its names in small letters.
 use Rattle.std.proofs.Common.{◌≡◌, ℕ, ◌+◌, ◌<◌, ◌≤◌, Bool, true, false, not, ◌&&◌, inl, inr, List, [], ◌∷◌, ◌++◌, bytes_eq, codes, eqb, length, refl, sym, ap, ◌∙◌, subst, arith, append_assoc, append-nil, drop, length-append, None, Ok}
-use Rattle.std.specs.Char.{len_utf8, to_ascii_lowercase}
-use Rattle.std.specs.List.{list_any}
-use Rattle.std.specs.Prelude.{if◌then◌else◌, nat_le}
-use Rattle.std.proofs.lemmas.Bool.{and_from, and_parts, cases_Bool, lt-leb, not-false, not-true, or_parts}
+use Rattle.std.proofs.lemmas.{Bool.{and_from, and_parts, cases_Bool, lt-leb, not-false, not-true, or_parts}, List.{length-map}}
 use Rattle.std.proofs.lemmas.Bool.Decides.{nat_tests}
-use Rattle.std.proofs.lemmas.List.{length-map}
-use Rattle.html_names_core.specs.Characters.{all, IsOf, is_attr_char, is_text_char, is_value_char}
-use Rattle.html_names_core.specs.Kinds.{is_foreign_self_closing}
-use Rattle.html_names_core.specs.Names.{attr_fault}
+use Rattle.std.specs.{Char.{len_utf8, to_ascii_lowercase}, List.{list_any}, Prelude.{if◌then◌else◌, nat_le}}
 use Rattle.html_names_core.proofs.Basics.{bytes_eq-sym}
-use Rattle.html_dom_tree.specs.Attributes.{first, has_name, names_differ}
-use Rattle.html_dom_tree.specs.Tree.{TextPair, Head}
-use Rattle.html_page_nesting.specs.WrittenTags.{begins_with_letter}
-use Rattle.html_page_nesting.specs.WrittenTexts.{has_return, is_return}
-use Rattle.typst_html_encode.specs.ExportFaults.{attrs_faults}
-use Rattle.typst_html_encode.specs.ReadingBack.{HeadIsNamed, PairsAreNamed}
-use Rattle.typst_html_encode.specs.References.{reference_to}
-use Rattle.typst_html_encode.specs.Text.{attrs_text, start_tag_text, tag_close, value_text}
+use Rattle.html_names_core.specs.{Characters.{all, IsOf, is_attr_char, is_text_char, is_value_char}, Kinds.{is_foreign_self_closing}}
+use Rattle.html_names_core.specs.Names.{attr_fault}
+use Rattle.html_dom_tree.specs.{Attributes.{first, has_name, names_differ}, Tree.{TextPair, Head}}
+use Rattle.html_page_nesting.specs.{WrittenTags.{begins_with_letter}, WrittenTexts.{has_return, is_return}}
 use Rattle.typst_html_encode.proofs.Runs.{left_empty, right_empty, test_fails}
+use Rattle.typst_html_encode.specs.{ExportFaults.{attrs_faults}, ReadingBack.{HeadIsNamed, PairsAreNamed}, References.{reference_to}}
+use Rattle.typst_html_encode.specs.Text.{attrs_text, start_tag_text, tag_close, value_text}
 use Rattle.typst_html_nesting_laws.proofs.Branches.{absent_parts}
 use Rattle.typst_html_nesting_laws.proofs.Readers.{Emits, behind, data_at, lowered_attrs, reading_at, started, written_tag}
 use Rattle.typst_html_nesting_laws.proofs.References.{value_reference}

@@ -1,27 +1,19 @@
 -- A place of a body stays in a mode of one, whatever element of it is begun.
 use Rattle.std.proofs.Common.{◌≡◌, ℕ, Bool, true, false, ◌&&◌, ◌||◌, List, [], ◌∷◌, inl, inr, map, refl, sym, ap, subst, ◌∙◌}
-use Rattle.std.proofs.lemmas.Bool.{and_parts, both_ways, cases_Bool, false≢true, or_cases}
-use Rattle.std.specs.Prelude.{if◌then◌else◌, None}
+use Rattle.std.{proofs.lemmas.Bool.{and_parts, both_ways, cases_Bool, false≢true, or_cases}, specs.Prelude.{if◌then◌else◌, None}}
 use Rattle.html_dom_tree.specs.Tree.{Head, NodesView}
 use Rattle.html_page_nesting.specs.Ancestors as nest
 use Rattle.html_page_nesting.specs.Ancestors.{Ancestor, ancestor, is_in, is_read_as_html, place_in, place_inside, place_of, reading_in, reading_of, space_of}
-use Rattle.html_page_nesting.specs.NestingRules.{element_misnesting, has_place}
-use Rattle.html_page_nesting.specs.Surroundings.{surroundings_of}
+use Rattle.html_page_nesting.specs.{NestingRules.{element_misnesting, has_place}, Surroundings.{surroundings_of}}
 use Rattle.html_page_nesting.specs.declared.reading.Place.{Place}
 use Rattle.html_page_nesting.specs.declared.reading.Place.TheVariants as place
-use Rattle.html_page_nesting.specs.declared.reading.Space.{Space}
-use Rattle.html_page_nesting.specs.declared.reading.Space.TheVariants.{Html, Svg, MathMl}
-use Rattle.html_page_names.specs.PageNames.{kind_names, of}
-use Rattle.html_page_names.specs.declared.kind.Kind.{Kind}
+use Rattle.html_page_nesting.specs.declared.reading.{Space.{Space}, Space.TheVariants.{Html, Svg, MathMl}}
+use Rattle.html_page_names.specs.{PageNames.{kind_names, of}, declared.kind.Kind.{Kind}}
 use Rattle.html_page_names.specs.declared.kind.Kind.TheVariants as kind
-use Rattle.html_page_stack.specs.OpenElements.{OpenElement, is_at, is_html, mode, named_mode}
-use Rattle.html_page_stack.specs.declared.modes.Mode.{Mode}
+use Rattle.html_page_stack.specs.{OpenElements.{OpenElement, is_at, is_html, mode, named_mode}, declared.modes.Mode.{Mode}}
 use Rattle.html_page_stack.specs.declared.modes.Mode.TheVariants.{InHead, InHeadNoscript, InText, InTable, InCaption, InColumns, InSection, InRow, InCell}
-use Rattle.typst_html_nesting_laws.proofs.Alike.{at_is, space_html}
-use Rattle.typst_html_nesting_laws.proofs.Branches.{either, skip}
-use Rattle.typst_html_nesting_laws.proofs.KindFacts.{agree_of, names, none_of}
-use Rattle.typst_html_nesting_laws.proofs.Modes.{brings, mode_around, own_mode}
-use Rattle.typst_html_nesting_laws.proofs.Rules.{begins_foreign, has, named_kept}
+use Rattle.typst_html_nesting_laws.proofs.{Alike.{at_is, space_html}, Branches.{either, skip}, KindFacts.{agree_of, names, none_of}}
+use Rattle.typst_html_nesting_laws.proofs.{Modes.{brings, mode_around, own_mode}, Rules.{begins_foreign, has, named_kept}}
 use Rattle.typst_html_nesting_laws.proofs.Stands.{Stands, html_stands}
 use Rattle.typst_html_nesting_laws.proofs.Ways.{AreAlike, IsAlike, IsSteady, ends_at_once, is_body_mode, is_page_place}
 

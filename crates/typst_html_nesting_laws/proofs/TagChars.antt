@@ -1,21 +1,15 @@
 -- Characters of tags: what they are not, and what a text of them leads to.
 use Rattle.std.proofs.Common.{◌≡◌, ℕ, ◌+◌, ◌<◌, Bool, true, false, not, ◌&&◌, inl, inr, List, [], ◌∷◌, ◌++◌, eqb, map, refl, sym, ap, ◌∙◌, arith, append_assoc, append-nil, Ok, None, find}
-use Rattle.std.specs.Char.{len_utf8, to_ascii_lowercase}
-use Rattle.std.proofs.lemmas.Bool.{agree_below, agree_below_at, and_from, and_parts, cases_lt, false≢true}
-use Rattle.std.proofs.lemmas.Bool.Decides.{nat_tests}
-use Rattle.std.proofs.lemmas.Str.Ascii.{lowercase_is}
-use Rattle.html_names_core.specs.Characters.{all, IsOf, is_attr_char, is_tag_char}
-use Rattle.html_names_core.specs.Names.{attr_fault}
+use Rattle.std.proofs.lemmas.{Bool.{agree_below, agree_below_at, and_from, and_parts, cases_lt, false≢true}, Bool.Decides.{nat_tests}}
+use Rattle.std.{proofs.lemmas.Str.Ascii.{lowercase_is}, specs.Char.{len_utf8, to_ascii_lowercase}}
+use Rattle.html_names_core.specs.{Characters.{all, IsOf, is_attr_char, is_tag_char}, Names.{attr_fault}}
 use Rattle.html_page_nesting.specs.WrittenTags.{begins_with_letter}
 use Rattle.typst_html_nesting_laws.proofs.Readers.{behind, reading_at, run_on}
 use Rattle.html_page_names.specs.ForeignNames.{lowered}
 use Rattle.html_page_stack.specs.Pages.{Page, Token, ◌next◌}
-use Rattle.html_page_tree.specs.PageBodies.{is_space}
-use Rattle.html_page_tree.specs.PageTrees.{token_read}
-use Rattle.html_page_read.proofs.PageStretches.{other}
-use Rattle.html_page_read.proofs.TagNames.{name_of_tag}
-use Rattle.html_page_read.specs.PageReading.{run}
-use Rattle.html_page_read.specs.PageReferences.{is_letter}
+use Rattle.html_page_tree.specs.{PageBodies.{is_space}, PageTrees.{token_read}}
+use Rattle.html_page_read.proofs.{PageStretches.{other}, TagNames.{name_of_tag}}
+use Rattle.html_page_read.specs.{PageReading.{run}, PageReferences.{is_letter}}
 use Rattle.html_page_read.specs.PageTokens.{PageReader, Reading, TagDraft, TagName, TokenState, goes, is_name, moved, step}
 
 -- in that state, where no carriage return was read before

@@ -1,26 +1,17 @@
 -- Texts that are added to the current node, and nothing else is done.
 use Rattle.std.proofs.Common.{◌≡◌, ℕ, Bool, true, false, not, List, [], ◌∷◌, refl, sym, ap, ◌∙◌, Ok}
-use Rattle.std.proofs.lemmas.Bool.{and_from, false≢true, or_right}
-use Rattle.std.specs.Prelude.{Some}
-use Rattle.html_page_nesting.specs.Ancestors.{Ancestor, place_of}
-use Rattle.html_page_nesting.specs.WrittenTexts.{is_white_char}
-use Rattle.html_page_nesting.specs.declared.reading.Place.{Place}
+use Rattle.std.{proofs.lemmas.Bool.{and_from, false≢true, or_right}, specs.Prelude.{Some}}
+use Rattle.html_page_nesting.specs.{Ancestors.{Ancestor, place_of}, WrittenTexts.{is_white_char}, declared.reading.Place.{Place}}
 use Rattle.html_page_nesting.specs.declared.reading.Place.TheVariants as place
 use Rattle.html_page_names.specs.PageNames.{of}
 use Rattle.html_page_names.specs.declared.kind.Kind.TheVariants as kind
-use Rattle.html_page_stack.specs.OpenElements.{OpenElement, is_html, mode}
-use Rattle.html_page_stack.specs.Pages.{Page, Char, Taken, loses_some, with_char}
-use Rattle.html_page_stack.specs.declared.modes.Mode.{Mode}
-use Rattle.html_page_stack.specs.declared.modes.Mode.TheVariants.{InBody, InText, InCaption, InCell}
+use Rattle.html_page_stack.specs.{OpenElements.{OpenElement, is_html, mode}, Pages.{Page, Char, Taken, loses_some, with_char}}
+use Rattle.html_page_stack.specs.declared.modes.{Mode.{Mode}, Mode.TheVariants.{InBody, InText, InCaption, InCell}}
 use Rattle.html_page_stack.specs.declared.modes.Space.TheVariants as spaces
 use Rattle.html_page_tree.proofs.TakenTexts.{text_taken}
-use Rattle.html_page_tree.specs.PageTrees.{by_mode, is_foreign_token, is_unseen}
-use Rattle.html_page_tree.specs.TakenTexts.{mode_takes_text, takes_text}
-use Rattle.typst_html_nesting_laws.proofs.Alike.{html_space, mode_is, placed_html}
-use Rattle.typst_html_nesting_laws.proofs.Closed.{marks_lose_none}
-use Rattle.typst_html_nesting_laws.proofs.Modes.{mode_in, own_mode}
-use Rattle.typst_html_nesting_laws.proofs.Readers.{Takes, texted}
-use Rattle.typst_html_nesting_laws.proofs.Turns.{html_token, mode_taken}
+use Rattle.html_page_tree.specs.{PageTrees.{by_mode, is_foreign_token, is_unseen}, TakenTexts.{mode_takes_text, takes_text}}
+use Rattle.typst_html_nesting_laws.proofs.{Alike.{html_space, mode_is, placed_html}, Closed.{marks_lose_none}, Modes.{mode_in, own_mode}}
+use Rattle.typst_html_nesting_laws.proofs.{Readers.{Takes, texted}, Turns.{html_token, mode_taken}}
 use Rattle.typst_html_nesting_laws.proofs.Ways.{AreAlike, IsCalm, IsSteady, is_body_mode, is_page_place}
 
 -- the modes that take any text, where no formatting element is lost

@@ -1,22 +1,14 @@
 -- Texts between tags are read as they are.
 use Rattle.std.proofs.Common.{◌≡◌, ℕ, ◌+◌, Bool, true, false, not, ◌&&◌, inl, inr, eqb, List, [], ◌∷◌, ◌++◌, refl, ◌∙◌, sym, append_assoc, Ok}
-use Rattle.std.specs.Char.{len_utf8}
-use Rattle.std.specs.List.{list_all}
-use Rattle.std.proofs.Math.Bool.{and-false, and-true}
-use Rattle.std.proofs.lemmas.Bool.{and_parts, cases_Bool, not-true, or_parts}
-use Rattle.std.proofs.lemmas.List.{append-nil}
+use Rattle.std.proofs.{Math.Bool.{and-false, and-true}, lemmas.Bool.{and_parts, cases_Bool, not-true, or_parts}, lemmas.List.{append-nil}}
+use Rattle.std.specs.{Char.{len_utf8}, List.{list_all}}
 use Rattle.html_names_core.specs.Characters.{all, is_text_char, is_element_text_char}
 use Rattle.html_page_nesting.specs.WrittenTexts.{has_return, is_empty, is_return}
-use Rattle.typst_html_encode.specs.ExportFaults.{text_faults}
-use Rattle.typst_html_encode.specs.References.{reference_to}
-use Rattle.typst_html_encode.specs.Text.{char_text, escaped_text, escaping_of}
 use Rattle.typst_html_encode.proofs.References.{text_good}
+use Rattle.typst_html_encode.specs.{ExportFaults.{text_faults}, References.{reference_to}, Text.{char_text, escaped_text, escaping_of}}
 use Rattle.html_page_stack.specs.Pages.{Page}
-use Rattle.html_page_read.proofs.PageStretches.{other}
-use Rattle.html_page_read.specs.PageReading.{run}
-use Rattle.html_page_read.specs.PageTokens.{Data, PageReader}
-use Rattle.typst_html_nesting_laws.proofs.Readers.{LeadsTo, Takes, data_at, run_on, texted}
-use Rattle.typst_html_nesting_laws.proofs.References.{reference_leads}
+use Rattle.html_page_read.{proofs.PageStretches.{other}, specs.PageReading.{run}, specs.PageTokens.{Data, PageReader}}
+use Rattle.typst_html_nesting_laws.proofs.{Readers.{LeadsTo, Takes, data_at, run_on, texted}, References.{reference_leads}}
 
 -- its first character is a line feed
 abbrev pub begins_with_lf : List ℕ → Bool

@@ -1,7 +1,6 @@
 -- A token that is taken in one turn.
 use Rattle.std.proofs.Common.{◌≡◌, false, not, List, ◌∷◌, refl, ap, ◌∙◌}
-use Rattle.html_page_stack.specs.OpenElements.{OpenElement, mode}
-use Rattle.html_page_stack.specs.Pages.{Page, Reads, Token, Char, Start, End, Finish, ◌next◌, taken}
+use Rattle.html_page_stack.specs.{OpenElements.{OpenElement, mode}, Pages.{Page, Reads, Token, Char, Start, End, Finish, ◌next◌, taken}}
 use Rattle.html_page_stack.specs.declared.modes.Mode.{Mode}
 use Rattle.html_page_stack.specs.declared.modes.Space.TheVariants as spaces
 use Rattle.html_page_stack.specs.declared.modes.TableRule.TheVariants as rule

@@ -1,23 +1,17 @@
 -- What begins no reference is read as none, whatever follows.
 use Rattle.std.proofs.Common.{◌≡◌, ℕ, zero, suc, ◌+◌, ◌*◌, ◌/◌, ◌%◌, ◌^◌, ◌<◌, ◌≤◌, true, false, not, ◌&&◌, inl, inr, eqb, List, [], ◌∷◌, ◌++◌, None, bytes_eq, chars, codes, get_or, length, refl, sym, ap, ◌∙◌, subst, arith, nat_lt, eq-eqb, ltb-true}
-use Rattle.std.specs.Char.{digit_value}
-use Rattle.std.specs.Fmt.{digit_glyph, digits_onto, digits}
-use Rattle.std.specs.List.{list_all}
-use Rattle.std.specs.Str.{IsUtf8}
-use Rattle.std.specs.Str.Parse.{AllDigits, IsNumeral, digits_value, digits_value_after, without_leading_plus}
-use Rattle.std.proofs.lemmas.Bool.{and_from, and_parts, agree_below_at, false≢true, false_from_ne_true, lt-ltb, or_parts}
-use Rattle.std.proofs.lemmas.Bool.Decides.{Decides-eqb, nat_tests}
-use Rattle.std.proofs.lemmas.Fmt.{digits_is_IsNumeral}
-use Rattle.std.proofs.lemmas.List.Folds.{list_all-append}
-use Rattle.std.proofs.lemmas.Slice.Eq.{bytes_eq-Decides, starts_is}
 use Rattle.std.proofs.Math.Nat.{div-lt_iff_lt-mul, pow-suc, pow-zero}
+use Rattle.std.proofs.lemmas.Bool.{and_from, and_parts, agree_below_at, false≢true, false_from_ne_true, lt-ltb, or_parts}
+use Rattle.std.proofs.lemmas.{Fmt.{digits_is_IsNumeral}, Bool.Decides.{Decides-eqb, nat_tests}, List.Folds.{list_all-append}}
+use Rattle.std.proofs.lemmas.Slice.Eq.{bytes_eq-Decides, starts_is}
+use Rattle.std.specs.{Char.{digit_value}, Fmt.{digit_glyph, digits_onto, digits}, List.{list_all}, Str.{IsUtf8}}
+use Rattle.std.specs.Str.Parse.{AllDigits, IsNumeral, digits_value, digits_value_after, without_leading_plus}
 use lib.Utf8.{encodes, scalar, scalar_cases}
 use Rattle.html_names_core.proofs.Digits.{digits_ascii}
 use Rattle.typst_html_encode.specs.References.{numbered_char, reference_by_number, reference}
-use Rattle.typst_html_read.specs.BegunReferences.{is_small_digit, begins_digits, begins_number, begins_reference}
-use Rattle.html_text.specs.Words.{begins}
 use Rattle.typst_html_read.proofs.Numbers.{no_plus}
-use Rattle.html_text.proofs.Words.{chars_after_word, own_bytes, word_before}
+use Rattle.typst_html_read.specs.BegunReferences.{is_small_digit, begins_digits, begins_number, begins_reference}
+use Rattle.html_text.{proofs.Words.{chars_after_word, own_bytes, word_before}, specs.Words.{begins}}
 
 -- the digits that are written of a number are small ones, and a zero is not the first, but of 0
 

@@ -1,22 +1,14 @@
 -- An end tag that is read at once, as the reader of the definition reads it.
 use Rattle.std.proofs.Common.{◌≡◌, ℕ, ◌<◌, Bool, true, false, not, ◌&&◌, eqb, bytes_eq, codes, get_or, List, [], ◌∷◌, ◌++◌, length, refl, sym, ap, ◌∙◌, arith, append_assoc, append-nil, eq-eqb}
-use Rattle.std.specs.Prelude.{Option, None, Some, MatchOption, IfSome}
-use Rattle.std.specs.List.{list_all}
-use Rattle.std.proofs.lemmas.Bool.{and_from, and_parts}
-use Rattle.std.proofs.lemmas.Bool.Decides.{nat_tests}
-use Rattle.std.proofs.lemmas.List.{length-append}
-use Rattle.std.proofs.lemmas.List.Folds.{list_all-append}
-use Rattle.std.proofs.lemmas.Slice.Eq.{bytes_eq-Decides}
+use Rattle.std.proofs.lemmas.{Bool.{and_from, and_parts}, List.{length-append}, Bool.Decides.{nat_tests}, List.Folds.{list_all-append}}
+use Rattle.std.{proofs.lemmas.Slice.Eq.{bytes_eq-Decides}, specs.List.{list_all}, specs.Prelude.{Option, None, Some, MatchOption, IfSome}}
 use lib.Utf8.{encodes}
 use Rattle.html_names_core.specs.Characters.{is_tag_char}
-use Rattle.html_dom_tree.specs.Tree.{TextPair}
-use Rattle.html_dom_tree.specs.PlainTree.{Plains}
+use Rattle.html_dom_tree.specs.{PlainTree.{Plains}, Tree.{TextPair}}
 use Rattle.typst_html_encode.specs.Reader.{Open, ReaderState, Content, Less, EndName, add_text, with_text, complete}
-use Rattle.typst_html_read.specs.EndTags.{EndsTag, Leaves}
-use Rattle.typst_html_read.specs.LimitedReading.{ends_at, is_stop, next_state}
+use Rattle.typst_html_read.proofs.{Refusals.{next_is}, Stretches.{Grows, grown, names_ascii}}
+use Rattle.typst_html_read.specs.{EndTags.{EndsTag, Leaves}, LimitedReading.{ends_at, is_stop, next_state}}
 use Rattle.typst_html_read.specs.Stretches.{all_grow, next_states, runs_on, ReadsOn}
-use Rattle.typst_html_read.proofs.Refusals.{next_is}
-use Rattle.typst_html_read.proofs.Stretches.{Grows, grown, names_ascii}
 
 -- one part is read after the other
 runs_then : (a b : List ℕ) (s : ReaderState) → runs_on s a ≡ true →

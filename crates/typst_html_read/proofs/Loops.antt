@@ -1,10 +1,7 @@
 -- Reading by what is left of the characters.
 use Rattle.std.proofs.Common.{◌≡◌, ℕ, ◌+◌, ◌-◌, true, false, inl, inr, List, [], ◌∷◌, ◌++◌, bytes_eq, chars, take, drop, length, refl, sym, ap, ◌∙◌}
-use Rattle.std.specs.Prelude.{if◌then◌else◌}
-use Rattle.std.specs.Str.{IsUtf8}
-use Rattle.std.proofs.lemmas.Bool.{cases_Bool}
-use Rattle.std.proofs.lemmas.List.{take-append-drop}
-use Rattle.std.proofs.lemmas.Slice.Eq.{bytes_eq-Decides}
+use Rattle.std.proofs.lemmas.{Bool.{cases_Bool}, List.{take-append-drop}, Slice.Eq.{bytes_eq-Decides}}
+use Rattle.std.specs.{Prelude.{if◌then◌else◌}, Str.{IsUtf8}}
 use lib.Utf8.{encodes}
 use Rattle.html_names_core.specs.Names.{is_ascii}
 use Rattle.typst_html_encode.specs.Reader.{ReaderState, Stop}

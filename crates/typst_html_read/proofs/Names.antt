@@ -1,14 +1,11 @@
 -- A text is read as an element just where all names of its tags are names.
 use Rattle.std.proofs.Common.{arith, ◌≡◌, ℕ, Bool, true, false, not, ◌&&◌, ◌∷◌, ◌++◌, ◌⊎◌, inl, inr, List, [], Option, Some, None, eqb, refl, sym, ap, ◌∙◌, subst}
-use Rattle.std.specs.Prelude.{if◌then◌else◌, is_some, is_none}
-use Rattle.std.specs.List.{list_all}
-use Rattle.html_names_core.specs.Characters.{is_tag_char, is_attr_char}
-use Rattle.html_names_core.specs.Names.{tag_fault, attr_fault}
-use Rattle.html_dom_tree.specs.Tree.{TextPair, ElementView}
-use Rattle.html_dom_tree.specs.PlainTree.{Plain, words, branch, Plains, no_plains, plain}
+use Rattle.std.specs.{List.{list_all}, Prelude.{if◌then◌else◌, is_some, is_none}}
+use Rattle.html_names_core.specs.{Characters.{is_tag_char, is_attr_char}, Names.{tag_fault, attr_fault}}
+use Rattle.html_dom_tree.specs.{PlainTree.{Plain, words, branch, Plains, no_plains, plain}, Tree.{TextPair, ElementView}}
 use Rattle.html_text.specs.ClosingTags.{before_closing}
-use Rattle.typst_html_encode.specs.References.{reference}
 use Rattle.typst_html_encode.specs.Reader.{◌then◌, Open, ReaderState, Outside, Content, Fresh, Reference, Raw, Less, StartName, Space, AttrName, Equals, Value, ValueReference, Quoted, Slash, EndName, Stop, with_text, add_text, complete, after_start_tag, after, close, or_stop, in_content, step, run, final_root}
+use Rattle.typst_html_encode.specs.References.{reference}
 use Rattle.typst_html_read.specs.PlainElements.{plain_element, is_named, are_named, accepted}
 
 -- all names so far are names, but for the one that is being read

@@ -2,12 +2,11 @@
 use Rattle.std.proofs.Common.{◌≡◌, arith, ℕ, Bool, ◌∷◌, ◌++◌, List, [], Option, Some, None, eqb, refl, sym, ap, ◌∙◌}
 use Rattle.std.specs.Prelude.{if◌then◌else◌}
 use Rattle.html_names_core.specs.Characters.{is_attr_char}
-use Rattle.html_dom_tree.specs.Tree.{TextPair}
-use Rattle.html_dom_tree.specs.PlainTree.{Plain, words, branch, Plains, no_plains, plain, put_words, nodes_normal}
+use Rattle.html_dom_tree.specs.{PlainTree.{Plain, words, branch, Plains, no_plains, plain, put_words, nodes_normal}, Tree.{TextPair}}
 use Rattle.html_text.specs.ClosingTags.{before_closing}
-use Rattle.typst_html_encode.specs.References.{reference}
-use Rattle.typst_html_encode.specs.Reader.{◌then◌, Open, ReaderState, Outside, Content, Fresh, Reference, Raw, Less, StartName, Space, AttrName, Equals, Value, ValueReference, Quoted, Slash, EndName, Stop, with_text, add_text, complete, after_start_tag, after, close, or_stop, in_content, step, run}
 use Rattle.typst_html_encode.proofs.Normals.{then_assoc, then_none}
+use Rattle.typst_html_encode.specs.Reader.{◌then◌, Open, ReaderState, Outside, Content, Fresh, Reference, Raw, Less, StartName, Space, AttrName, Equals, Value, ValueReference, Quoted, Slash, EndName, Stop, with_text, add_text, complete, after_start_tag, after, close, or_stop, in_content, step, run}
+use Rattle.typst_html_encode.specs.References.{reference}
 use Rattle.typst_html_read.specs.PlainElements.{plain_nodes}
 
 -- the normal form of plain nodes

@@ -1,13 +1,8 @@
 -- Numbers in small hexadecimal digits.
 use Rattle.std.proofs.Common.{◌≡◌, ℕ, ◌<◌, ◌^◌, true, false, ◌&&◌, inl, inr, List, [], ◌∷◌, Some, None, eqb, nat_lt, bytes_eq, chars, refl, sym, ap, ◌∙◌, subst, arith, ltb-true}
-use Rattle.std.specs.Fmt.{digits}
-use Rattle.std.specs.Str.{IsUtf8}
+use Rattle.std.proofs.lemmas.{Bool.{cases_Bool, and_parts, lt-ltb}, Fmt.{digits_is_IsNumeral}, Str.{encodes-chars, encodes-IsAscii}}
+use Rattle.std.{proofs.lemmas.Bool.Decides.{nat_tests}, proofs.lemmas.Slice.Eq.{bytes_eq-Decides}, specs.Fmt.{digits}, specs.Str.{IsUtf8}}
 use Rattle.std.specs.Str.Parse.{AllDigits, IsNumeral, digits_value, without_leading_plus}
-use Rattle.std.proofs.lemmas.Bool.{cases_Bool, and_parts, lt-ltb}
-use Rattle.std.proofs.lemmas.Bool.Decides.{nat_tests}
-use Rattle.std.proofs.lemmas.Fmt.{digits_is_IsNumeral}
-use Rattle.std.proofs.lemmas.Slice.Eq.{bytes_eq-Decides}
-use Rattle.std.proofs.lemmas.Str.{encodes-chars, encodes-IsAscii}
 use lib.Utf8.{scalar, scalar_fits, encodes}
 use Rattle.typst_html_encode.specs.References.{numbered_char}
 use Rattle.html_names_core.proofs.Digits.{chars-digits, digits_ascii}

@@ -1,15 +1,12 @@
 -- Elements that have nothing that a text does not spell, and their children as plain nodes.
 use Rattle.std.proofs.Common.{◌≡◌, ℕ, List, [], ◌∷◌, refl, sym, ap, ◌∙◌, subst, false, eqb, length, chars}
-use Rattle.std.specs.Prelude.{Result, Ok, Err, OnOk, OnErr}
-use Rattle.std.specs.Str.{IsUtf8}
-use Rattle.std.proofs.lemmas.Bool.{false≢true}
-use Rattle.std.proofs.lemmas.Str.{encodes-chars}
-use Rattle.html_dom_tree.specs.Tree.{TextPair, NodeView, tag_node, text_node, element_node, frame_node, NodesView, none, node, ElementView, with_last, with_node}
+use Rattle.std.proofs.lemmas.{Bool.{false≢true}, Str.{encodes-chars}}
+use Rattle.std.specs.{Prelude.{Result, Ok, Err, OnOk, OnErr}, Str.{IsUtf8}}
 use Rattle.html_dom_tree.specs.PlainTree.{Plain, words, branch, Plains, no_plains, plain}
+use Rattle.html_dom_tree.specs.Tree.{TextPair, NodeView, tag_node, text_node, element_node, frame_node, NodesView, none, node, ElementView, with_last, with_node}
 use Rattle.typst_html_encode.specs.Reader.{◌then◌, Open, with_text}
 use lib.Utf8.{encodes}
-use Rattle.typst_html_read.specs.PlainElements.{plain_head, plain_nodes}
-use Rattle.typst_html_read.specs.PlainViews.{bare_nodes, open_view, IsPlain, completed}
+use Rattle.typst_html_read.specs.{PlainElements.{plain_head, plain_nodes}, PlainViews.{bare_nodes, open_view, IsPlain, completed}}
 
 -- an element without children
 

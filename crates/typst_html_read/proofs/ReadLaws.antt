@@ -1,20 +1,14 @@
 -- What is written is read, and what was read is written.
 use Rattle.std.proofs.Common.{◌≡◌, arith, ℕ, Bool, true, false, ◌&&◌, inl, inr, List, [], ◌∷◌, Option, Some, None, bytes_eq, codes, take, drop, refl, sym, ap, ◌∙◌, subst}
-use Rattle.std.specs.Prelude.{if◌then◌else◌, is_none}
-use Rattle.std.specs.List.{list_all}
-use Rattle.std.proofs.lemmas.Bool.{cases_Bool}
-use Rattle.html_names_core.specs.Names.{tag_fault, attr_fault}
-use Rattle.html_names_core.proofs.Faults.{valid_attr, valid_tag}
-use Rattle.html_names_core.proofs.Basics.{none_from_is_none}
+use Rattle.std.{proofs.lemmas.Bool.{cases_Bool}, specs.List.{list_all}, specs.Prelude.{if◌then◌else◌, is_none}}
+use Rattle.html_names_core.{proofs.Basics.{none_from_is_none}, proofs.Faults.{valid_attr, valid_tag}, specs.Names.{tag_fault, attr_fault}}
 use Rattle.html_dom_tree.specs.FrameFree.{NodeIsFrameFree, NodesAreFrameFree, ElementIsFrameFree}
-use Rattle.html_dom_tree.specs.PlainTree.{Plain, words, branch, Plains, no_plains, plain, element_normal}
-use Rattle.html_dom_tree.specs.Tree.{TextPair, ElementView}
-use Rattle.typst_html_encode.specs.Reader.{ReaderState, Outside, final_root, read}
+use Rattle.html_dom_tree.specs.{PlainTree.{Plain, words, branch, Plains, no_plains, plain, element_normal}, Tree.{TextPair, ElementView}}
+use Rattle.typst_html_encode.{proofs.ReadingBack.{reads_back}, specs.Reader.{ReaderState, Outside, final_root, read}}
 use Rattle.typst_html_encode.specs.ReadingBack.{PairsAreNamed, HeadIsNamed, NodeIsNamed, NodesAreNamed, ElementIsNamed}
-use Rattle.typst_html_encode.proofs.ReadingBack.{reads_back}
+use Rattle.typst_html_read.proofs.Normal.{RootIsNormal, Fits, run_fits}
 use Rattle.typst_html_read.specs.PlainElements.{plain_head, plain_nodes, plain_element, is_named, are_named, accepted}
 use Rattle.typst_html_read.specs.ReadLaws.{WrittenIsRead, ReadIsWritten, ReadIsNormal}
-use Rattle.typst_html_read.proofs.Normal.{RootIsNormal, Fits, run_fits}
 
 pub written_is_read : WrittenIsRead
 written_is_read frames e named free clean = ap accepted ((reads_back frames).0 e named free clean)

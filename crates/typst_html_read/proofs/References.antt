@@ -1,7 +1,6 @@
 -- References in a text, by its bytes.
-use Rattle.std.proofs.Common.{◌≡◌, ℕ, List, [], ◌∷◌, None, chars, codes, refl, ap, arith}
+use Rattle.std.proofs.{Common.{◌≡◌, ℕ, List, [], ◌∷◌, None, chars, codes, refl, ap, arith}, lemmas.Bool.Decides.{nat_tests}}
 use Rattle.std.specs.Str.{IsUtf8}
-use Rattle.std.proofs.lemmas.Bool.Decides.{nat_tests}
 use lib.Utf8.{encodes}
 use Rattle.typst_html_encode.specs.References.{numbered_char, reference_by_number, reference}
 use Rattle.html_text.proofs.Words.{chars_after_word, word_before, word_is_not}

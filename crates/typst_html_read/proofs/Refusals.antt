@@ -1,23 +1,17 @@
 -- From a character on that is refused, nothing is read, whatever follows.
 use Rattle.std.proofs.Common.{◌≡◌, ℕ, Bool, true, false, not, ◌&&◌, ◌∷◌, ◌++◌, List, [], None, eqb, bytes_eq, get_or, length, refl, sym, ap, ◌∙◌, subst, arith, append-nil, append_assoc, eq-eqb}
-use Rattle.std.specs.Prelude.{if◌then◌else◌, is_none}
-use Rattle.std.specs.Str.{IsAscii}
-use Rattle.std.proofs.lemmas.Bool.{false≢true, false_from_ne_true, not-true, or_parts}
-use Rattle.std.proofs.lemmas.Bool.Decides.{nat_tests}
-use Rattle.std.proofs.lemmas.Str.{encodes-IsAscii}
+use Rattle.std.proofs.lemmas.{Bool.{false≢true, false_from_ne_true, not-true, or_parts}, Str.{encodes-IsAscii}, Bool.Decides.{nat_tests}}
+use Rattle.std.specs.{Prelude.{if◌then◌else◌, is_none}, Str.{IsAscii}}
 use lib.Utf8.{encodes}
-use Rattle.html_names_core.specs.Characters.{is_tag_char}
-use Rattle.html_names_core.specs.Names.{tag_fault}
-use Rattle.html_names_core.proofs.Basics.{bytes_eq-same, is_ascii_is, none_from_is_none}
-use Rattle.html_names_core.proofs.Faults.{tag_ascii, valid_tag}
-use Rattle.typst_html_encode.specs.References.{reference}
+use Rattle.html_names_core.proofs.{Basics.{bytes_eq-same, is_ascii_is, none_from_is_none}, Faults.{tag_ascii, valid_tag}}
+use Rattle.html_names_core.specs.{Characters.{is_tag_char}, Names.{tag_fault}}
 use Rattle.typst_html_encode.specs.Reader.{Open, ReaderState, Content, Reference, Less, StartName, AttrName, Value, ValueReference, EndName, or_stop, step, final_root}
-use Rattle.typst_html_read.specs.BegunReferences.{begins_reference, continues_reference}
-use Rattle.typst_html_read.specs.LimitedReading.{ends_at, refuses, next_state}
-use Rattle.typst_html_read.specs.PlainElements.{accepted}
+use Rattle.typst_html_encode.specs.References.{reference}
 use Rattle.typst_html_read.proofs.BegunReferences.{reference_never}
-use Rattle.html_text.proofs.Words.{front_ascii}
 use Rattle.typst_html_read.proofs.Names.{stack_taken, taken, ends_refused, Holds, step_holds, outcome, stopped, none_after}
+use Rattle.typst_html_read.specs.{BegunReferences.{begins_reference, continues_reference}, LimitedReading.{ends_at, refuses, next_state}}
+use Rattle.typst_html_read.specs.PlainElements.{accepted}
+use Rattle.html_text.proofs.Words.{front_ascii}
 
 if_none : (b : Bool) (s t : ReaderState) (cs : List ℕ) → outcome s cs ≡ None →
     outcome t cs ≡ None → outcome (if b then s else t) cs ≡ None

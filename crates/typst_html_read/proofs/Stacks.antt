@@ -1,11 +1,9 @@
 -- The open elements, of which the innermost changes.
 use Rattle.std.proofs.Common.{◌≡◌, ℕ, ◌+◌, ◌-◌, ◌<◌, List, [], ◌∷◌, ◌++◌, length, get_or, map, take, reverse, ap, sym, ◌∙◌, arith}
-use Rattle.std.proofs.lemmas.List.{length-set, map-append, reverse-append, take_all, take_more_set}
-use Rattle.std.proofs.Math.ListN.{set}
+use Rattle.std.proofs.{Math.ListN.{set}, lemmas.List.{length-set, map-append, reverse-append, take_all, take_more_set}}
 use Rattle.html_dom_tree.proofs.Reversed.{last_apart}
 use Rattle.typst_html_encode.specs.Reader.{Open}
-use Rattle.typst_html_read.specs.OpenViews.{open_of, list_of}
-use Rattle.typst_html_read.specs.declared.open.OpenElement.{OpenElement}
+use Rattle.typst_html_read.specs.{OpenViews.{open_of, list_of}, declared.open.OpenElement.{OpenElement}}
 
 listed : (os : List OpenElement) (o : OpenElement) →
     list_of (os ++ o ∷ []) ≡ open_of o ∷ list_of os

@@ -2,11 +2,8 @@
 use Rattle.std.proofs.Common.{◌≡◌, ℕ, true, false, List, [], ◌∷◌, ◌++◌, None, String, Global, string_bytes, eqb, length, refl, sym, ap, ◌∙◌, ne_eqb, eq-eqb}
 use Rattle.std.proofs.lemmas.Str.{encodes-chars, IsUtf8-string_bytes}
 use lib.Utf8.{encodes}
-use Rattle.html_names_core.specs.Characters.{is_tag_char, is_attr_char}
-use Rattle.html_names_core.specs.Names.{attr_fault}
-use Rattle.html_dom_tree.specs.Tree.{TextPair}
-use Rattle.html_dom_tree.specs.Views.{text_view}
-use Rattle.html_dom_tree.specs.PlainTree.{no_plains}
+use Rattle.html_names_core.specs.{Characters.{is_tag_char, is_attr_char}, Names.{attr_fault}}
+use Rattle.html_dom_tree.specs.{PlainTree.{no_plains}, Tree.{TextPair}, Views.{text_view}}
 use Rattle.html_text.specs.ClosingTags.{is_tag_end, ends_closing, ends_exact, before_closing}
 use Rattle.typst_html_encode.specs.Reader.{Open, AttrName, EndName, Raw, Stop, with_text, complete, after, close, step}
 use Rattle.typst_html_read.specs.LimitedReading.{ends_at, next_state}

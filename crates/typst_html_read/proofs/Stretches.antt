@@ -1,29 +1,19 @@
 -- Stretches of characters that are read at once, as the reader of the definition reads them.
 use Rattle.std.proofs.Common.{◌≡◌, ℕ, ◌+◌, ◌-◌, ◌<◌, ◌≤◌, Bool, true, false, not, List, [], ◌∷◌, ◌++◌, chars, drop, get_or, length, take, inl, inr, refl, sym, ap, subst, ◌∙◌, arith, append-nil, append_assoc}
-use Rattle.std.specs.Prelude.{Option, None, Result, IfOk}
-use Rattle.std.specs.Borrow.{Bor}
-use Rattle.std.proofs.lemmas.Result.{IfOk-weaker}
-use Rattle.std.specs.List.{list_all}
-use Rattle.std.specs.Str.{IsUtf8, IsAscii, IsCharBoundary}
-use Rattle.std.proofs.lemmas.Bool.{and_parts, false≢true, not-true}
-use Rattle.std.proofs.lemmas.Bool.Decides.{nat_tests}
-use Rattle.std.proofs.lemmas.List.{take-append-drop}
-use Rattle.std.proofs.lemmas.List.Folds.{list_all-append}
-use Rattle.std.proofs.lemmas.Str.{chars-append, encode_ascii, encodes-chars, IsUtf8-take}
-use Rattle.std.proofs.lemmas.Str.Ascii.{IsAscii-nil, IsAscii-cons}
+use Rattle.std.proofs.lemmas.{Bool.{and_parts, false≢true, not-true}, List.{take-append-drop}, Result.{IfOk-weaker}}
+use Rattle.std.proofs.lemmas.{Str.{chars-append, encode_ascii, encodes-chars, IsUtf8-take}, Bool.Decides.{nat_tests}}
+use Rattle.std.proofs.lemmas.{List.Folds.{list_all-append}, Str.Ascii.{IsAscii-nil, IsAscii-cons}}
+use Rattle.std.specs.{Borrow.{Bor}, List.{list_all}, Prelude.{Option, None, Result, IfOk}, Str.{IsUtf8, IsAscii, IsCharBoundary}}
 use lib.Utf8.{encode, encodes}
 use Rattle.html_names_core.specs.Characters.{is_tag_char, is_attr_char}
-use Rattle.html_dom_tree.specs.Tree.{TextPair, ElementView}
-use Rattle.html_dom_tree.specs.declared.node.HtmlElement.{HtmlElement}
+use Rattle.html_dom_tree.specs.{Tree.{TextPair, ElementView}, declared.node.HtmlElement.{HtmlElement}}
 use Rattle.typst_html_encode.specs.Reader.{Open, ReaderState, Content, Reference, Value, ValueReference, StartName, AttrName, Less, Stop, final_root}
-use Rattle.typst_html_read.specs.Endings.{Gives}
-use Rattle.typst_html_read.specs.declared.fault.ReadFault.{ReadFault}
-use Rattle.typst_html_read.specs.LimitedReading.{next_state, begins_deep, deep_places, is_stop, stop_place}
+use Rattle.typst_html_read.proofs.{Loops.{deep_here, deep_later, deep_stopped, stop_here, stop_later}, Names.{taken, outcome, stopped}}
+use Rattle.typst_html_read.proofs.Refusals.{next_outcome, next_taken}
+use Rattle.typst_html_read.specs.{Endings.{Gives}, LimitedReading.{next_state, begins_deep, deep_places, is_stop, stop_place}}
 use Rattle.typst_html_read.specs.PlainElements.{accepted}
 use Rattle.typst_html_read.specs.Stretches.{all_grow, continues, is_plain, Splits, Adds, next_states, runs_on, ReadsOn}
-use Rattle.typst_html_read.proofs.Loops.{deep_here, deep_later, deep_stopped, stop_here, stop_later}
-use Rattle.typst_html_read.proofs.Names.{taken, outcome, stopped}
-use Rattle.typst_html_read.proofs.Refusals.{next_outcome, next_taken}
+use Rattle.typst_html_read.specs.declared.fault.ReadFault.{ReadFault}
 
 -- splitting a text at a byte
 

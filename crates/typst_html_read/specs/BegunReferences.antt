@@ -1,6 +1,6 @@
 -- Beginnings of the references that are read: what may stand between `&` and `;`.
-use Rattle.std.specs.Prelude.{ℕ, Bool, false, not, ◌&&◌, ◌||◌, ◌==◌, nat_lt, nat_le, List, [], ◌∷◌, ◌++◌, codes, slice_index}
 use Rattle.std.specs.List.{list_all}
+use Rattle.std.specs.Prelude.{ℕ, Bool, false, not, ◌&&◌, ◌||◌, ◌==◌, nat_lt, nat_le, List, [], ◌∷◌, ◌++◌, codes, slice_index}
 use Rattle.std.specs.Str.Parse.{digits_value}
 use Rattle.html_names_core.specs.Characters.{is_digit}
 pub use Rattle.html_text.specs.Words.{begins}

@@ -1,6 +1,5 @@
 -- The end tag of the innermost element.
-use Rattle.std.specs.Prelude.{◌≡◌, ℕ, List, [], ◌∷◌, ◌++◌, true, codes}
-use Rattle.std.specs.List.{list_all}
+use Rattle.std.specs.{List.{list_all}, Prelude.{◌≡◌, ℕ, List, [], ◌∷◌, ◌++◌, true, codes}}
 use Rattle.html_names_core.specs.Characters.{is_tag_char}
 use Rattle.typst_html_encode.specs.Reader.{Open, ReaderState, complete, with_text}
 

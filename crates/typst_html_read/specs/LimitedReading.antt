@@ -1,10 +1,9 @@
 -- Reading with a limit on the depth of elements, with only the names that the program accepts, and
 -- up to the first character with which no readable text goes on.
-use Rattle.std.specs.Prelude.{ℕ, ◌+◌, ◌-◌, Bool, true, false, not, ◌&&◌, ◌==◌, nat_le, List, [], ◌∷◌, ◌++◌, if◌then◌else◌, bytes_eq, codes, take, drop, get_or, length, None, is_some}
 use Rattle.std.specs.List.{common_prefix_len}
+use Rattle.std.specs.Prelude.{ℕ, ◌+◌, ◌-◌, Bool, true, false, not, ◌&&◌, ◌==◌, nat_le, List, [], ◌∷◌, ◌++◌, if◌then◌else◌, bytes_eq, codes, take, drop, get_or, length, None, is_some}
 use lib.Utf8.{encodes}
-use Rattle.html_names_core.specs.Characters.{is_tag_char, is_attr_char}
-use Rattle.html_names_core.specs.Names.{tag_fault, attr_fault}
+use Rattle.html_names_core.specs.{Characters.{is_tag_char, is_attr_char}, Names.{tag_fault, attr_fault}}
 use Rattle.typst_html_encode.specs.Reader.{Open, ReaderState, Outside, Reference, Less, StartName, AttrName, ValueReference, EndName, Stop, holds_text_alone, step}
 use Rattle.typst_html_read.specs.BegunReferences.{continues_reference}
 

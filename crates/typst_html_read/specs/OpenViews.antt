@@ -1,11 +1,8 @@
 -- The program's open elements as those of the definition.
 use Rattle.std.specs.Prelude.{List, [], ◌∷◌, map, reverse}
-use Rattle.html_dom_tree.specs.PlainTree.{no_plains, plain}
-use Rattle.html_dom_tree.specs.Views.{element_view}
+use Rattle.html_dom_tree.specs.{PlainTree.{no_plains, plain}, Views.{element_view}}
 use Rattle.typst_html_encode.specs.Reader.{Open, ◌then◌}
-use Rattle.typst_html_read.specs.PlainViews.{completed, open_view}
-use Rattle.typst_html_read.specs.declared.open.OpenElement.{OpenElement}
-use Rattle.typst_html_read.specs.declared.stack.Stack.{Stack}
+use Rattle.typst_html_read.specs.{PlainViews.{completed, open_view}, declared.open.OpenElement.{OpenElement}, declared.stack.Stack.{Stack}}
 
 abbrev pub open_of : OpenElement → Open
 open_of o = open_view (element_view o.element)

@@ -1,6 +1,5 @@
 -- The element of a plain tree, which has nothing that a text does not spell.
-use Rattle.std.specs.Prelude.{ℕ, Bool, true, false, ◌&&◌, List, [], if◌then◌else◌, Option, Some, None, is_none}
-use Rattle.std.specs.List.{list_all}
+use Rattle.std.specs.{List.{list_all}, Prelude.{ℕ, Bool, true, false, ◌&&◌, List, [], if◌then◌else◌, Option, Some, None, is_none}}
 use Rattle.html_names_core.specs.Names.{tag_fault, attr_fault}
 use Rattle.html_dom_tree.specs.PlainTree.{Plain, words, branch, Plains, no_plains, plain}
 use Rattle.html_dom_tree.specs.Tree.{TextPair, Head, text_node, element_node, NodesView, none, node, ElementView}

@@ -1,8 +1,7 @@
 -- Elements as the open elements of the definition.
 use Rattle.std.specs.Prelude.{◌≡◌}
 use mathlib.Core.HLevel.{hedberg}
-use Rattle.html_dom_tree.specs.NodeEqual.{element_discrete}
-use Rattle.html_dom_tree.specs.PlainTree.{Plain, words, branch, Plains, no_plains, plain}
+use Rattle.html_dom_tree.specs.{NodeEqual.{element_discrete}, PlainTree.{Plain, words, branch, Plains, no_plains, plain}}
 use Rattle.html_dom_tree.specs.Tree.{tag_node, text_node, element_node, frame_node, NodesView, none, node, ElementView}
 use Rattle.typst_html_encode.specs.Reader.{Open}
 use Rattle.typst_html_read.specs.PlainElements.{plain_element}

@@ -2,8 +2,7 @@
 use Rattle.std.specs.Prelude.{◌≡◌, ℕ, List, [], ◌∷◌, Option, None}
 use Rattle.html_dom_tree.specs.Tree.{ElementView}
 use Rattle.html_text.specs.Places.{place_at}
-use Rattle.typst_html_read.specs.declared.fault.ReadFault.{ReadFault}
-use Rattle.typst_html_read.specs.declared.fault.ReadFault.TheVariants.{OutOfMemory, TooDeep, Syntax}
+use Rattle.typst_html_read.specs.declared.fault.{ReadFault.{ReadFault}, ReadFault.TheVariants.{OutOfMemory, TooDeep, Syntax}}
 
 abbrev pub number_of : ReadFault → ℕ
 number_of OutOfMemory = 0

@@ -1,12 +1,7 @@
 -- What is written is read, and what was read is written.
 use Rattle.std.specs.Prelude.{◌≡◌, ℕ, List, [], Some}
-use Rattle.html_dom_tree.specs.FrameFree.{ElementIsFrameFree}
-use Rattle.html_dom_tree.specs.PlainTree.{element_normal}
-use Rattle.html_dom_tree.specs.Tree.{ElementView}
-use Rattle.typst_html_encode.specs.ExportFaults.{document_faults}
-use Rattle.typst_html_encode.specs.FrameWriters.{Frames}
-use Rattle.typst_html_encode.specs.Reader.{read}
-use Rattle.typst_html_encode.specs.ReadingBack.{ElementIsNamed}
+use Rattle.html_dom_tree.specs.{FrameFree.{ElementIsFrameFree}, PlainTree.{element_normal}, Tree.{ElementView}}
+use Rattle.typst_html_encode.specs.{ExportFaults.{document_faults}, FrameWriters.{Frames}, Reader.{read}, ReadingBack.{ElementIsNamed}}
 use Rattle.typst_html_encode.specs.Text.{plain_options, document_text}
 use Rattle.typst_html_read.specs.PlainElements.{accepted}
 

@@ -3,9 +3,7 @@ use Rattle.std.specs.Prelude.{option_map}
 use Rattle.html_dom_tree.specs.Views.{text_view, attrs_view}
 use Rattle.typst_html_encode.specs.Reader as reader
 use Rattle.typst_html_encode.specs.Reader.{ReaderState}
-use Rattle.typst_html_read.specs.OpenViews.{open_of, stack_of}
-use Rattle.typst_html_read.specs.PlainViews.{completed}
-use Rattle.typst_html_read.specs.declared.reader.Mode.{Mode}
+use Rattle.typst_html_read.specs.{OpenViews.{open_of, stack_of}, PlainViews.{completed}, declared.reader.Mode.{Mode}}
 use Rattle.typst_html_read.specs.declared.reader.Mode.TheVariants as mode
 use Rattle.typst_html_read.specs.declared.reader.Reader.{Reader}
 

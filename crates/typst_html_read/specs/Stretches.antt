@@ -1,9 +1,7 @@
 -- Stretches of characters that are read at once.
-use Rattle.std.specs.Prelude.{◌≡◌, ℕ, Bool, true, not, ◌&&◌, ◌||◌, ◌==◌, List, [], ◌∷◌, ◌++◌}
-use Rattle.std.specs.List.{list_all}
+use Rattle.std.specs.{List.{list_all}, Prelude.{◌≡◌, ℕ, Bool, true, not, ◌&&◌, ◌||◌, ◌==◌, List, [], ◌∷◌, ◌++◌}}
 use Rattle.typst_html_encode.specs.Reader.{ReaderState}
-use Rattle.typst_html_read.specs.BegunReferences.{begins_reference}
-use Rattle.typst_html_read.specs.LimitedReading.{next_state, begins_deep, is_stop}
+use Rattle.typst_html_read.specs.{BegunReferences.{begins_reference}, LimitedReading.{next_state, begins_deep, is_stop}}
 
 -- the character is neither `&` nor `end`
 abbrev pub is_plain : (end : ℕ) → ℕ → Bool

@@ -3,9 +3,7 @@
 ghost use Rattle.std.specs.Prelude.{◌≡◌, OnOk};
 ghost use Rattle.html_dom_tree.specs.Views.{text_view};
 ghost use Rattle.typst_html_encode.specs.Reader as reader;
-ghost use Rattle.typst_html_read.specs.OpenViews.{open_of, stack_of};
-ghost use Rattle.typst_html_read.specs.LimitedReading.{next_state};
-ghost use Rattle.typst_html_read.specs.ReaderViews.{reader_state};
+ghost use Rattle.typst_html_read.specs.{LimitedReading.{next_state}, OpenViews.{open_of, stack_of}, ReaderViews.{reader_state}};
 ghost use Rattle.typst_html_read.specs.declared.reader.Mode.TheVariants as mode;
 
 use crate::open::OpenElement;

@@ -2,10 +2,7 @@
 
 ghost use Rattle.std.specs.Prelude.{◌≡◌, ◌<◌, chars, IfOk, length, MatchOption, OnOk};
 ghost use Rattle.html_dom_tree.specs.Views.{text_view};
-ghost use Rattle.typst_html_read.specs.EndTags.{Leaves};
-ghost use Rattle.typst_html_read.specs.OpenViews.{stack_of};
-ghost use Rattle.typst_html_read.specs.ReaderViews.{reader_state};
-ghost use Rattle.typst_html_read.specs.Stretches.{ReadsOn};
+ghost use Rattle.typst_html_read.specs.{EndTags.{Leaves}, OpenViews.{stack_of}, ReaderViews.{reader_state}, Stretches.{ReadsOn}};
 
 use crate::reader::{Mode, Reader};
 use std::alloc::AllocError;

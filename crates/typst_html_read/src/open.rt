@@ -1,9 +1,7 @@
 //! Open elements, with their children so far.
 
-ghost use Rattle.std.proofs.Props.{props};
-ghost use Rattle.std.specs.Prelude.{◌≡◌, OnOk, OnErr};
-ghost use Rattle.html_dom_tree.specs.Tree.{with_node};
-ghost use Rattle.html_dom_tree.specs.Views.{element_view, node_view};
+ghost use Rattle.std.{proofs.Props.{props}, specs.Prelude.{◌≡◌, OnOk, OnErr}};
+ghost use Rattle.html_dom_tree.specs.{Tree.{with_node}, Views.{element_view, node_view}};
 ghost use Rattle.typst_html_read.specs.PlainViews.{IsPlain, element_is_set};
 
 use html_dom_tree::{HtmlAttrs, HtmlElement, HtmlNode, Span};
@@ -30,12 +28,10 @@ fn add_node(element: &mut HtmlElement, node: HtmlNode) -> Result<(), AllocError>
 
 impl OpenElement {
     ghost use Rattle.std.specs.Prelude.{◌==◌, bytes_eq, chars, get_or, []};
-    ghost use Rattle.html_dom_tree.specs.PlainTree.{no_plains};
-    ghost use Rattle.html_dom_tree.specs.Views.{attrs_view, text_view};
+    ghost use Rattle.html_dom_tree.specs.{PlainTree.{no_plains}, Views.{attrs_view, text_view}};
     ghost use Rattle.html_names_core.specs.Kinds as kinds;
     ghost use Rattle.typst_html_encode.specs.Reader.{with_text};
-    ghost use Rattle.typst_html_read.specs.OpenViews.{open_of, with_child};
-    ghost use Rattle.typst_html_read.specs.PlainElements.{plain_element};
+    ghost use Rattle.typst_html_read.specs.{OpenViews.{open_of, with_child}, PlainElements.{plain_element}};
 
     /// Creates an element without children.
     pub(crate) fn new(alloc: Global, tag: HtmlTag, attrs: HtmlAttrs) -> OpenElement

@@ -1,8 +1,7 @@
 //! Reading raw text.
 
 ghost use Rattle.std.specs.Prelude.{◌≡◌, OnOk};
-ghost use Rattle.typst_html_read.specs.LimitedReading.{next_state};
-ghost use Rattle.typst_html_read.specs.ReaderViews.{reader_state};
+ghost use Rattle.typst_html_read.specs.{LimitedReading.{next_state}, ReaderViews.{reader_state}};
 ghost use Rattle.typst_html_read.specs.declared.reader.Mode.TheVariants as mode;
 
 use crate::reader::{Mode, Reader};

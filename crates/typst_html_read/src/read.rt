@@ -2,8 +2,7 @@
 
 ghost use Rattle.std.specs.Prelude.{◌≡◌, ◌≤◌, ◌+◌, ◌-◌, chars, length, None};
 ghost use Rattle.typst_html_encode.specs.Reader.{Outside, final_root, read, run};
-ghost use Rattle.typst_html_read.specs.Endings.{Gives};
-ghost use Rattle.typst_html_read.specs.LimitedReading.{deep_places, stop_place, too_deep, unread};
+ghost use Rattle.typst_html_read.specs.{Endings.{Gives}, LimitedReading.{deep_places, stop_place, too_deep, unread}};
 ghost use Rattle.typst_html_read.specs.PlainElements.{accepted};
 ghost use Rattle.html_text.specs.Places.{place_at};
 

@@ -1,11 +1,9 @@
 //! A reader, which reads one character after the other.
 
 ghost use Rattle.std.specs.Prelude.{◌≡◌, ◌↔◌, OnOk, IsTrue, None, option_map};
-ghost use Rattle.typst_html_read.specs.OpenViews.{open_of};
-ghost use Rattle.typst_html_read.specs.PlainViews.{completed};
-ghost use Rattle.typst_html_encode.specs.Reader.{Outside, Stop, final_root};
-ghost use Rattle.typst_html_read.specs.LimitedReading.{next_state, begins_deep};
+ghost use Rattle.typst_html_read.specs.{LimitedReading.{next_state, begins_deep}, OpenViews.{open_of}, PlainViews.{completed}};
 ghost use Rattle.typst_html_read.specs.ReaderViews.{reader_state};
+ghost use Rattle.typst_html_encode.specs.Reader.{Outside, Stop, final_root};
 
 use crate::open::OpenElement;
 use crate::stack::Stack;

@@ -1,7 +1,6 @@
 //! Character references.
 
-ghost use Rattle.std.specs.Prelude.{◌≡◌, ◌==◌, ◌∷◌, ◌++◌, [], chars, slice_index, IfOk, OnOk, true, nat_lt};
-ghost use Rattle.std.specs.List.{list_all};
+ghost use Rattle.std.specs.{List.{list_all}, Prelude.{◌≡◌, ◌==◌, ◌∷◌, ◌++◌, [], chars, slice_index, IfOk, OnOk, true, nat_lt}};
 ghost use Rattle.std.specs.Str.Parse.{digits_value};
 ghost use Rattle.html_dom_tree.specs.Views.{text_view};
 ghost use Rattle.typst_html_encode.specs.References as definition;

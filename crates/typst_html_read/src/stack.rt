@@ -3,9 +3,7 @@
 ghost use Rattle.std.specs.Prelude.{◌≡◌, ◌↔◌, IsTrue, ◌∷◌, [], OnOk, IfSome, IfNone, chars, length};
 ghost use Rattle.html_dom_tree.specs.Views.{text_view};
 ghost use Rattle.typst_html_encode.specs.Reader.{add_text, holds_text_alone};
-ghost use Rattle.typst_html_read.specs.LimitedReading.{ends_at};
-ghost use Rattle.typst_html_read.specs.EndTags.{EndsTag};
-ghost use Rattle.typst_html_read.specs.OpenViews.{add_child, open_of, stack_of};
+ghost use Rattle.typst_html_read.specs.{EndTags.{EndsTag}, LimitedReading.{ends_at}, OpenViews.{add_child, open_of, stack_of}};
 
 use crate::open::OpenElement;
 use std::alloc::{AllocError, Global};

@@ -4,8 +4,7 @@
 ghost use Rattle.std.specs.Prelude.{◌≡◌, ◌<◌, ◌++◌, [], chars, IfOk, true};
 ghost use Rattle.html_dom_tree.specs.Views.{text_view};
 ghost use Rattle.html_names_core.specs.Characters.{is_tag_char};
-ghost use Rattle.typst_html_read.specs.ReaderViews.{reader_state};
-ghost use Rattle.typst_html_read.specs.Stretches.{Adds, all_grow, continues, is_plain, ReadsOn, Splits};
+ghost use Rattle.typst_html_read.specs.{ReaderViews.{reader_state}, Stretches.{Adds, all_grow, continues, is_plain, ReadsOn, Splits}};
 
 use crate::reader::{Mode, Reader};
 use html_dom_tree::text::add_text;

@@ -2,12 +2,9 @@
 
 ghost use Rattle.std.specs.Prelude.{◌≡◌, OnOk, IfOk, MatchOption, chars, true, is_some, None};
 ghost use Rattle.html_names_core.specs.Names.{tag_fault, attr_fault};
-ghost use Rattle.html_dom_tree.specs.PlainTree.{no_plains};
-ghost use Rattle.html_dom_tree.specs.Views.{attrs_view, text_view};
+ghost use Rattle.html_dom_tree.specs.{PlainTree.{no_plains}, Views.{attrs_view, text_view}};
 ghost use Rattle.typst_html_encode.specs.Reader as reader;
-ghost use Rattle.typst_html_read.specs.OpenViews.{open_of, stack_of};
-ghost use Rattle.typst_html_read.specs.LimitedReading.{next_state};
-ghost use Rattle.typst_html_read.specs.ReaderViews.{reader_state};
+ghost use Rattle.typst_html_read.specs.{LimitedReading.{next_state}, OpenViews.{open_of, stack_of}, ReaderViews.{reader_state}};
 ghost use Rattle.typst_html_read.specs.declared.reader.Mode.TheVariants as mode;
 
 use crate::open::OpenElement;

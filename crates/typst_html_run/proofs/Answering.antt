@@ -1,20 +1,13 @@
 -- What a text or a fault answers.
 use Rattle.std.proofs.Common.{◌≡◌, List, [], ◌++◌, ℕ, Option, Some, Result, Ok, Err, string_bytes, String, refl, sym, ap, ◌∙◌}
-use Rattle.std.specs.declared.alloc.Global.{Global}
-use Rattle.std.proofs.lemmas.Str.{encodes-chars, IsUtf8-string_bytes}
+use Rattle.std.{proofs.lemmas.Str.{encodes-chars, IsUtf8-string_bytes}, specs.declared.alloc.Global.{Global}}
 use lib.Utf8.{encodes}
 use Rattle.serde_json.specs.Data.{Data}
 use Rattle.html_dom_tree.specs.Views.{text_view}
-use Rattle.typst_html_run.specs.Answers.{Answer, bad_input, first_refusal_or_text, answer_if, answer_to}
-use Rattle.typst_html_json.specs.LeftForms.{Left, IsLeft}
-use Rattle.typst_html_json.specs.Reading.{IsNoJson}
-use Rattle.typst_html_run.specs.Replies.{GivesAnswer, Says}
-use Rattle.typst_html_json.specs.NameRefusals.{Refusal}
-use Rattle.typst_html_json.specs.Refusals.{Gives, IsFirst}
-use Rattle.typst_html_json.specs.Spelling.{IsSpellingFault}
-use Rattle.typst_html_json.specs.declared.fault.Fault.{Fault}
+use Rattle.typst_html_run.specs.{Answers.{Answer, bad_input, first_refusal_or_text, answer_if, answer_to}, Replies.{GivesAnswer, Says}}
+use Rattle.typst_html_json.specs.{LeftForms.{Left, IsLeft}, NameRefusals.{Refusal}, Reading.{IsNoJson}, Refusals.{Gives, IsFirst}}
+use Rattle.typst_html_json.specs.{Spelling.{IsSpellingFault}, declared.fault.Fault.{Fault}, declared.fault.InputPlace.{InputPlace}}
 use Rattle.typst_html_json.specs.declared.fault.Fault.TheVariants.{OutOfMemory, BadInput, Refused}
-use Rattle.typst_html_json.specs.declared.fault.InputPlace.{InputPlace}
 use Rattle.typst_html_json.specs.declared.fault.InputPlace.TheVariants.{Unknown, Text, Form}
 
 first_said : (refusals : List Refusal) (text : List ℕ) (f : Fault) → IsFirst f refusals

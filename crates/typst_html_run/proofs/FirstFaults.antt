@@ -12,11 +12,9 @@ use Rattle.typst_html_encode.specs.ExportFaults as export
 use Rattle.typst_html_encode.specs.FaultViews.{ExportFaultView, export_fault_view, spans_view, IsFirstView}
 use Rattle.typst_html_encode.specs.declared.fault.ExportFault.{ExportFault}
 use Rattle.typst_html_encode.specs.declared.fault.ExportFault.TheVariants as fault
-use Rattle.typst_html_run.specs.Answers.{construct_refusal, fault_refusal, first_span}
-use Rattle.typst_html_run.specs.ExportRefusals.{export_refusal}
+use Rattle.typst_html_run.specs.{Answers.{construct_refusal, fault_refusal, first_span}, ExportRefusals.{export_refusal}}
 use Rattle.typst_html_json.specs.NameRefusals as names
-use Rattle.typst_html_json.specs.Refusals.{IsFirst, numbered_fault}
-use Rattle.typst_html_json.specs.declared.fault.Fault.TheVariants.{OutOfMemory, Refused}
+use Rattle.typst_html_json.specs.{Refusals.{IsFirst, numbered_fault}, declared.fault.Fault.TheVariants.{OutOfMemory, Refused}}
 
 same_first : (spans : List Span) → export.first_span spans ≡ first_span (spans_view spans)
 same_first [] = refl

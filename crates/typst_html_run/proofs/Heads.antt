@@ -1,10 +1,8 @@
 -- The nodes for a document's head, as a list.
 use Rattle.std.proofs.Common.{◌≡◌, ◌==◌, Bool, true, false, List, [], length, map, not, refl, ap, ◌∙◌, true≢false, eqb-true}
 use Rattle.std.proofs.lemmas.List.{length-map, nil_from_length}
-use Rattle.html_dom_tree.specs.Views.{node_view, nodes_view}
-use Rattle.html_dom_tree.specs.declared.node.HtmlNode.{HtmlNode}
-use Rattle.html_flow_convert.proofs.LoneNodes.{node_list_of}
-use Rattle.html_flow_convert.specs.LoneNode.{node_list}
+use Rattle.html_dom_tree.specs.{Views.{node_view, nodes_view}, declared.node.HtmlNode.{HtmlNode}}
+use Rattle.html_flow_convert.{proofs.LoneNodes.{node_list_of}, specs.LoneNode.{node_list}}
 
 pub head_list : (nodes : List HtmlNode) → node_list (nodes_view nodes) ≡ map node_view nodes
 head_list nodes = node_list_of (map node_view nodes)

@@ -1,20 +1,14 @@
 -- What a run writes for an answer.
 use Rattle.std.proofs.Common.{◌≡◌, ℕ, List, Bool, Option, Some, None, Result, Ok, Err, String, inl, inr, refl, sym, ap, subst, ◌∙◌}
-use Rattle.std.specs.Io.KnownBytes.{Appends}
-use Rattle.std.specs.declared.alloc.Global.{Global}
+use Rattle.std.specs.{Io.KnownBytes.{Appends}, declared.alloc.Global.{Global}}
 use Rattle.typst_html_run.specs.Answers.{Answer, text_answer, refused_answer, bad_input, answer_if, input_answer, value_answer}
 use Rattle.typst_html_run.specs.Outputs.{Output, EndsAs, bad_input_line, output_of, output_if, input_output, words_output}
-use Rattle.typst_html_run.specs.Replies.{GivesAnswer, GivesOutput}
-use Rattle.typst_html_run.specs.Words.{wanted_task}
-use Rattle.typst_html_run.specs.declared.recorded.LastCall.{LastCall}
+use Rattle.typst_html_run.specs.{Replies.{GivesAnswer, GivesOutput}, Words.{wanted_task}, declared.recorded.LastCall.{LastCall}}
 use Rattle.typst_html_run.specs.declared.status.Status.{Status}
 use Rattle.typst_html_run.specs.declared.status.Status.TheVariants as status
 use Rattle.typst_html_run.specs.declared.words.Task.{Task}
-use Rattle.typst_html_json.specs.Json.{json_of}
-use Rattle.typst_html_json.specs.JsonPlaces.{input_place}
-use Rattle.typst_html_json.specs.declared.fault.Fault.{Fault}
-use Rattle.typst_html_json.specs.declared.fault.Fault.TheVariants.{OutOfMemory, BadInput, Refused}
-use Rattle.typst_html_json.specs.declared.fault.InputPlace.{InputPlace}
+use Rattle.typst_html_json.specs.{Json.{json_of}, JsonPlaces.{input_place}}
+use Rattle.typst_html_json.specs.declared.fault.{Fault.{Fault}, InputPlace.{InputPlace}, Fault.TheVariants.{OutOfMemory, BadInput, Refused}}
 
 -- a result that agrees with an answer agrees with its output
 output_given : (r : Result (String Global) Fault) (a : Answer) (o : Output)

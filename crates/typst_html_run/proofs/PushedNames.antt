@@ -1,6 +1,5 @@
 -- Names behind those that were added.
-use Rattle.std.proofs.Common.{◌≡◌, List, ◌++◌, map, append_assoc, ap, sym, ◌∙◌}
-use Rattle.std.proofs.lemmas.List.{map-append}
+use Rattle.std.proofs.{Common.{◌≡◌, List, ◌++◌, map, append_assoc, ap, sym, ◌∙◌}, lemmas.List.{map-append}}
 
 pub more : {A B : Type 0} (f : A → B) (old x y : List B) (ns ms : List A) → x ≡ old ++ map f ns
     → y ≡ x ++ map f ms → y ≡ old ++ map f (ns ++ ms)

@@ -9,23 +9,15 @@ use Rattle.html_flow_faults.specs.ConstructFaults.{ConstructFaultView}
 use Rattle.html_dom_tree.specs.Tree.{ElementView}
 use Rattle.html_dom_document.specs.Documents.{no_info}
 use Rattle.typst_html_encode.specs.FaultViews.{ExportFaultView, out_of_memory, too_deep, not_alone, footnotes, unencodable, void_children, raw_child, raw_closing, frame_refused, name_fault, cast_fault, construct_fault}
-use Rattle.typst_html_encode.specs.FrameWriters.{no_frames}
-use Rattle.typst_html_encode.specs.Text.{document_text}
-use Rattle.typst_html_encode.specs.declared.options.HtmlOptions.{HtmlOptions}
+use Rattle.typst_html_encode.specs.{FrameWriters.{no_frames}, Text.{document_text}, declared.options.HtmlOptions.{HtmlOptions}}
 use Rattle.html_flow_convert.specs.Items.{ItemsView, no_items}
 use Rattle.typst_html_export.specs.Exported.{root_faults, export_faults, export_text}
-use Rattle.typst_html_json.specs.Json.{json_of}
-use Rattle.typst_html_json.specs.JsonPlaces.{input_place}
-use Rattle.typst_html_json.specs.LeftForms.{Left}
-use Rattle.typst_html_json.specs.NameRefusals.{Refusal, element_refusals, items_refusals}
-use Rattle.typst_html_json.specs.Spelled.{spelled_element}
-use Rattle.typst_html_json.specs.SpelledItems.{spelled_items}
-use Rattle.typst_html_json.specs.declared.fault.InputPlace.{InputPlace}
+use Rattle.typst_html_json.specs.{Json.{json_of}, JsonPlaces.{input_place}, LeftForms.{Left}}
+use Rattle.typst_html_json.specs.{NameRefusals.{Refusal, element_refusals, items_refusals}, Spelled.{spelled_element}}
+use Rattle.typst_html_json.specs.{SpelledItems.{spelled_items}, declared.fault.InputPlace.{InputPlace}}
 use Rattle.typst_html_json.specs.declared.fault.InputPlace.TheVariants.{Form}
-use Rattle.typst_html_run.specs.declared.status.Status.{Status}
-use Rattle.typst_html_run.specs.declared.status.Status.TheVariants.{Done, Refused, BadInput, Failed}
-use Rattle.typst_html_run.specs.declared.words.Task.{Task}
-use Rattle.typst_html_run.specs.declared.words.Task.TheVariants.{Tree, Doc}
+use Rattle.typst_html_run.specs.declared.status.{Status.{Status}, Status.TheVariants.{Done, Refused, BadInput, Failed}}
+use Rattle.typst_html_run.specs.declared.words.{Task.{Task}, Task.TheVariants.{Tree, Doc}}
 
 abbrev pub code_of : Status → ℕ
 code_of Done = 0

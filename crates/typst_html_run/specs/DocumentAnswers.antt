@@ -2,24 +2,16 @@
 use Rattle.std.specs.Prelude.{ℕ, Bool, List, [], ◌++◌, map, Option, Some, None, option_map, Result, Ok, Err, String, if◌then◌else◌}
 use Rattle.std.specs.declared.alloc.Global.{Global}
 use Rattle.html_dom_document.specs.Documents.{DocumentView, document_root}
-use Rattle.html_anchors.specs.FoundAnchors.{document_dead_links}
-use Rattle.html_anchors.specs.Links.{DeadLinkView, document_with_links}
+use Rattle.html_anchors.specs.{FoundAnchors.{document_dead_links}, Links.{DeadLinkView, document_with_links}}
 use Rattle.html_dom_tree.specs.Tree.{ElementView}
 use Rattle.html_flow_convert.specs.LoneNode.{node_list}
-use Rattle.typst_html_encode.specs.FaultViews.{ExportFaultView}
-use Rattle.typst_html_encode.specs.FrameWriters.{no_frames}
+use Rattle.typst_html_encode.specs.{FaultViews.{ExportFaultView}, FrameWriters.{no_frames}}
 use Rattle.typst_html_encode.specs.Text as html
-use Rattle.typst_html_export.specs.Assembled.{items_document_faults}
-use Rattle.typst_html_export.specs.Exported.{root_faults}
-use Rattle.typst_html_export.specs.Linked.{linked_document_with_head}
+use Rattle.typst_html_export.specs.{Assembled.{items_document_faults}, Exported.{root_faults}, Linked.{linked_document_with_head}}
 use Rattle.typst_html_run.specs.Answers.{Answer, answer_if, answer_to, fault_refusal, first_refusal_or_text, options_of}
-use Rattle.typst_html_json.specs.Json.{json_of}
-use Rattle.typst_html_json.specs.JsonPlaces.{input_place}
-use Rattle.typst_html_json.specs.LeftForms.{Left}
-use Rattle.typst_html_json.specs.NameRefusals.{Refusal}
+use Rattle.typst_html_run.specs.declared.documents.{DocumentText.{DocumentText}, Settings.{Settings}}
+use Rattle.typst_html_json.specs.{Json.{json_of}, JsonPlaces.{input_place}, LeftForms.{Left}, NameRefusals.{Refusal}}
 use Rattle.typst_html_json.specs.SpelledDocuments.{Spelling, names_refusals, spelled_document}
-use Rattle.typst_html_run.specs.declared.documents.DocumentText.{DocumentText}
-use Rattle.typst_html_run.specs.declared.documents.Settings.{Settings}
 
 -- the document that is made of what an input spells
 abbrev pub made_document : Spelling → DocumentView

@@ -1,13 +1,10 @@
 -- The answer to an input that spells items without a document.
 use Rattle.std.specs.Prelude.{ℕ, List, ◌++◌, map}
-use Rattle.html_flow_convert.specs.Items.{ItemsView}
-use Rattle.html_flow_convert.specs.declared.convert.ConversionLevel.{ConversionLevel}
+use Rattle.html_flow_convert.specs.{Items.{ItemsView}, declared.convert.ConversionLevel.{ConversionLevel}}
 use Rattle.typst_html_encode.specs.FrameWriters.{no_frames}
 use Rattle.typst_html_export.specs.Fragments.{export_fragment_faults, export_fragment_text}
 use Rattle.typst_html_run.specs.Answers.{Answer, answer_if, answer_to, fault_refusal, first_refusal_or_text}
-use Rattle.typst_html_json.specs.Json.{json_of}
-use Rattle.typst_html_json.specs.JsonPlaces.{input_place}
-use Rattle.typst_html_json.specs.NameRefusals.{Refusal, items_refusals}
+use Rattle.typst_html_json.specs.{Json.{json_of}, JsonPlaces.{input_place}, NameRefusals.{Refusal, items_refusals}}
 use Rattle.typst_html_json.specs.SpelledItems.{spelled_document_items}
 
 abbrev pub fragment_text : ConversionLevel → ItemsView → List ℕ

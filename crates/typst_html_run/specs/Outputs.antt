@@ -1,16 +1,11 @@
 -- The output of a run, and what the run does to its reader and its writer.
-use Rattle.std.specs.Prelude.{◌≡◌, ℕ, List, ◌++◌, Option, Some, None, IfSome, ◌⊎◌, codes, Bool}
+use Rattle.std.specs.{Fmt.{decimal}, Prelude.{◌≡◌, ℕ, List, ◌++◌, Option, Some, None, IfSome, ◌⊎◌, codes, Bool}}
 use Rattle.std.specs.Io.KnownBytes.{Appends, Keeps}
-use Rattle.std.specs.Fmt.{decimal}
-use Rattle.typst_html_json.specs.Json.{json_of}
-use Rattle.typst_html_json.specs.NameRefusals.{Refusal}
-use Rattle.typst_html_run.specs.Answers.{Answer, text_answer, refused_answer, bad_input, value_answer}
-use Rattle.typst_html_run.specs.Words.{wanted_task}
-use Rattle.typst_html_run.specs.Writing.{AppendsBeginning}
-use Rattle.typst_html_run.specs.declared.recorded.LastCall.{LastCall}
+use Rattle.typst_html_json.specs.{Json.{json_of}, NameRefusals.{Refusal}}
+use Rattle.typst_html_run.specs.{Answers.{Answer, text_answer, refused_answer, bad_input, value_answer}, Words.{wanted_task}}
+use Rattle.typst_html_run.specs.{Writing.{AppendsBeginning}, declared.recorded.LastCall.{LastCall}}
 use Rattle.typst_html_run.specs.declared.recorded.LastCall.TheVariants as last_call
-use Rattle.typst_html_run.specs.declared.status.Status.{Status}
-use Rattle.typst_html_run.specs.declared.status.Status.TheVariants.{Done, Refused, BadInput, Failed}
+use Rattle.typst_html_run.specs.declared.status.{Status.{Status}, Status.TheVariants.{Done, Refused, BadInput, Failed}}
 use Rattle.typst_html_run.specs.declared.words.Task.{Task}
 
 -- a status and the bytes that are written

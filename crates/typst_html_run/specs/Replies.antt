@@ -1,11 +1,8 @@
 -- The answers that a text or a fault stand for, and the outputs of replies.
-use Rattle.std.specs.Prelude.{◌≡◌, ℕ, List, Option, Result, MatchResult, String, string_bytes}
-use Rattle.std.specs.declared.alloc.Global.{Global}
-use Rattle.typst_html_run.specs.Answers.{Answer, text_answer, refused_answer, bad_input}
-use Rattle.typst_html_run.specs.Outputs.{Output, IsAll, output_of, words_output}
+use Rattle.std.specs.{Prelude.{◌≡◌, ℕ, List, Option, Result, MatchResult, String, string_bytes}, declared.alloc.Global.{Global}}
+use Rattle.typst_html_run.specs.{Answers.{Answer, text_answer, refused_answer, bad_input}, Outputs.{Output, IsAll, output_of, words_output}}
 use Rattle.typst_html_run.specs.declared.program.Reply.{Reply}
-use Rattle.typst_html_json.specs.declared.fault.Fault.{Fault}
-use Rattle.typst_html_json.specs.declared.fault.Fault.TheVariants.{OutOfMemory, BadInput, Refused}
+use Rattle.typst_html_json.specs.declared.fault.{Fault.{Fault}, Fault.TheVariants.{OutOfMemory, BadInput, Refused}}
 
 abbrev pub reply_output : Reply → Output
 reply_output r = record { status = r.status; bytes = r.text.items }

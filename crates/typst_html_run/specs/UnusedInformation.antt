@@ -2,17 +2,11 @@
 -- their own, as JSON: the names of the members that are there for it.
 --     {"unused":["title","description","authors","keywords","lang","region","head"]}
 use Rattle.std.specs.Prelude.{ℕ, List, [], ◌∷◌, ◌++◌, map, is_some, codes, chars, if◌then◌else◌}
-use Rattle.serde_json.specs.Data.{Data, string, array, object, member, no_members}
-use Rattle.serde_json.specs.Find.{get}
-use Rattle.serde_json.specs.View.{items_of}
-use Rattle.serde_json.specs.Written.{compact_text}
+use Rattle.serde_json.specs.{Data.{Data, string, array, object, member, no_members}, Find.{get}, View.{items_of}, Written.{compact_text}}
 use Rattle.html_flow_convert.specs.Items.{no_items}
-use Rattle.typst_html_export.specs.Assembled.{items_document_faults}
-use Rattle.typst_html_export.specs.OwnRoots.{have_own_root}
+use Rattle.typst_html_export.specs.{Assembled.{items_document_faults}, OwnRoots.{have_own_root}}
 use Rattle.typst_html_run.specs.Answers.{Answer, answer_if, answer_to, fault_refusal, first_refusal_or_text}
-use Rattle.typst_html_json.specs.Json.{json_of}
-use Rattle.typst_html_json.specs.JsonPlaces.{input_place}
-use Rattle.typst_html_json.specs.NameRefusals.{Refusal}
+use Rattle.typst_html_json.specs.{Json.{json_of}, JsonPlaces.{input_place}, NameRefusals.{Refusal}}
 use Rattle.typst_html_json.specs.SpelledDocuments.{Spelling, names_refusals, spelled_document}
 
 -- the name, if the object has a member of that name

@@ -1,8 +1,7 @@
 -- The words that the program is called with.
 use Rattle.std.specs.Prelude.{ℕ, List, [], ◌∷◌, map, Option, Some, None, option_map, option_and_then, codes, bytes_eq, String, string_bytes, Bool, true, false, if◌then◌else◌}
 use Rattle.std.specs.declared.alloc.Global.{Global}
-use Rattle.typst_html_run.specs.declared.words.Task.{Task}
-use Rattle.typst_html_run.specs.declared.words.Task.TheVariants.{Tree, Doc}
+use Rattle.typst_html_run.specs.declared.words.{Task.{Task}, Task.TheVariants.{Tree, Doc}}
 
 abbrev pub texts_of : List (String Global) → List (List ℕ)
 texts_of = map string_bytes

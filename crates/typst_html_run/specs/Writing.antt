@@ -1,9 +1,6 @@
 -- The effect of a call on a recorded writer.
-use Rattle.std.specs.Prelude.{◌≡◌, ℕ, List, take, Option, Result, MatchResult}
-use Rattle.std.specs.Io.KnownBytes.{Appends}
-use Rattle.typst_html_run.specs.declared.recorded.LastCall.{LastCall}
-use Rattle.typst_html_run.specs.declared.recorded.LastCall.TheVariants.{Flushed, Failed}
-use Rattle.typst_html_run.specs.declared.recorded.WriteFailed.{WriteFailed}
+use Rattle.std.specs.{Io.KnownBytes.{Appends}, Prelude.{◌≡◌, ℕ, List, take, Option, Result, MatchResult}}
+use Rattle.typst_html_run.specs.declared.recorded.{LastCall.{LastCall}, WriteFailed.{WriteFailed}, LastCall.TheVariants.{Flushed, Failed}}
 
 -- the known bytes grow by a beginning of these bytes
 abbrev pub AppendsBeginning : (old new : Option (List ℕ)) → (bytes : List ℕ) → Type 0

@@ -2,28 +2,18 @@
 
 ghost use Rattle.std.specs.Prelude.{◌≡◌, ◌≤◌, ◌++◌, IfOk, Some};
 ghost use Rattle.serde_json.specs.View.{view};
-ghost use Rattle.html_dom_document.specs.Documents.{document_root};
-ghost use Rattle.html_dom_document.specs.Views.{document_view};
-ghost use Rattle.html_anchors.specs.DeadLinks.{dead_links_view};
-ghost use Rattle.html_anchors.specs.FoundAnchors.{document_dead_links};
-ghost use Rattle.html_anchors.specs.Links.{document_with_links};
+ghost use Rattle.html_dom_document.specs.{Documents.{document_root}, Views.{document_view}};
+ghost use Rattle.html_anchors.specs.{DeadLinks.{dead_links_view}, FoundAnchors.{document_dead_links}, Links.{document_with_links}};
 ghost use Rattle.typst_html_encode.specs.Endings as written;
 ghost use Rattle.typst_html_encode.specs.ExportFaults as writing;
 ghost use Rattle.typst_html_encode.specs.FrameWriters.{no_frames};
 ghost use Rattle.typst_html_encode.specs.Text as html;
 ghost use Rattle.html_dom_tree.specs.Views.{text_view};
 ghost use Rattle.typst_html_run.specs.Answers.{answer_to};
-ghost use Rattle.typst_html_run.specs.DocumentAnswers.{document_answer, document_input_answer};
-ghost use Rattle.typst_html_run.specs.DocumentAnswers.{spelling_faults, document_refusals, spelling_text};
-ghost use Rattle.typst_html_run.specs.DocumentAnswers.{dead_links, dead_links_in, input_dead_links, text_given};
-ghost use Rattle.typst_html_run.specs.DocumentAnswers.{made_document};
-ghost use Rattle.typst_html_export.specs.Assembled.{items_document_faults};
-ghost use Rattle.typst_html_export.specs.Assembles.{GivesDocument};
-ghost use Rattle.typst_html_export.specs.Exported.{root_faults};
-ghost use Rattle.typst_html_json.specs.Refusals.{Gives};
+ghost use Rattle.typst_html_run.specs.DocumentAnswers.{document_answer, document_input_answer, spelling_faults, document_refusals, spelling_text, dead_links, dead_links_in, input_dead_links, text_given, made_document};
 ghost use Rattle.typst_html_run.specs.Replies.{GivesAnswer};
-ghost use Rattle.typst_html_json.specs.SpelledDocuments.{spelled_document};
-ghost use Rattle.typst_html_json.specs.Spelling.{spelling_view};
+ghost use Rattle.typst_html_export.specs.{Assembled.{items_document_faults}, Assembles.{GivesDocument}, Exported.{root_faults}};
+ghost use Rattle.typst_html_json.specs.{Refusals.{Gives}, SpelledDocuments.{spelled_document}, Spelling.{spelling_view}};
 
 use crate::program::fault_of;
 use crate::unused::has_nodes;

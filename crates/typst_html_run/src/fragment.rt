@@ -5,11 +5,9 @@ ghost use Rattle.serde_json.specs.View.{view};
 ghost use Rattle.html_dom_tree.specs.Views.{text_view};
 ghost use Rattle.html_flow_convert.specs.Views.{items_view};
 ghost use Rattle.typst_html_run.specs.Answers.{answer_to};
-ghost use Rattle.typst_html_run.specs.FragmentAnswers.{fragment_answer, fragment_input_answer};
-ghost use Rattle.typst_html_run.specs.FragmentAnswers.{fragment_refusals, fragment_text};
+ghost use Rattle.typst_html_run.specs.FragmentAnswers.{fragment_answer, fragment_input_answer, fragment_refusals, fragment_text};
 ghost use Rattle.typst_html_run.specs.Replies.{GivesAnswer};
-ghost use Rattle.typst_html_json.specs.Refusals.{Gives};
-ghost use Rattle.typst_html_json.specs.SpelledItems.{spelled_document_items};
+ghost use Rattle.typst_html_json.specs.{Refusals.{Gives}, SpelledItems.{spelled_document_items}};
 
 use crate::program::fault_of;
 use html_flow_convert::{ConversionLevel, Pair};

@@ -1,25 +1,16 @@
 //! A run of the program on any reader and writer.
 
-ghost use Rattle.std.specs.Prelude.{◌≡◌, None, IfSome, IfOk, codes};
-ghost use Rattle.std.specs.Io.KnownBytes.{Appends};
+ghost use Rattle.std.specs.{Io.KnownBytes.{Appends}, Prelude.{◌≡◌, None, IfSome, IfOk, codes}};
 ghost use Rattle.html_dom_flat.specs.FlatTrees.{tree_nodes};
-ghost use Rattle.html_dom_tree.specs.Tree.{ElementView, element_node, node, none};
-ghost use Rattle.html_dom_tree.specs.Views.{text_view};
+ghost use Rattle.html_dom_tree.specs.{Tree.{ElementView, element_node, node, none}, Views.{text_view}};
 ghost use Rattle.html_flow_convert.specs.Views.{items_view};
 ghost use Rattle.serde_json.specs.View.{view};
-ghost use Rattle.typst_html_run.specs.Answers.{answer_to, input_answer};
-ghost use Rattle.typst_html_run.specs.Answers.{doc_answer, doc_refusals, doc_text, refused_answer};
-ghost use Rattle.typst_html_run.specs.Answers.{tree_answer, tree_refusals, tree_text, value_answer};
-ghost use Rattle.typst_html_json.specs.Refusals.{Gives};
+ghost use Rattle.typst_html_run.specs.Answers.{answer_to, input_answer, doc_answer, doc_refusals, doc_text, refused_answer, tree_answer, tree_refusals, tree_text, value_answer};
 ghost use Rattle.typst_html_run.specs.ExportRefusals.{export_refusal};
-ghost use Rattle.typst_html_run.specs.Outputs.{EndsAs, EndsOn, RunsAs, RunsOn};
-ghost use Rattle.typst_html_run.specs.Outputs.{Output, bad_input_output, output_of};
-ghost use Rattle.typst_html_run.specs.Replies.{GivesAnswer, GivesOutput, GivesOutputOn};
-ghost use Rattle.typst_html_run.specs.Replies.{IsReply, reply_output};
-ghost use Rattle.typst_html_json.specs.Spelled.{spelled_element};
-ghost use Rattle.typst_html_json.specs.SpelledItems.{spelled_items};
-ghost use Rattle.typst_html_run.specs.Words.{texts_of, wanted_task};
-ghost use Rattle.typst_html_run.specs.declared.status.Status.TheVariants.{BadInput};
+ghost use Rattle.typst_html_run.specs.Outputs.{EndsAs, EndsOn, RunsAs, RunsOn, Output, bad_input_output, output_of};
+ghost use Rattle.typst_html_run.specs.Replies.{GivesAnswer, GivesOutput, GivesOutputOn, IsReply, reply_output};
+ghost use Rattle.typst_html_run.specs.{Words.{texts_of, wanted_task}, declared.status.Status.TheVariants.{BadInput}};
+ghost use Rattle.typst_html_json.specs.{Refusals.{Gives}, Spelled.{spelled_element}, SpelledItems.{spelled_items}};
 
 use crate::recorded::{LastCall, Recorded, WriteFailed};
 use crate::status::Status;

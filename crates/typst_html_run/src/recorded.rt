@@ -1,7 +1,6 @@
 //! A writer that remembers how its last call ended.
 
-ghost use Rattle.std.specs.Prelude.{◌≡◌, ◌<◌, ◌≤◌, length, take, IfOk, OnErr};
-ghost use Rattle.std.specs.Io.KnownBytes.{Appends, Keeps};
+ghost use Rattle.std.specs.{Io.KnownBytes.{Appends, Keeps}, Prelude.{◌≡◌, ◌<◌, ◌≤◌, length, take, IfOk, OnErr}};
 ghost use Rattle.typst_html_run.specs.Writing.{WritesAll};
 
 use crate::whole::{flush, write_some, write_whole};

@@ -1,16 +1,13 @@
 //! The information about a document that its text does not show, as JSON.
 
 ghost use Rattle.std.specs.Prelude.{◌≡◌, ◌≤◌, ◌==◌, ◌++◌, IfOk, OnOk, not, length, string_bytes};
-ghost use Rattle.serde_json.specs.View.{view};
-ghost use Rattle.serde_json.specs.Written.{compact_text};
+ghost use Rattle.serde_json.specs.{View.{view}, Written.{compact_text}};
 ghost use Rattle.html_dom_tree.specs.Views.{nodes_view, text_view};
 ghost use Rattle.html_flow_convert.specs.LoneNode.{node_list};
 ghost use Rattle.typst_html_run.specs.Replies.{GivesAnswer};
-ghost use Rattle.typst_html_run.specs.UnusedInformation.{given_name, given_names, unused_data, unused_text};
-ghost use Rattle.typst_html_run.specs.UnusedInformation.{unused_input_answer, unused_refusals, unused_value_answer};
+ghost use Rattle.typst_html_run.specs.UnusedInformation.{given_name, given_names, unused_data, unused_text, unused_input_answer, unused_refusals, unused_value_answer};
 ghost use Rattle.typst_html_run.specs.Words.{texts_of};
-ghost use Rattle.typst_html_json.specs.Refusals.{Gives};
-ghost use Rattle.typst_html_json.specs.Spelling.{spelling_view};
+ghost use Rattle.typst_html_json.specs.{Refusals.{Gives}, Spelling.{spelling_view}};
 
 use crate::program::fault_of;
 use html_dom_tree::HtmlNode;

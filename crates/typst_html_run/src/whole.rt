@@ -1,7 +1,6 @@
 //! Writing that records the outcome of the last call.
 
-ghost use Rattle.std.specs.Prelude.{◌≡◌, ◌<◌, ◌≤◌, length, take, IfOk, OnErr};
-ghost use Rattle.std.specs.Io.KnownBytes.{Appends, Keeps};
+ghost use Rattle.std.specs.{Io.KnownBytes.{Appends, Keeps}, Prelude.{◌≡◌, ◌<◌, ◌≤◌, length, take, IfOk, OnErr}};
 ghost use Rattle.typst_html_run.specs.Writing.{WritesAll};
 
 use crate::recorded::{LastCall, WriteFailed};

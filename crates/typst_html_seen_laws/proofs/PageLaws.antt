@@ -1,17 +1,12 @@
 -- What is shown of a page that was read, and of one without what is unseen.
-use Rattle.std.proofs.Common.{◌≡◌, true, [], Some, ap, sym, ◌∙◌}
-use Rattle.std.specs.Prelude.{option_map, unwrap_or}
-use Rattle.html_dom_tree.specs.PlainTree.{nodes_normal, element_normal}
-use Rattle.html_dom_tree.specs.Tree.{ElementView}
-use Rattle.html_dom_shown.specs.SeenBodies.{seen_body, seen_tree}
-use Rattle.html_dom_shown.proofs.Bodies.{body_in_normal}
+use Rattle.std.{proofs.Common.{◌≡◌, true, [], Some, ap, sym, ◌∙◌}, specs.Prelude.{option_map, unwrap_or}}
+use Rattle.html_dom_tree.specs.{PlainTree.{nodes_normal, element_normal}, Tree.{ElementView}}
+use Rattle.html_dom_shown.{proofs.Bodies.{body_in_normal}, specs.SeenBodies.{seen_body, seen_tree}}
 use Rattle.typst_html_read.proofs.ReadLaws.{read_is_normal}
 use Rattle.typst_html_spaces.proofs.SeenBody.{body_is_seen, plain_tree_seen}
-use Rattle.html_page_text.specs.PageTexts.{page_pieces}
-use Rattle.html_page_text.specs.Unseen.{seen_element}
-use Rattle.typst_html_seen_laws.specs.AllSeen.{shows_all}
-use Rattle.typst_html_seen_laws.specs.PageLaws.{ReadPagesAreSeen, UnseenPartsAreLeftOut}
+use Rattle.html_page_text.specs.{PageTexts.{page_pieces}, Unseen.{seen_element}}
 use Rattle.typst_html_seen_laws.proofs.SeenNodes.{body_of_seen}
+use Rattle.typst_html_seen_laws.specs.{AllSeen.{shows_all}, PageLaws.{ReadPagesAreSeen, UnseenPartsAreLeftOut}}
 
 -- where all is seen, the body is that of the whole root
 body_seen_whole : (root : ElementView) → shows_all root ≡ true →

@@ -1,7 +1,6 @@
 -- Nodes without what is unseen, where each element is seen.
 use Rattle.std.proofs.Common.{◌≡◌, Bool, true, false, bytes_eq, codes, refl, sym, ap, ◌∙◌, inl, inr}
-use Rattle.std.specs.Prelude.{◌&&◌, if◌then◌else◌}
-use Rattle.std.proofs.lemmas.Bool.{and_parts, cases_Bool, not-true}
+use Rattle.std.{proofs.lemmas.Bool.{and_parts, cases_Bool, not-true}, specs.Prelude.{◌&&◌, if◌then◌else◌}}
 use Rattle.html_dom_tree.specs.Tree.{Head, NodesView, tag_node, text_node, element_node, frame_node, none, node, ElementView}
 use Rattle.html_dom_shown.specs.Bodies.{body_children}
 use Rattle.html_page_text.specs.Unseen.{is_unseen, seen_nodes, seen_element}

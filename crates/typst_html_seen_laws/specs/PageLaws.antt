@@ -1,17 +1,12 @@
 -- Laws of what is visible of a page that was read.
 use Rattle.std.specs.Prelude.{◌≡◌, ℕ, true, List, Some}
 use Rattle.html_dom_tree.specs.Tree.{NodesView, ElementView}
-use Rattle.html_dom_shown.specs.Bodies.{body_children}
-use Rattle.html_dom_shown.specs.Collapsing.{Piece}
-use Rattle.typst_html_encode.specs.FrameWriters.{Frames}
-use Rattle.typst_html_encode.specs.IndentsCollapse.{NodesAreEdged}
-use Rattle.typst_html_encode.specs.Reader.{read}
-use Rattle.typst_html_encode.specs.Text.{document_text}
+use Rattle.html_dom_shown.specs.{Bodies.{body_children}, Collapsing.{Piece}}
+use Rattle.typst_html_encode.specs.{FrameWriters.{Frames}, IndentsCollapse.{NodesAreEdged}, Reader.{read}, Text.{document_text}}
 use Rattle.typst_html_encode.specs.declared.options.HtmlOptions.{HtmlOptions}
 use Rattle.typst_html_read.specs.PlainElements.{accepted}
 use Rattle.typst_html_spaces.specs.SeenBody.{CanBeRead, seen_text}
-use Rattle.html_page_text.specs.PageTexts.{page_pieces}
-use Rattle.html_page_text.specs.Unseen.{seen_element}
+use Rattle.html_page_text.specs.{PageTexts.{page_pieces}, Unseen.{seen_element}}
 use Rattle.typst_html_seen_laws.specs.AllSeen.{shows_all}
 
 -- exactly what is visible in the body of the text that an element was read from is visible of the

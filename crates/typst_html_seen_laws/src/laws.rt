@@ -1,7 +1,6 @@
 //! Laws of pages. The contract of each function is a law; the functions do nothing.
 
-ghost use Rattle.typst_html_seen_laws.specs.AllSeen.{SeenNodesStay};
-ghost use Rattle.typst_html_seen_laws.specs.PageLaws.{ReadPagesAreSeen, UnseenPartsAreLeftOut};
+ghost use Rattle.typst_html_seen_laws.specs.{AllSeen.{SeenNodesStay}, PageLaws.{ReadPagesAreSeen, UnseenPartsAreLeftOut}};
 
 /// Exactly what is visible in the body of a text is visible of the element that was read from it,
 /// if neither the element, nor its body, nor anything in the body is hidden. For a text that

@@ -2,22 +2,16 @@
 use Rattle.std.proofs.Common.{◌≡◌, ℕ, Bool, true, false, ◌||◌, List, ◌∷◌, ◌++◌, refl, ap, ◌∙◌, sym, append-nil, codes}
 use Rattle.std.proofs.lemmas.Bool.{false≢true}
 use Rattle.html_names_core.specs.Displays.{default_display}
-use Rattle.html_names_core.specs.Kinds.{is_void, is_replaced, is_raw, is_mathml, is_token, is_metadata_content}
-use Rattle.html_names_core.specs.Names.{stands_in}
+use Rattle.html_names_core.specs.{Kinds.{is_void, is_replaced, is_raw, is_mathml, is_token, is_metadata_content}, Names.{stands_in}}
 use Rattle.html_names_core.specs.Texts.{TextPair}
 use Rattle.html_dom_tree.specs.Tree.{Head, text_node, element_node, NodesView, none, node}
-use Rattle.html_dom_shown.specs.Collapsing.{text_atoms, preserves, has_border}
-use Rattle.html_dom_shown.proofs.NodeAtoms.{nodes_atoms, normal_atoms}
-use Rattle.typst_html_encode.specs.IndentsCollapse.{HeadIsEdged, NodesAreEdged}
-use Rattle.typst_html_encode.specs.Layout.{allows_pretty_inside, wants_pretty_around}
+use Rattle.html_dom_shown.{proofs.NodeAtoms.{nodes_atoms, normal_atoms}, specs.Collapsing.{text_atoms, preserves, has_border}}
+use Rattle.typst_html_encode.specs.{IndentsCollapse.{HeadIsEdged, NodesAreEdged}, Layout.{allows_pretty_inside, wants_pretty_around}}
+use Rattle.typst_html_spaces.proofs.{Changed.{HoldsThen, holds_then, heads_then}, CleanNodes.{plain_clean}, MadeNodes.{made_are_named}}
 use Rattle.typst_html_spaces.specs.Anchored.{NewAttribute, new_id, new_href, attribute_name, with_front_attribute, anchor_head, IsAnchor, anchor, IsGiven, nothing, given, anchors, Anchored, IsAny, AnchorsAreUnseen, AnchorsKeepEdges, AnchorsKeepPlainNodes}
-use Rattle.typst_html_spaces.specs.CleanNodes.{IsCleanHead, clean, IsCleanValue, AnchorsKeepCleanNodes}
 use Rattle.typst_html_spaces.specs.Changed.{at_end, at_tag, after_tag, at_text, around_text, at_element, at_frame}
-use Rattle.typst_html_spaces.specs.DeepNodes.{of_heads}
+use Rattle.typst_html_spaces.specs.{CleanNodes.{IsCleanHead, clean, IsCleanValue, AnchorsKeepCleanNodes}, DeepNodes.{of_heads}}
 use Rattle.typst_html_spaces.specs.PlainFlow.{is_plain_name}
-use Rattle.typst_html_spaces.proofs.Changed.{HoldsThen, holds_then, heads_then}
-use Rattle.typst_html_spaces.proofs.CleanNodes.{plain_clean}
-use Rattle.typst_html_spaces.proofs.MadeNodes.{made_are_named}
 
 -- a new attribute says nothing of how an element is shown
 

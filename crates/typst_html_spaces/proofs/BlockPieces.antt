@@ -1,22 +1,15 @@
 -- A block: a lone element stands for it with a border of its own, and other nodes get a `div`.
 use Rattle.std.proofs.Common.{◌≡◌, ℕ, Bool, false, cond, List, [], ◌∷◌, ◌++◌, map, Some, inl, inr, refl, ap, ◌∙◌, append-nil}
 use Rattle.std.proofs.lemmas.Bool.{cases_Bool, true≢false}
-use Rattle.html_names_core.specs.Displays.{default_display}
-use Rattle.html_names_core.specs.Kinds.{is_replaced, is_line_break}
-use Rattle.html_names_core.specs.Names.{stands_in}
-use Rattle.html_dom_tree.specs.Styled.{styled_attrs}
-use Rattle.html_dom_tree.specs.Tree.{Head, NodeView, tag_node, text_node, element_node, frame_node, NodesView}
+use Rattle.html_names_core.specs.{Displays.{default_display}, Kinds.{is_replaced, is_line_break}, Names.{stands_in}}
+use Rattle.html_dom_tree.specs.{Styled.{styled_attrs}, Tree.{Head, NodeView, tag_node, text_node, element_node, frame_node, NodesView}}
 use Rattle.html_dom_shown.specs.Collapsing.{Piece, has_border}
 use Rattle.html_flow_convert.specs.LoneNode.{DisplayChangeView, node_with_display, css_with_display, node_list, lone_node, block_change, block_head, block_nodes}
-use Rattle.typst_html_spaces.specs.AtomContexts.{SameButEdges}
-use Rattle.typst_html_spaces.specs.DeepNodes.{HoldsOf}
-use Rattle.typst_html_spaces.specs.ItemText.{between_edges}
 use Rattle.typst_html_spaces.proofs.Edges.{same-equal, same-edged}
-use Rattle.typst_html_spaces.proofs.LoneNode.{of_tags, of_lone, of_block}
 use Rattle.typst_html_spaces.proofs.LoneBreaks.{other, one_break, nodes_content, list_content, holds_one_break, lone_content, all_displayed_content}
-use Rattle.typst_html_spaces.proofs.MadeHeads.{StandsForBlock, stands_for_block}
-use Rattle.typst_html_spaces.proofs.MadeNodes.{made, AreMade}
-use Rattle.typst_html_spaces.proofs.OwnPieces.{edged, inner_pieces, node_pieces, nodes_pieces, list_pieces}
+use Rattle.typst_html_spaces.proofs.{LoneNode.{of_tags, of_lone, of_block}, MadeHeads.{StandsForBlock, stands_for_block}}
+use Rattle.typst_html_spaces.proofs.{MadeNodes.{made, AreMade}, OwnPieces.{edged, inner_pieces, node_pieces, nodes_pieces, list_pieces}}
+use Rattle.typst_html_spaces.specs.{AtomContexts.{SameButEdges}, DeepNodes.{HoldsOf}, ItemText.{between_edges}}
 
 -- what is seen of a list with a lone node is that node
 

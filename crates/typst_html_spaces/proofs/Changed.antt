@@ -1,11 +1,8 @@
 -- What holds of nodes at any depth before they are changed, and then.
-use Rattle.std.proofs.Common.{◌≡◌, ℕ, Bool, true, false, List, inl, inr, refl, ap}
-use Rattle.std.proofs.lemmas.Bool.{cases_Bool}
-use Rattle.html_dom_tree.specs.Styled.{head_with_style, styled_nodes}
-use Rattle.html_dom_tree.specs.Tags.{TagView}
+use Rattle.std.proofs.{Common.{◌≡◌, ℕ, Bool, true, false, List, inl, inr, refl, ap}, lemmas.Bool.{cases_Bool}}
+use Rattle.html_dom_tree.specs.{Styled.{head_with_style, styled_nodes}, Tags.{TagView}}
 use Rattle.html_dom_tree.specs.Tree.{Head, tag_node, text_node, element_node, frame_node, NodesView, none, node}
-use Rattle.html_flow_convert.specs.BareSpaces.{is_entered}
-use Rattle.html_flow_convert.specs.Nodes.{pre_wrap_head, is_one}
+use Rattle.html_flow_convert.specs.{BareSpaces.{is_entered}, Nodes.{pre_wrap_head, is_one}}
 use Rattle.html_flow_convert.specs.Protected.{is_bare, node_by_answers, nodes_by_answers}
 use Rattle.typst_html_spaces.specs.Changed.{Change, Changed, at_end, at_tag, after_tag, at_text, around_text, at_element, at_frame}
 use Rattle.typst_html_spaces.specs.DeepNodes.{Wanted, is_empty, HoldsOfAll, of_heads}

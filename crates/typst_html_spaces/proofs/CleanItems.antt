@@ -1,30 +1,20 @@
 -- Clean items of plain flow become nodes without a fault.
 use Rattle.std.proofs.Common.{◌≡◌, ℕ, true, false, not, ◌&&◌, ◌||◌, ◌==◌, List, [], ◌∷◌, Option, None, Some, inl, inr, refl, ◌∙◌, sym, codes}
 use Rattle.std.proofs.lemmas.Bool.{cases_Bool, false≢true, and_parts, or_cases}
-use Rattle.html_names_core.specs.Characters.{all, is_text_char}
-use Rattle.html_names_core.specs.Kinds.{is_void}
-use Rattle.html_names_core.specs.Names.{stands_in}
-use Rattle.html_flow_convert.specs.Nodes.{is_one}
-use Rattle.html_flow_convert.specs.Pieces.{PieceView, stretch, alone, line_break, is_in_stretch, in_stretch, pieces_after, piece_node}
+use Rattle.html_names_core.specs.{Characters.{all, is_text_char}, Kinds.{is_void}, Names.{stands_in}}
 use Rattle.html_flow_convert.specs.Converted.{RoleText, item_role, passes_role, role_pairs, element_head, body_level, body_whitespace, body_role, text_item_nodes, body_nodes, converted_nodes}
-use Rattle.html_flow_convert.specs.Items.{RoleView, inherits, sets, unsets, ElemHead, BodyView, absent, present}
-use Rattle.html_flow_convert.specs.declared.convert.ConversionLevel.{ConversionLevel}
-use Rattle.html_flow_convert.specs.declared.convert.ConversionLevel.TheVariants.{Block}
-use Rattle.html_flow_convert.specs.declared.convert.Whitespace.{Whitespace}
-use Rattle.html_flow_convert.specs.declared.convert.Whitespace.TheVariants.{Normal, Pre}
-use Rattle.typst_html_spaces.specs.CleanItems.{is_clean_role, is_absent, is_clean_item, are_clean_items, is_clean_body, CleanItemsMakeCleanNodes}
-use Rattle.typst_html_spaces.specs.CleanNodes.{is_clean_text, are_clean_values, IsCleanText}
-use Rattle.typst_html_spaces.specs.DeepNodes.{is_empty, HoldsOf}
-use Rattle.typst_html_spaces.specs.PlainFlow.{is_plain_head, is_one_break, is_plain_item, are_plain_items, is_plain_body}
-use Rattle.typst_html_spaces.proofs.CleanNodes.{clean_values-append, made_clean, styled_are_clean, plain_clean}
-use Rattle.typst_html_spaces.proofs.DeepNodes.{Known, HoldsOfItems, of_converted, HoldsOnTheWay}
-use Rattle.typst_html_spaces.proofs.Each.{Each, Each-map}
-use Rattle.typst_html_spaces.proofs.MadeHeads.{stands_for_block}
-use Rattle.typst_html_spaces.proofs.MadeNodes.{break_made, wrap_made, block_made}
-use Rattle.typst_html_spaces.proofs.PlainParts.{plain_head as plain_parts, element_made}
-use Rattle.typst_html_spaces.proofs.ReadyRuns.{one_char}
-use Rattle.typst_html_spaces.proofs.TextPieces.{each_outside}
+use Rattle.html_flow_convert.specs.{Items.{RoleView, inherits, sets, unsets, ElemHead, BodyView, absent, present}, Nodes.{is_one}}
+use Rattle.html_flow_convert.specs.Pieces.{PieceView, stretch, alone, line_break, is_in_stretch, in_stretch, pieces_after, piece_node}
+use Rattle.html_flow_convert.specs.declared.convert.{ConversionLevel.{ConversionLevel}, Whitespace.{Whitespace}}
+use Rattle.html_flow_convert.specs.declared.convert.{ConversionLevel.TheVariants.{Block}, Whitespace.TheVariants.{Normal, Pre}}
 use Rattle.typst_html_spaces.proofs.Anchored.{span_is_not_void}
+use Rattle.typst_html_spaces.proofs.CleanNodes.{clean_values-append, made_clean, styled_are_clean, plain_clean}
+use Rattle.typst_html_spaces.proofs.{DeepNodes.{Known, HoldsOfItems, of_converted, HoldsOnTheWay}, Each.{Each, Each-map}}
+use Rattle.typst_html_spaces.proofs.{MadeHeads.{stands_for_block}, MadeNodes.{break_made, wrap_made, block_made}}
+use Rattle.typst_html_spaces.proofs.{PlainParts.{plain_head as plain_parts, element_made}, ReadyRuns.{one_char}, TextPieces.{each_outside}}
+use Rattle.typst_html_spaces.specs.CleanItems.{is_clean_role, is_absent, is_clean_item, are_clean_items, is_clean_body, CleanItemsMakeCleanNodes}
+use Rattle.typst_html_spaces.specs.{CleanNodes.{is_clean_text, are_clean_values, IsCleanText}, DeepNodes.{is_empty, HoldsOf}}
+use Rattle.typst_html_spaces.specs.PlainFlow.{is_plain_head, is_one_break, is_plain_item, are_plain_items, is_plain_body}
 
 div_is_not_void : is_void (codes "div") ≡ false
 unfolding is_void stands_in

@@ -1,21 +1,15 @@
 -- Nodes that have no fault at any depth.
 use Rattle.std.proofs.Common.{◌≡◌, ℕ, Bool, true, false, not, ◌&&◌, ◌||◌, ◌==◌, List, [], ◌∷◌, ◌++◌, None, inl, inr, refl, ap, ◌∙◌, codes}
 use Rattle.std.proofs.lemmas.Bool.{cases_Bool, false≢true, and_parts}
-use Rattle.html_names_core.specs.Characters.{all, is_text_char}
-use Rattle.html_names_core.specs.Kinds.{is_void}
-use Rattle.html_names_core.specs.Texts.{TextPair}
-use Rattle.html_dom_tree.specs.Attributes.{first}
-use Rattle.html_dom_tree.specs.Styled.{styled_attrs, head_with_style, styled_nodes}
+use Rattle.html_names_core.specs.{Characters.{all, is_text_char}, Kinds.{is_void}, Texts.{TextPair}}
+use Rattle.html_dom_tree.specs.{Attributes.{first}, Styled.{styled_attrs, head_with_style, styled_nodes}}
 use Rattle.html_dom_tree.specs.Tree.{Head, tag_node, text_node, element_node, frame_node, NodesView, none, node}
 use Rattle.typst_html_encode.specs.ExportFaults.{is_reference, is_bad, char_faults, text_faults, attrs_faults, void_faults, node_faults}
-use Rattle.typst_html_encode.specs.Layout.{is_pretty_inside}
-use Rattle.typst_html_encode.specs.Text.{ends_at_once, escaping_of}
-use Rattle.typst_html_spaces.specs.CleanNodes.{are_clean_values, is_no_return, IsCleanText, IsCleanHead, clean, AreCleanNodes, CleanNodesAreWritten}
-use Rattle.typst_html_spaces.specs.DeepNodes.{Wanted, is_empty, HoldsOfAll}
-use Rattle.typst_html_spaces.specs.PlainFlow.{is_plain_name}
-use Rattle.typst_html_spaces.proofs.Changed.{holds_then, styled_is_changed}
-use Rattle.typst_html_spaces.proofs.MadeHeads.{MadeCss, plain, made_css, MadeHead}
+use Rattle.typst_html_encode.specs.{Layout.{is_pretty_inside}, Text.{ends_at_once, escaping_of}}
+use Rattle.typst_html_spaces.proofs.{Changed.{holds_then, styled_is_changed}, MadeHeads.{MadeCss, plain, made_css, MadeHead}}
 use Rattle.typst_html_spaces.proofs.ReadyElements.{plain_is_not_raw, plain_is_not_escapable, plain_is_not_foreign}
+use Rattle.typst_html_spaces.specs.CleanNodes.{are_clean_values, is_no_return, IsCleanText, IsCleanHead, clean, AreCleanNodes, CleanNodesAreWritten}
+use Rattle.typst_html_spaces.specs.{DeepNodes.{Wanted, is_empty, HoldsOfAll}, PlainFlow.{is_plain_name}}
 
 -- texts
 

@@ -1,27 +1,21 @@
 -- What holds of nodes at any depth is kept by each step on which they are made of items.
 use Rattle.std.proofs.Common.{◌≡◌, ℕ, Bool, true, false, ◌||◌, List, [], ◌∷◌, ◌++◌, map, Option, None, Some, inl, inr, refl, ap, ◌∙◌, sym, codes}
-use Rattle.std.specs.List.{filter}
-use Rattle.std.proofs.lemmas.Bool.{cases_Bool, false≢true, or_left}
-use Rattle.std.proofs.Math.Bool.{or-false}
-use Rattle.html_dom_tree.specs.Tags.{TagView}
-use Rattle.html_dom_tree.specs.Tree.{Head, NodeView, tag_node, text_node, element_node, NodesView, none, node}
+use Rattle.std.{proofs.Math.Bool.{or-false}, proofs.lemmas.Bool.{cases_Bool, false≢true, or_left}, specs.List.{filter}}
+use Rattle.html_dom_tree.specs.{Tags.{TagView}, Tree.{Head, NodeView, tag_node, text_node, element_node, NodesView, none, node}}
 use Rattle.html_dom_tree.specs.Views.{nodes_of}
 use Rattle.html_flow_convert.specs.BareSpaces.{bare_spaces}
+use Rattle.html_flow_convert.specs.Converted.{text_item_nodes, list_nodes, RoleText, item_role, element_head, body_level, body_whitespace, body_role, item_nodes, items_nodes, body_nodes, converted_nodes}
+use Rattle.html_flow_convert.specs.Items.{RoleView, ElemHead, FrameElemView, ItemView, tag_item, element_item, space_item, text_item, hole_item, break_item, box_item, block_item, frame_item, ItemsView, no_items, item, BodyView, absent, present}
+use Rattle.html_flow_convert.specs.LoneNode.{node_list, lone_node, DisplayChangeView, css_with_display, node_with_display, block_change, changed_or_in, box_change_of, box_head, block_head, box_nodes, block_nodes}
 use Rattle.html_flow_convert.specs.Nodes.{made_head, pre_wrap_head, is_one}
 use Rattle.html_flow_convert.specs.Pieces.{PieceView, stretch, alone, line_break, piece_node, pieces}
 use Rattle.html_flow_convert.specs.Runs.{is_blank_node, first_node_span, are_kept, run_nodes, nodes_with_runs}
-use Rattle.html_flow_convert.specs.Converted.{text_item_nodes, list_nodes, RoleText, item_role, element_head, body_level, body_whitespace, body_role, item_nodes, items_nodes, body_nodes, converted_nodes}
-use Rattle.html_flow_convert.specs.LoneNode.{node_list, lone_node, DisplayChangeView, css_with_display, node_with_display, block_change, changed_or_in, box_change_of, box_head, block_head, box_nodes, block_nodes}
-use Rattle.html_flow_convert.specs.declared.convert.ConversionLevel.{ConversionLevel}
-use Rattle.html_flow_convert.specs.declared.convert.ConversionLevel.TheVariants.{Block, Inline}
-use Rattle.html_flow_convert.specs.declared.convert.Whitespace.{Whitespace}
-use Rattle.html_flow_convert.specs.declared.convert.Whitespace.TheVariants.{Normal, Pre}
-use Rattle.typst_html_spaces.specs.DeepNodes.{Wanted, is_empty, HoldsOf, HoldsOfAll}
+use Rattle.html_flow_convert.specs.declared.convert.{ConversionLevel.{ConversionLevel}, Whitespace.{Whitespace}}
+use Rattle.html_flow_convert.specs.declared.convert.{ConversionLevel.TheVariants.{Block, Inline}, Whitespace.TheVariants.{Normal, Pre}}
 use Rattle.typst_html_spaces.proofs.Changed.{HoldsThen, holds_then, IsWrap, wrapped, wraps, protected_is_changed}
-use Rattle.typst_html_spaces.proofs.Each.{Each, Each-append}
-use Rattle.typst_html_spaces.proofs.EachRun.{IsInRun, of_each_run}
+use Rattle.typst_html_spaces.proofs.{Each.{Each, Each-append}, EachRun.{IsInRun, of_each_run}}
 use Rattle.typst_html_spaces.proofs.LoneNode.{of_tags, of_lone, of_block as block_by}
-use Rattle.html_flow_convert.specs.Items.{RoleView, ElemHead, FrameElemView, ItemView, tag_item, element_item, space_item, text_item, hole_item, break_item, box_item, block_item, frame_item, ItemsView, no_items, item, BodyView, absent, present}
+use Rattle.typst_html_spaces.specs.DeepNodes.{Wanted, is_empty, HoldsOf, HoldsOfAll}
 
 -- lists
 

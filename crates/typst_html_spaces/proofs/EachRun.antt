@@ -1,6 +1,5 @@
 -- What holds of each node of a list once its runs of blanks are kept.
-use Rattle.std.proofs.Common.{◌≡◌, true, false, ◌||◌, List, [], ◌∷◌, inl, inr}
-use Rattle.std.proofs.lemmas.Bool.{cases_Bool}
+use Rattle.std.proofs.{Common.{◌≡◌, true, false, ◌||◌, List, [], ◌∷◌, inl, inr}, lemmas.Bool.{cases_Bool}}
 use Rattle.html_dom_tree.specs.Tree.{NodeView, is_tag}
 use Rattle.html_flow_convert.specs.Runs.{is_blank_node, run_nodes, front_nodes, blank_front, after_front, nodes_with_runs}
 use Rattle.typst_html_spaces.proofs.Each.{Each, Each-append}

@@ -1,11 +1,9 @@
 -- What pretty writing puts indents around or inside is a border in the nodes of plain flow.
 use Rattle.std.proofs.Common.{◌≡◌, ◌⊎◌, ℕ, Bool, true, false, not, ◌&&◌, ◌||◌, List, Option, Some, inl, inr, refl, ap, ◌∙◌, sym, codes, bytes_eq}
-use Rattle.std.proofs.lemmas.Bool.{cases_Bool, false≢true, and_parts, or_cases, not-true, false_from_ne_true}
-use Rattle.std.proofs.lemmas.Slice.Eq.{bytes_eq-Decides}
+use Rattle.std.proofs.lemmas.{Bool.{cases_Bool, false≢true, and_parts, or_cases, not-true, false_from_ne_true}, Slice.Eq.{bytes_eq-Decides}}
 use Rattle.html_names_core.specs.Displays.{default_display}
 use Rattle.html_names_core.specs.Kinds.{is_replaced, is_mathml, mathml_names, is_token, is_metadata_content, metadata_content_names, shows_border}
-use Rattle.html_names_core.specs.Names.{stands_in}
-use Rattle.html_names_core.specs.declared.property.Display.{Display}
+use Rattle.html_names_core.specs.{Names.{stands_in}, declared.property.Display.{Display}}
 use Rattle.html_names_core.specs.declared.property.Display.TheVariants as display
 use Rattle.html_names_core.proofs.Basics.{implied}
 use Rattle.html_dom_tree.specs.Styled.{styled_attrs, head_with_style, styled_node, styled_nodes}
@@ -13,15 +11,11 @@ use Rattle.html_dom_tree.specs.Tree.{Head, tag_node, text_node, element_node, fr
 use Rattle.html_dom_shown.specs.Collapsing.{has_border_display}
 use Rattle.typst_html_encode.specs.IndentsCollapse.{HeadIsEdged, NodesAreEdged}
 use Rattle.typst_html_encode.specs.Layout.{is_of_lines, allows_pretty_inside, wants_pretty_around}
-use Rattle.html_flow_convert.specs.Converted.{RoleText, converted_nodes}
-use Rattle.html_flow_convert.specs.Items.{ItemsView}
-use Rattle.html_flow_convert.specs.declared.convert.ConversionLevel.TheVariants.{Block}
-use Rattle.html_flow_convert.specs.declared.convert.Whitespace.TheVariants.{Normal}
-use Rattle.typst_html_spaces.specs.DeepNodes.{HoldsOfAll}
-use Rattle.typst_html_spaces.specs.PlainFlow.{is_plain_name, is_plain_flow}
+use Rattle.html_flow_convert.specs.{Converted.{RoleText, converted_nodes}, Items.{ItemsView}}
+use Rattle.html_flow_convert.specs.declared.convert.{ConversionLevel.TheVariants.{Block}, Whitespace.TheVariants.{Normal}}
 use Rattle.typst_html_spaces.proofs.MadeHeads.{MadeHead, head_style_is, wrap_preserves, is_wrap, is_away, plain_is_there, plain_is_no_math, listed_pass}
-use Rattle.typst_html_spaces.proofs.MadeNodes.{made, items_made}
-use Rattle.typst_html_spaces.proofs.ReadyElements.{plain_is_not_raw}
+use Rattle.typst_html_spaces.proofs.{MadeNodes.{made, items_made}, ReadyElements.{plain_is_not_raw}}
+use Rattle.typst_html_spaces.specs.{DeepNodes.{HoldsOfAll}, PlainFlow.{is_plain_name, is_plain_flow}}
 
 -- names
 

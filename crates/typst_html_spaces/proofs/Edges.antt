@@ -1,9 +1,7 @@
 -- Pieces that are the same but for neighbouring edges.
 use Rattle.std.proofs.Common.{◌≡◌, Bool, true, false, List, [], ◌∷◌, ◌++◌, refl, ap, ◌∙◌, sym, append_assoc}
 use Rattle.html_dom_shown.specs.Collapsing.{Piece, edge, merged_edges}
-use Rattle.typst_html_spaces.specs.AtomContexts.{ends_in_edge, SameButEdges}
-use Rattle.typst_html_spaces.specs.ItemText.{between_edges}
-use Rattle.typst_html_spaces.proofs.OwnPieces.{edged}
+use Rattle.typst_html_spaces.{proofs.OwnPieces.{edged}, specs.AtomContexts.{ends_in_edge, SameButEdges}, specs.ItemText.{between_edges}}
 
 ends_in_edge-append : (b : Bool) (ps qs : List Piece) →
     ends_in_edge b (ps ++ qs) ≡ ends_in_edge (ends_in_edge b ps) qs

@@ -1,30 +1,22 @@
 -- The nodes of items in plain flow, if their atoms stay, are seen as the items' text.
 use Rattle.std.proofs.Common.{◌≡◌, ℕ, true, false, not, List, [], ◌∷◌, ◌++◌, codes, None, inl, inr, refl, ◌∙◌, sym, append-nil}
 use Rattle.std.proofs.lemmas.Bool.{cases_Bool, and_parts, not-true, true≢false}
-use Rattle.html_names_core.specs.Displays.{default_display}
-use Rattle.html_names_core.specs.Kinds.{is_replaced, is_line_break, shows_border}
-use Rattle.html_names_core.specs.Names.{stands_in}
+use Rattle.html_names_core.specs.{Displays.{default_display}, Kinds.{is_replaced, is_line_break, shows_border}, Names.{stands_in}}
 use Rattle.html_names_core.specs.Texts.{TextPair}
-use Rattle.html_dom_tree.specs.Attributes.{first}
-use Rattle.html_dom_tree.specs.Tree.{NodeView, element_node, NodesView, none}
-use Rattle.html_dom_tree.specs.Views.{nodes_of}
+use Rattle.html_dom_tree.specs.{Attributes.{first}, Tree.{NodeView, element_node, NodesView, none}, Views.{nodes_of}}
 use Rattle.html_dom_shown.specs.Collapsing.{Piece, char, thing, line, has_border}
 use Rattle.html_flow_convert.specs.Converted.{RoleText, item_role, element_head, body_role, body_level, body_whitespace, item_nodes, items_nodes, body_nodes, converted_nodes}
 use Rattle.html_flow_convert.specs.Items.{ElemHead, ItemView, tag_item, element_item, space_item, text_item, hole_item, break_item, block_item, ItemsView, no_items, item, BodyView, absent, present}
-use Rattle.html_flow_convert.specs.declared.convert.ConversionLevel.{ConversionLevel}
-use Rattle.html_flow_convert.specs.declared.convert.ConversionLevel.TheVariants.{Block}
-use Rattle.html_flow_convert.specs.declared.convert.Whitespace.{Whitespace}
-use Rattle.html_flow_convert.specs.declared.convert.Whitespace.TheVariants.{Normal, Pre}
-use Rattle.typst_html_spaces.specs.AtomContexts.{SameButEdges}
-use Rattle.typst_html_spaces.specs.ItemText.{between_edges, text_pieces, break_piece, element_pieces, item_pieces, items_pieces, body_pieces}
-use Rattle.typst_html_spaces.specs.PlainFlow.{is_plain_head, is_one_break, is_plain_item, are_plain_items, is_plain_body}
+use Rattle.html_flow_convert.specs.declared.convert.{ConversionLevel.{ConversionLevel}, Whitespace.{Whitespace}}
+use Rattle.html_flow_convert.specs.declared.convert.{ConversionLevel.TheVariants.{Block}, Whitespace.TheVariants.{Normal, Pre}}
 use Rattle.typst_html_spaces.proofs.BlockPieces.{IsBlock, block_pieces}
 use Rattle.typst_html_spaces.proofs.Edges.{same-equal, same-refl, same-trans, same-append, same-between_edges}
 use Rattle.typst_html_spaces.proofs.LoneBreaks.{Content, nothing, other, add, nodes_content, list_content, list_content-append, list_nodes_content, AtMost, add_at_most, item_content, items_content, body_content, holds_one_break, is_one_break_is, text_at_most}
-use Rattle.typst_html_spaces.proofs.MadeNodes.{body_made}
-use Rattle.typst_html_spaces.proofs.OwnPieces.{head_pieces, nodes_pieces, list_pieces, list_pieces-append}
+use Rattle.typst_html_spaces.proofs.{MadeNodes.{body_made}, OwnPieces.{head_pieces, nodes_pieces, list_pieces, list_pieces-append}}
 use Rattle.typst_html_spaces.proofs.PlainParts.{PlainHead, plain_head, element_made, plain_border, replaced_no_border, replaced_no_break}
-use Rattle.typst_html_spaces.proofs.TextPieces.{text_item_pieces, break_item_pieces, list_nodes_pieces}
+use Rattle.typst_html_spaces.{proofs.TextPieces.{text_item_pieces, break_item_pieces, list_nodes_pieces}, specs.AtomContexts.{SameButEdges}}
+use Rattle.typst_html_spaces.specs.ItemText.{between_edges, text_pieces, break_piece, element_pieces, item_pieces, items_pieces, body_pieces}
+use Rattle.typst_html_spaces.specs.PlainFlow.{is_plain_head, is_one_break, is_plain_item, are_plain_items, is_plain_body}
 
 -- nodes that are seen as that text, and hold no more than that
 pub record SeenAs (made : NodesView) (text : List Piece) (content : Content) : Type 0 where

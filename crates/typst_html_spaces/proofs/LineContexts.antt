@@ -1,12 +1,10 @@
 -- Spaces between others: lists one after the other, and protection by context.
 use Rattle.std.proofs.Common.{◌≡◌, Bool, true, false, List, [], ◌∷◌, ◌++◌, Option, Some, None, length, drop, inl, inr, refl, ap, ◌∙◌, sym, arith, append_assoc, append-nil}
-use Rattle.std.proofs.Math.Seq.{drop-append_seam}
-use Rattle.std.proofs.lemmas.Bool.{cases_Bool}
+use Rattle.std.proofs.{Math.Seq.{drop-append_seam}, lemmas.Bool.{cases_Bool}}
 use Rattle.html_dom_tree.specs.Tree.{NodeView, text_node, element_node, NodesView, none, node}
-use Rattle.html_flow_convert.specs.BareSpaces.{Thing, border, visible, space, node_things, nodes_things, is_entered, is_in_line, is_visible_first, bare_after}
-use Rattle.html_flow_convert.specs.Nodes.{is_one}
-use Rattle.html_flow_convert.specs.Protected.{space_count, node_by_answers, nodes_by_answers}
 use Rattle.html_flow_convert.proofs.Protecting.{opened_things}
+use Rattle.html_flow_convert.specs.BareSpaces.{Thing, border, visible, space, node_things, nodes_things, is_entered, is_in_line, is_visible_first, bare_after}
+use Rattle.html_flow_convert.specs.{Nodes.{is_one}, Protected.{space_count, node_by_answers, nodes_by_answers}}
 use Rattle.typst_html_spaces.specs.LineContexts.{visible_at, line_past, bare_between, node_between, nodes_between, ProtectsByContext}
 
 pub visible_at-append : (ts us : List Thing) (after : Bool) →

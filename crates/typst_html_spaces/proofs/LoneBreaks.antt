@@ -1,30 +1,21 @@
 -- Nodes of which one line break is all: only items of which it is all become such nodes.
 use Rattle.std.proofs.Common.{◌≡◌, ◌⊎◌, ℕ, Bool, true, false, ◌==◌, cond, List, [], ◌∷◌, ◌++◌, map, codes, Some, inl, inr, refl, ap, ◌∙◌, sym, eqb-true}
-use Rattle.std.specs.List.{filter}
-use Rattle.std.proofs.lemmas.Bool.{cases_Bool, false≢true}
-use Rattle.html_names_core.specs.Kinds.{is_line_break}
-use Rattle.html_names_core.specs.Names.{stands_in}
+use Rattle.std.{proofs.lemmas.Bool.{cases_Bool, false≢true}, specs.List.{filter}}
+use Rattle.html_names_core.specs.{Kinds.{is_line_break}, Names.{stands_in}}
 use Rattle.html_dom_tree.specs.Tree.{Head, NodeView, tag_node, text_node, element_node, frame_node, NodesView, none, node}
 use Rattle.html_dom_tree.specs.Views.{nodes_of}
 use Rattle.html_dom_shown.specs.Collapsing.{Piece, char, thing, line, edge}
-use Rattle.html_flow_convert.specs.BareSpaces.{bare_spaces}
-use Rattle.html_flow_convert.specs.Pieces.{PieceView, line_break, piece_node, pieces}
-use Rattle.html_flow_convert.specs.Runs.{is_blank_node, are_kept, run_nodes, nodes_with_runs}
-use Rattle.html_flow_convert.specs.Converted.{text_item_nodes, list_nodes}
+use Rattle.html_flow_convert.specs.{BareSpaces.{bare_spaces}, Converted.{text_item_nodes, list_nodes}}
 use Rattle.html_flow_convert.specs.Items.{ItemView, text_item, ItemsView, no_items, item, BodyView, absent, present}
 use Rattle.html_flow_convert.specs.LoneNode.{node_list, lone_node, DisplayChangeView, node_with_display}
-use Rattle.html_flow_convert.specs.declared.convert.ConversionLevel.{ConversionLevel}
-use Rattle.html_flow_convert.specs.declared.convert.ConversionLevel.TheVariants.{Block, Inline}
-use Rattle.html_flow_convert.specs.declared.convert.Whitespace.{Whitespace}
-use Rattle.html_flow_convert.specs.declared.convert.Whitespace.TheVariants.{Normal, Pre}
-use Rattle.typst_html_spaces.specs.Changed.{Changed, at_tag, after_tag, around_text, at_element}
-use Rattle.typst_html_spaces.specs.ItemText.{chars_by_line}
+use Rattle.html_flow_convert.specs.Pieces.{PieceView, line_break, piece_node, pieces}
+use Rattle.html_flow_convert.specs.Runs.{is_blank_node, are_kept, run_nodes, nodes_with_runs}
+use Rattle.html_flow_convert.specs.declared.convert.{ConversionLevel.{ConversionLevel}, Whitespace.{Whitespace}}
+use Rattle.html_flow_convert.specs.declared.convert.{ConversionLevel.TheVariants.{Block, Inline}, Whitespace.TheVariants.{Normal, Pre}}
+use Rattle.typst_html_spaces.proofs.{Changed.{IsWrap, wrapped, wraps, protected_is_changed}, LoneNode.{of_tags, of_lone}}
+use Rattle.typst_html_spaces.proofs.{OwnPieces.{list_pieces}, Runs.{with_runs}, TextPieces.{text_item_pieces}}
+use Rattle.typst_html_spaces.specs.{Changed.{Changed, at_tag, after_tag, around_text, at_element}, ItemText.{chars_by_line}}
 use Rattle.typst_html_spaces.specs.PlainFlow.{is_unseen_item, are_unseen_items, is_break, are_one_break, is_one_break}
-use Rattle.typst_html_spaces.proofs.Changed.{IsWrap, wrapped, wraps, protected_is_changed}
-use Rattle.typst_html_spaces.proofs.LoneNode.{of_tags, of_lone}
-use Rattle.typst_html_spaces.proofs.OwnPieces.{list_pieces}
-use Rattle.typst_html_spaces.proofs.Runs.{with_runs}
-use Rattle.typst_html_spaces.proofs.TextPieces.{text_item_pieces}
 
 -- what a list holds, tags aside
 pub data Content : Type 0 where

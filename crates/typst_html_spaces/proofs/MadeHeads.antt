@@ -1,21 +1,16 @@
 -- Elements that conversion makes: what their css can be, and what becomes of a lone one that stands
 -- for its block.
 use Rattle.std.proofs.Common.{◌≡◌, ℕ, Bool, true, false, not, ◌||◌, List, [], ◌∷◌, ◌++◌, Option, Some, None, ◌⊎◌, inl, inr, refl, ap, ◌∙◌, sym, codes, bytes_eq}
+use Rattle.std.proofs.lemmas.{Bool.{cases_Bool, false≢true, and_parts, or_cases, or_right, not-true}, Slice.Eq.{bytes_eq-Decides}}
 use Rattle.std.specs.List.{list_all}
-use Rattle.std.proofs.lemmas.Bool.{cases_Bool, false≢true, and_parts, or_cases, or_right, not-true}
-use Rattle.std.proofs.lemmas.Slice.Eq.{bytes_eq-Decides}
 use lib.Utf8.{encode}
 use Rattle.html_names_core.specs.Displays.{default_display}
 use Rattle.html_names_core.specs.Kinds.{is_replaced, replaced_names, is_whitespace_collapsing, is_line_break, shows_border}
-use Rattle.html_names_core.specs.Names.{stands_in}
-use Rattle.html_names_core.specs.Texts.{TextPair}
-use Rattle.html_names_core.specs.declared.property.Display.{Display}
+use Rattle.html_names_core.specs.{Names.{stands_in}, Texts.{TextPair}, declared.property.Display.{Display}}
 use Rattle.html_names_core.specs.declared.property.Display.TheVariants as display
 use Rattle.html_values_css.specs.Properties.{with_property, without}
 use Rattle.html_dom_tree.proofs.Folds.{first-append}
-use Rattle.html_dom_tree.specs.Attributes.{first}
-use Rattle.html_dom_tree.specs.Styled.{styled_attrs}
-use Rattle.html_dom_tree.specs.Tree.{Head, element_node, NodesView}
+use Rattle.html_dom_tree.specs.{Attributes.{first}, Styled.{styled_attrs}, Tree.{Head, element_node, NodesView}}
 use Rattle.html_dom_shown.specs.Collapsing.{preserves, has_border}
 use Rattle.html_flow_convert.specs.BareSpaces.{is_border_element, makes_block}
 use Rattle.html_flow_convert.specs.LoneNode.{DisplayChangeView, removed, set_to, css_with_display, change_by_display, block_change}

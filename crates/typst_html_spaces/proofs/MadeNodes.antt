@@ -1,21 +1,14 @@
 -- Each element that items of plain flow become is made as conversion makes elements.
-use Rattle.std.proofs.Common.{◌≡◌, ℕ, true, false, not, [], refl, codes}
-use Rattle.std.proofs.lemmas.Bool.{false≢true, and_parts}
-use Rattle.html_names_core.specs.Displays.{default_display}
-use Rattle.html_names_core.specs.Kinds.{is_replaced, shows_border}
-use Rattle.html_names_core.specs.Names.{stands_in}
+use Rattle.std.proofs.{Common.{◌≡◌, ℕ, true, false, not, [], refl, codes}, lemmas.Bool.{false≢true, and_parts}}
+use Rattle.html_names_core.specs.{Displays.{default_display}, Kinds.{is_replaced, shows_border}, Names.{stands_in}}
 use Rattle.html_dom_tree.specs.Tree.{NodesView}
-use Rattle.html_flow_convert.specs.Nodes.{made_head, pre_wrap_head}
-use Rattle.html_flow_convert.specs.Converted.{RoleText, body_whitespace, body_nodes, converted_nodes}
-use Rattle.html_flow_convert.specs.Items.{ItemsView, BodyView}
-use Rattle.html_flow_convert.specs.LoneNode.{block_head}
-use Rattle.html_flow_convert.specs.declared.convert.ConversionLevel.{ConversionLevel}
-use Rattle.html_flow_convert.specs.declared.convert.Whitespace.{Whitespace}
-use Rattle.typst_html_spaces.specs.DeepNodes.{Wanted, HoldsOfAll, of_heads}
-use Rattle.typst_html_spaces.specs.PlainFlow.{is_plain_name, is_plain_head, is_one_break, is_plain_item, are_plain_items, is_plain_body}
+use Rattle.html_flow_convert.specs.{Converted.{RoleText, body_whitespace, body_nodes, converted_nodes}, Items.{ItemsView, BodyView}}
+use Rattle.html_flow_convert.specs.{LoneNode.{block_head}, Nodes.{made_head, pre_wrap_head}}
+use Rattle.html_flow_convert.specs.declared.convert.{ConversionLevel.{ConversionLevel}, Whitespace.{Whitespace}}
 use Rattle.typst_html_spaces.proofs.DeepNodes.{Known, HoldsOfItems, of_body, of_converted, HoldsOnTheWay, of_text}
 use Rattle.typst_html_spaces.proofs.MadeHeads.{plain, wrap, MadeHead, stands_for_block}
-use Rattle.typst_html_spaces.proofs.PlainParts.{plain_head as plain_parts, element_made}
+use Rattle.typst_html_spaces.{proofs.PlainParts.{plain_head as plain_parts, element_made}, specs.DeepNodes.{Wanted, HoldsOfAll, of_heads}}
+use Rattle.typst_html_spaces.specs.PlainFlow.{is_plain_name, is_plain_head, is_one_break, is_plain_item, are_plain_items, is_plain_body}
 
 -- no frame, and each element is made as conversion makes it
 abbrev pub made : Wanted

@@ -1,21 +1,17 @@
 -- What is seen of nodes whose atoms all stay. Neither runs of blanks nor protected spaces change it.
 use Rattle.std.proofs.Common.{◌≡◌, ℕ, Bool, true, false, ◌||◌, cond, List, [], ◌∷◌, ◌++◌, map, inl, inr, refl, ap, ◌∙◌, sym, append_assoc, append-nil}
-use Rattle.std.proofs.lemmas.List.{map-append}
-use Rattle.std.proofs.lemmas.Bool.{cases_Bool}
-use Rattle.html_names_core.specs.Characters.{is_blank, is_ignorable}
-use Rattle.html_names_core.specs.Displays.{default_display}
-use Rattle.html_names_core.specs.Kinds.{is_replaced, is_line_break}
+use Rattle.std.proofs.lemmas.{Bool.{cases_Bool}, List.{map-append}}
+use Rattle.html_names_core.specs.{Characters.{is_blank, is_ignorable}, Displays.{default_display}, Kinds.{is_replaced, is_line_break}}
 use Rattle.html_names_core.specs.Names.{stands_in}
 use Rattle.html_dom_tree.specs.Styled.{styled_attrs, styled_node, styled_nodes}
 use Rattle.html_dom_tree.specs.Tree.{Head, NodeView, tag_node, text_node, element_node, frame_node, NodesView, none, node, TextPair}
 use Rattle.html_dom_tree.specs.Views.{nodes_of}
-use Rattle.html_dom_shown.specs.Collapsing.{Atom, visible, ignorable, collapsible, kept, border, object, Piece, char, thing, line, edge, char_atom, text_atoms, preserves, has_border, bordered_atoms, element_atoms}
 use Rattle.html_dom_shown.proofs.NodeAtoms.{node_atoms, nodes_atoms}
+use Rattle.html_dom_shown.specs.Collapsing.{Atom, visible, ignorable, collapsible, kept, border, object, Piece, char, thing, line, edge, char_atom, text_atoms, preserves, has_border, bordered_atoms, element_atoms}
 use Rattle.html_flow_convert.specs.Nodes.{pre_wrap_head}
-use Rattle.typst_html_spaces.specs.AtomContexts.{own_piece, own_pieces}
+use Rattle.typst_html_spaces.{proofs.Changed.{IsWrap, wrapped, wraps}, specs.AtomContexts.{own_piece, own_pieces}}
 use Rattle.typst_html_spaces.specs.Changed.{Changed, at_end, at_tag, after_tag, at_text, around_text, at_element, at_frame}
 use Rattle.typst_html_spaces.specs.ItemText.{between_edges}
-use Rattle.typst_html_spaces.proofs.Changed.{IsWrap, wrapped, wraps}
 
 abbrev pub edged : Bool → List Piece → List Piece
 edged b ps = cond b (between_edges ps) ps

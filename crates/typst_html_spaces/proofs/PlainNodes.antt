@@ -1,24 +1,15 @@
 -- Nodes of plain flow can be read back.
-use Rattle.std.proofs.Common.{◌≡◌, ℕ, true, false, List, codes, bytes_eq, refl, ap, ◌∙◌}
-use Rattle.std.proofs.lemmas.Bool.{both_ways, false_from_ne_true}
-use Rattle.html_names_core.specs.Displays.{default_display}
-use Rattle.html_names_core.specs.Kinds.{is_replaced, is_raw}
-use Rattle.html_names_core.specs.Names.{stands_in}
+use Rattle.std.proofs.{Common.{◌≡◌, ℕ, true, false, List, codes, bytes_eq, refl, ap, ◌∙◌}, lemmas.Bool.{both_ways, false_from_ne_true}}
 use Rattle.html_names_core.proofs.Basics.{bytes_eq-same}
-use Rattle.html_dom_tree.specs.Styled.{styled_nodes}
-use Rattle.html_dom_tree.specs.Tree.{NodesView}
-use Rattle.html_flow_convert.specs.Converted.{converted_nodes}
-use Rattle.html_flow_convert.specs.declared.convert.ConversionLevel.TheVariants.{Block}
+use Rattle.html_names_core.specs.{Displays.{default_display}, Kinds.{is_replaced, is_raw}, Names.{stands_in}}
+use Rattle.html_dom_tree.specs.{Styled.{styled_nodes}, Tree.{NodesView}}
+use Rattle.html_flow_convert.specs.{Converted.{converted_nodes}, declared.convert.ConversionLevel.TheVariants.{Block}}
 use Rattle.html_flow_convert.specs.declared.convert.Whitespace.TheVariants.{Normal}
+use Rattle.typst_html_spaces.proofs.{Changed.{weaker}, EdgedNodes.{converted_are_edged}, MadeHeads.{MadeHead}, MadeNodes.{items_made}}
+use Rattle.typst_html_spaces.proofs.{ReadableNodes.{readable_can_be_read, styled_readable}, ReadyElements.{plain_is_not_raw}}
 use Rattle.typst_html_spaces.specs.PlainFlow.{is_plain_name}
 use Rattle.typst_html_spaces.specs.PlainNodes.{ArePlainNodes, PlainFlowMakesPlainNodes, PlainNodesCanBeRead, PlainNamesAreInside}
 use Rattle.typst_html_spaces.specs.ReadableNodes.{AreReadable}
-use Rattle.typst_html_spaces.proofs.Changed.{weaker}
-use Rattle.typst_html_spaces.proofs.EdgedNodes.{converted_are_edged}
-use Rattle.typst_html_spaces.proofs.MadeHeads.{MadeHead}
-use Rattle.typst_html_spaces.proofs.MadeNodes.{items_made}
-use Rattle.typst_html_spaces.proofs.ReadableNodes.{readable_can_be_read, styled_readable}
-use Rattle.typst_html_spaces.proofs.ReadyElements.{plain_is_not_raw}
 
 pub makes_plain_nodes : PlainFlowMakesPlainNodes
 makes_plain_nodes role items e = (

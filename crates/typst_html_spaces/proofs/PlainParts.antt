@@ -1,19 +1,13 @@
 -- What holds of an element in plain flow.
-use Rattle.std.proofs.Common.{◌≡◌, ℕ, true, false, not, ◌&&◌, List, [], ◌∷◌, Some, None, inl, inr, refl, codes}
+use Rattle.std.proofs.{Common.{◌≡◌, ℕ, true, false, not, ◌&&◌, List, [], ◌∷◌, Some, None, inl, inr, refl, codes}, Math.Bool.{or-false}}
 use Rattle.std.proofs.lemmas.Bool.{cases_Bool, false≢true, and_parts, not-true}
-use Rattle.std.proofs.Math.Bool.{or-false}
-use Rattle.html_names_core.specs.Displays.{default_display}
-use Rattle.html_names_core.specs.Kinds.{is_replaced, replaced_names, is_line_break, shows_border}
-use Rattle.html_names_core.specs.Names.{stands_in}
-use Rattle.html_names_core.specs.Texts.{TextPair}
 use Rattle.html_names_core.proofs.Basics.{none_from_not_some}
-use Rattle.html_dom_tree.proofs.Folds.{first-append}
-use Rattle.html_dom_tree.specs.Attributes.{first, has_name}
+use Rattle.html_names_core.specs.{Displays.{default_display}, Kinds.{is_replaced, replaced_names, is_line_break, shows_border}}
+use Rattle.html_names_core.specs.{Names.{stands_in}, Texts.{TextPair}}
+use Rattle.html_dom_tree.{proofs.Folds.{first-append}, specs.Attributes.{first, has_name}}
 use Rattle.html_dom_shown.specs.Collapsing.{has_border}
-use Rattle.html_flow_convert.specs.Converted.{RoleText, passes_role, role_pairs, element_head}
-use Rattle.html_flow_convert.specs.Items.{ElemHead}
-use Rattle.typst_html_spaces.specs.PlainFlow.{is_plain_name, has_no_css, is_plain_head}
-use Rattle.typst_html_spaces.proofs.MadeHeads.{plain, MadeHead, listed_pass}
+use Rattle.html_flow_convert.specs.{Converted.{RoleText, passes_role, role_pairs, element_head}, Items.{ElemHead}}
+use Rattle.typst_html_spaces.{proofs.MadeHeads.{plain, MadeHead, listed_pass}, specs.PlainFlow.{is_plain_name, has_no_css, is_plain_head}}
 
 no_css : (css : List TextPair) → has_no_css css ≡ true → css ≡ []
 no_css [] e = refl

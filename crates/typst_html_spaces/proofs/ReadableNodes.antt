@@ -1,21 +1,16 @@
 -- Nodes without a raw element and without a frame can be read back, and anchors leave them so.
-use Rattle.std.proofs.Common.{◌≡◌, ℕ, Bool, true, false, ◌&&◌, cond, List, Some, codes, bytes_eq, refl}
-use Rattle.std.proofs.lemmas.Bool.{both_ways}
+use Rattle.std.proofs.{Common.{◌≡◌, ℕ, Bool, true, false, ◌&&◌, cond, List, Some, codes, bytes_eq, refl}, lemmas.Bool.{both_ways}}
 use Rattle.std.specs.Prelude.{◌↔◌}
-use Rattle.html_names_core.specs.Kinds.{is_raw}
-use Rattle.html_names_core.specs.Names.{stands_in}
-use Rattle.html_dom_tree.specs.Styled.{styled_nodes}
+use Rattle.html_names_core.specs.{Kinds.{is_raw}, Names.{stands_in}}
+use Rattle.html_dom_tree.specs.{FrameFree.{NodeIsFrameFree, NodesAreFrameFree}, Styled.{styled_nodes}}
 use Rattle.html_dom_tree.specs.Tree.{Head, tag_node, text_node, element_node, frame_node, NodesView, none, node}
 use Rattle.html_dom_shown.specs.Bodies.{body_children}
-use Rattle.typst_html_encode.specs.Indented.{NodeEndsWell, NodesEndWell}
-use Rattle.typst_html_encode.specs.Layout.{is_pretty_inside}
-use Rattle.html_dom_tree.specs.FrameFree.{NodeIsFrameFree, NodesAreFrameFree}
-use Rattle.typst_html_spaces.specs.DeepNodes.{Wanted, HoldsOfAll, of_heads}
-use Rattle.typst_html_spaces.specs.ReadableNodes.{AreReadable, ReadableNodesCanBeRead, AnchorsKeepReadable, AnchorsKeepFrameFree, AnchorsKeepBody}
+use Rattle.typst_html_encode.specs.{Indented.{NodeEndsWell, NodesEndWell}, Layout.{is_pretty_inside}}
+use Rattle.typst_html_spaces.proofs.{Anchored.{heads_anchored}, Changed.{holds_then, heads_styled}}
 use Rattle.typst_html_spaces.specs.Anchored.{NewAttribute, IsAnchor, anchor, IsGiven, nothing, given, Anchored, IsAny}
 use Rattle.typst_html_spaces.specs.Changed.{Change, Changed, at_end, at_tag, after_tag, at_text, around_text, at_element, at_frame}
-use Rattle.typst_html_spaces.proofs.Anchored.{heads_anchored}
-use Rattle.typst_html_spaces.proofs.Changed.{holds_then, heads_styled}
+use Rattle.typst_html_spaces.specs.DeepNodes.{Wanted, HoldsOfAll, of_heads}
+use Rattle.typst_html_spaces.specs.ReadableNodes.{AreReadable, ReadableNodesCanBeRead, AnchorsKeepReadable, AnchorsKeepFrameFree, AnchorsKeepBody}
 
 abbrev readable : Wanted
 readable = of_heads (λ h. is_raw h.name ≡ false) ⊥

@@ -1,23 +1,15 @@
 -- The walk goes past the nodes of a block.
-use Rattle.std.proofs.Common.{◌≡◌, ℕ, Bool, true, false, cond, List, [], ◌∷◌, map, Some, inl, inr, refl, ap}
-use Rattle.std.proofs.lemmas.Bool.{cases_Bool}
-use Rattle.html_names_core.specs.Displays.{default_display}
-use Rattle.html_names_core.specs.Kinds.{is_replaced, is_line_break}
-use Rattle.html_names_core.specs.Names.{stands_in}
+use Rattle.std.proofs.{Common.{◌≡◌, ℕ, Bool, true, false, cond, List, [], ◌∷◌, map, Some, inl, inr, refl, ap}, lemmas.Bool.{cases_Bool}}
+use Rattle.html_names_core.specs.{Displays.{default_display}, Kinds.{is_replaced, is_line_break}, Names.{stands_in}}
 use Rattle.html_dom_tree.specs.Styled.{styled_attrs, styled_node, styled_nodes}
 use Rattle.html_dom_tree.specs.Tree.{TagView, TextPair, Head, NodeView, tag_node, text_node, element_node, frame_node, NodesView, node}
-use Rattle.html_dom_shown.specs.Collapsing.{Atom, object, preserves, has_border, bordered_atoms}
-use Rattle.html_dom_shown.proofs.NodeAtoms.{nodes_atoms}
+use Rattle.html_dom_shown.{proofs.NodeAtoms.{nodes_atoms}, specs.Collapsing.{Atom, object, preserves, has_border, bordered_atoms}}
 use Rattle.html_flow_convert.specs.BareSpaces.{is_border_element}
 use Rattle.html_flow_convert.specs.LoneNode.{node_list, are_tags, lone_node, DisplayChangeView, css_with_display, node_with_display, block_change, block_head, block_nodes}
+use Rattle.typst_html_spaces.proofs.{AtomContexts.{AtomsStay-front, AtomsStay-bordered, AtomsStay-inside}, Each.{Each}}
+use Rattle.typst_html_spaces.proofs.{LoneNode.{of_tags, of_lone, of_block}, MadeHeads.{StandsForBlock, stands_for_block}}
+use Rattle.typst_html_spaces.proofs.{MadeNodes.{AreMade}, ReadyNodes.{head_atoms, tag_ready, border_ready}, Walks.{Ready}}
 use Rattle.typst_html_spaces.specs.AtomContexts.{AtomsStay, support_at}
-use Rattle.typst_html_spaces.proofs.AtomContexts.{AtomsStay-front, AtomsStay-bordered, AtomsStay-inside}
-use Rattle.typst_html_spaces.proofs.Each.{Each}
-use Rattle.typst_html_spaces.proofs.LoneNode.{of_tags, of_lone, of_block}
-use Rattle.typst_html_spaces.proofs.MadeHeads.{StandsForBlock, stands_for_block}
-use Rattle.typst_html_spaces.proofs.MadeNodes.{AreMade}
-use Rattle.typst_html_spaces.proofs.ReadyNodes.{head_atoms, tag_ready, border_ready}
-use Rattle.typst_html_spaces.proofs.Walks.{Ready}
 
 -- a lone element that stands for its block
 

@@ -1,35 +1,23 @@
 -- The walk goes past an element of plain flow.
 use Rattle.std.proofs.Common.{◌≡◌, ℕ, Bool, true, false, not, cond, List, [], ◌∷◌, None, inl, inr, refl, ap, ◌∙◌, sym, codes, bytes_eq}
+use Rattle.std.proofs.{Math.Bool.{or-false}, lemmas.Bool.{cases_Bool, false≢true, or_left, or_right, not-true, false_from_ne_true}}
 use Rattle.std.specs.List.{list_all}
-use Rattle.std.proofs.lemmas.Bool.{cases_Bool, false≢true, or_left, or_right, not-true, false_from_ne_true}
-use Rattle.std.proofs.Math.Bool.{or-false}
-use Rattle.html_names_core.specs.Characters.{is_blank, is_ignorable}
-use Rattle.html_names_core.specs.Displays.{default_display}
+use Rattle.html_names_core.{proofs.Basics.{bytes_eq-same}, specs.Characters.{is_blank, is_ignorable}, specs.Displays.{default_display}}
 use Rattle.html_names_core.specs.Kinds.{is_replaced, is_line_break, is_raw, raw_names, is_escapable_raw, escapable_raw_names, is_foreign_self_closing, foreign_self_closing_names, shows_border, is_whitespace_collapsing}
-use Rattle.html_names_core.specs.Names.{stands_in}
-use Rattle.html_names_core.specs.Texts.{TextPair}
-use Rattle.html_names_core.proofs.Basics.{bytes_eq-same}
-use Rattle.html_dom_tree.specs.Attributes.{first}
-use Rattle.html_dom_tree.specs.Styled.{styled_attrs, styled_node, styled_nodes}
-use Rattle.html_dom_tree.specs.Tree.{Head, NodeView, text_node, element_node, NodesView, none, node}
-use Rattle.html_dom_tree.specs.Views.{nodes_of}
-use Rattle.html_dom_shown.specs.Collapsing.{Atom, object, char_atom, text_atoms, preserves, has_border, element_atoms}
+use Rattle.html_names_core.specs.{Names.{stands_in}, Texts.{TextPair}}
+use Rattle.html_dom_tree.specs.{Attributes.{first}, Styled.{styled_attrs, styled_node, styled_nodes}}
+use Rattle.html_dom_tree.specs.{Tree.{Head, NodeView, text_node, element_node, NodesView, none, node}, Views.{nodes_of}}
 use Rattle.html_dom_shown.proofs.NodeAtoms.{node_atoms, nodes_atoms}
+use Rattle.html_dom_shown.specs.Collapsing.{Atom, object, char_atom, text_atoms, preserves, has_border, element_atoms}
 use Rattle.html_flow_convert.specs.BareSpaces.{is_border_element, makes_block, is_entered}
-use Rattle.html_flow_convert.specs.Runs.{nodes_with_runs}
 use Rattle.html_flow_convert.specs.Converted.{RoleText, is_preformatted, body_level, body_whitespace, body_role, element_head, items_nodes, body_nodes}
-use Rattle.html_flow_convert.specs.Items.{ElemHead, BodyView, absent, present}
-use Rattle.html_flow_convert.specs.declared.convert.ConversionLevel.TheVariants.{Block, Inline}
-use Rattle.html_flow_convert.specs.declared.convert.Whitespace.TheVariants.{Normal}
-use Rattle.typst_html_spaces.specs.AtomContexts.{AtomStays, AtomsStay}
-use Rattle.typst_html_spaces.specs.PlainFlow.{is_plain_name, is_plain_body}
-use Rattle.typst_html_spaces.proofs.AtomContexts.{AtomsStay-append, AtomsStay-bordered}
-use Rattle.typst_html_spaces.proofs.Each.{Each}
-use Rattle.typst_html_spaces.proofs.MadeHeads.{listed_pass, name_is_border}
-use Rattle.typst_html_spaces.proofs.PlainParts.{PlainHead, element_made, plain_border}
-use Rattle.typst_html_spaces.proofs.ReadyBlocks.{Stay}
-use Rattle.typst_html_spaces.proofs.ReadyNodes.{head_atoms, border_ready, replaced_ready, entered_ready}
+use Rattle.html_flow_convert.specs.{Items.{ElemHead, BodyView, absent, present}, Runs.{nodes_with_runs}}
+use Rattle.html_flow_convert.specs.declared.convert.{ConversionLevel.TheVariants.{Block, Inline}, Whitespace.TheVariants.{Normal}}
+use Rattle.typst_html_spaces.proofs.{AtomContexts.{AtomsStay-append, AtomsStay-bordered}, Each.{Each}}
+use Rattle.typst_html_spaces.proofs.{MadeHeads.{listed_pass, name_is_border}, PlainParts.{PlainHead, element_made, plain_border}}
+use Rattle.typst_html_spaces.proofs.{ReadyBlocks.{Stay}, ReadyNodes.{head_atoms, border_ready, replaced_ready, entered_ready}}
 use Rattle.typst_html_spaces.proofs.Walks.{Ready, protected_stay}
+use Rattle.typst_html_spaces.specs.{AtomContexts.{AtomStays, AtomsStay}, PlainFlow.{is_plain_name, is_plain_body}}
 
 -- an element's atoms stay where those inside stay
 

@@ -1,22 +1,14 @@
 -- The walk goes past the nodes of items in plain flow.
-use Rattle.std.proofs.Common.{◌≡◌, true, not, inr}
-use Rattle.std.proofs.lemmas.Bool.{false≢true, and_parts}
-use Rattle.html_flow_convert.specs.Runs.{nodes_with_runs}
+use Rattle.std.proofs.{Common.{◌≡◌, true, not, inr}, lemmas.Bool.{false≢true, and_parts}}
 use Rattle.html_flow_convert.specs.Converted.{RoleText, item_role, body_whitespace, body_role, item_nodes, items_nodes, body_nodes, converted_nodes}
 use Rattle.html_flow_convert.specs.Items.{ItemView, tag_item, element_item, space_item, text_item, hole_item, break_item, block_item, ItemsView, no_items, item, BodyView, absent, present}
-use Rattle.html_flow_convert.specs.LoneNode.{block_nodes}
-use Rattle.html_flow_convert.specs.declared.convert.ConversionLevel.TheVariants.{Block}
+use Rattle.html_flow_convert.specs.{LoneNode.{block_nodes}, Runs.{nodes_with_runs}, declared.convert.ConversionLevel.TheVariants.{Block}}
 use Rattle.html_flow_convert.specs.declared.convert.Whitespace.TheVariants.{Normal}
+use Rattle.typst_html_spaces.proofs.{Each.{Each, Each-append, Each-weaker}, MadeNodes.{body_made}, PlainParts.{plain_head}}
+use Rattle.typst_html_spaces.proofs.{ReadyBlocks.{Stay, block_ready}, ReadyElements.{body_runs, block_body_stays, element_ready}}
+use Rattle.typst_html_spaces.proofs.{ReadyNodes.{tag_ready, space_ready, break_ready}, ReadyPieces.{AlmostReady, text_ready}}
+use Rattle.typst_html_spaces.proofs.{ReadyRuns.{runs_ready}, Walks.{Ready, protected_stay}}
 use Rattle.typst_html_spaces.specs.PlainFlow.{is_plain_head, is_one_break, is_plain_item, are_plain_items, is_plain_body}
-use Rattle.typst_html_spaces.proofs.Each.{Each, Each-append, Each-weaker}
-use Rattle.typst_html_spaces.proofs.MadeNodes.{body_made}
-use Rattle.typst_html_spaces.proofs.PlainParts.{plain_head}
-use Rattle.typst_html_spaces.proofs.ReadyBlocks.{Stay, block_ready}
-use Rattle.typst_html_spaces.proofs.ReadyElements.{body_runs, block_body_stays, element_ready}
-use Rattle.typst_html_spaces.proofs.ReadyNodes.{tag_ready, space_ready, break_ready}
-use Rattle.typst_html_spaces.proofs.ReadyPieces.{AlmostReady, text_ready}
-use Rattle.typst_html_spaces.proofs.ReadyRuns.{runs_ready}
-use Rattle.typst_html_spaces.proofs.Walks.{Ready, protected_stay}
 
 mutual
   unfolding item_nodes is_plain_item

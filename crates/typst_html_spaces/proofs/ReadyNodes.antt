@@ -1,22 +1,17 @@
 -- Single nodes past which the walk goes.
 use Rattle.std.proofs.Common.{◌≡◌, ℕ, Bool, true, false, not, ◌&&◌, List, [], ◌∷◌, refl, ap, ◌∙◌, if◌then◌else◌, codes}
 use Rattle.std.proofs.lemmas.Bool.{and_right}
-use Rattle.html_names_core.specs.Displays.{default_display}
-use Rattle.html_names_core.specs.Kinds.{is_replaced}
-use Rattle.html_names_core.specs.Names.{stands_in}
+use Rattle.html_names_core.specs.{Displays.{default_display}, Kinds.{is_replaced}, Names.{stands_in}}
 use Rattle.html_dom_tree.specs.Styled.{styled_node, styled_nodes}
-use Rattle.html_dom_tree.specs.Tree.{TagView, Head, tag_node, text_node, element_node, NodeView, NodesView, none}
-use Rattle.html_dom_tree.specs.Views.{nodes_of}
-use Rattle.html_dom_shown.specs.Collapsing.{Atom, collapsible, kept, object, break, text_atoms, preserves, has_border}
+use Rattle.html_dom_tree.specs.{Tree.{TagView, Head, tag_node, text_node, element_node, NodeView, NodesView, none}, Views.{nodes_of}}
 use Rattle.html_dom_shown.proofs.NodeAtoms.{node_atoms, nodes_atoms}
-use Rattle.html_flow_convert.specs.BareSpaces.{border, visible, space, text_things, node_things, nodes_things, is_border_element, is_entered}
-use Rattle.html_flow_convert.specs.Nodes.{made_head, pre_wrap_head, break_node, is_one}
-use Rattle.html_flow_convert.specs.Protected.{text_by_answer}
+use Rattle.html_dom_shown.specs.Collapsing.{Atom, collapsible, kept, object, break, text_atoms, preserves, has_border}
 use Rattle.html_flow_convert.proofs.Protecting.{opened_things}
-use Rattle.typst_html_spaces.specs.AtomContexts.{AtomsStay}
-use Rattle.typst_html_spaces.specs.LineContexts.{node_between, nodes_between}
+use Rattle.html_flow_convert.specs.BareSpaces.{border, visible, space, text_things, node_things, nodes_things, is_border_element, is_entered}
+use Rattle.html_flow_convert.specs.{Nodes.{made_head, pre_wrap_head, break_node, is_one}, Protected.{text_by_answer}}
 use Rattle.typst_html_spaces.proofs.Each.{Each}
 use Rattle.typst_html_spaces.proofs.Walks.{walks_as, Unseen, walks_unseen, Seen, walks_seen, walks_border, space_between, walks_space, atoms_between, Ready, nothing_unseen, walks_nodes}
+use Rattle.typst_html_spaces.specs.{AtomContexts.{AtomsStay}, LineContexts.{node_between, nodes_between}}
 
 -- the atoms of an element as conversion leaves it
 abbrev pub head_atoms : Head → NodesView → List Atom

@@ -1,18 +1,14 @@
 -- The nodes of a text past which the walk goes, lone tabs aside.
 use Rattle.std.proofs.Common.{◌≡◌, ℕ, true, false, not, ◌&&◌, ◌||◌, ◌==◌, List, [], ◌∷◌, Option, None, Some, inl, inr, ◌⊎◌, refl, ap, ◌∙◌, sym, arith}
-use Rattle.std.proofs.lemmas.Bool.{cases_Bool, false≢true, and_parts, or_parts, eqb-true, not-false}
-use Rattle.std.proofs.lemmas.Bool.Decides.{nat_tests}
+use Rattle.std.proofs.lemmas.{Bool.{cases_Bool, false≢true, and_parts, or_parts, eqb-true, not-false}, Bool.Decides.{nat_tests}}
 use Rattle.html_names_core.specs.Characters.{is_blank, is_ignorable}
 use Rattle.html_dom_tree.specs.Tree.{NodeView, text_node}
 use Rattle.html_dom_shown.specs.Collapsing.{Atom, visible, ignorable, collapsible, char_atom, text_atoms}
-use Rattle.html_flow_convert.specs.BareSpaces.{visible as visible_thing, text_things}
-use Rattle.html_flow_convert.specs.Nodes.{is_one}
+use Rattle.html_flow_convert.specs.{BareSpaces.{visible as visible_thing, text_things}, Nodes.{is_one}}
 use Rattle.html_flow_convert.specs.Pieces.{PieceView, stretch, alone, line_break, is_normal, is_normal_there, first_char, is_in_stretch, in_stretch, outside_stretch, pieces_after, piece_node, text_nodes}
 use Rattle.html_flow_convert.specs.Runs.{is_tab}
-use Rattle.typst_html_spaces.proofs.Each.{Each, Each-map}
-use Rattle.typst_html_spaces.proofs.Walks.{Ready, Seen, Unseen}
-use Rattle.typst_html_spaces.proofs.ReadyNodes.{unseen_text, seen_text, space_ready, break_ready}
-use Rattle.typst_html_spaces.proofs.TextPieces.{normal_parts, each_outside}
+use Rattle.typst_html_spaces.proofs.{Each.{Each, Each-map}, ReadyNodes.{unseen_text, seen_text, space_ready, break_ready}}
+use Rattle.typst_html_spaces.proofs.{TextPieces.{normal_parts, each_outside}, Walks.{Ready, Seen, Unseen}}
 
 no_space : (c : ℕ) → is_blank c ≡ false → (c == 32) ≡ false
 no_space c h = grind (arith, nat_tests)

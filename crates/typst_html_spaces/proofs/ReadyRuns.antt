@@ -1,20 +1,12 @@
 -- Once runs of blanks are kept, no tab stands alone, and the walk goes past each node.
-use Rattle.std.proofs.Common.{◌≡◌, ℕ, true, false, ◌||◌, List, [], ◌∷◌, ◌++◌, inl, inr, refl, ap, ◌∙◌, sym}
-use Rattle.std.specs.List.{filter}
-use Rattle.std.proofs.lemmas.Bool.{cases_Bool, false≢true, or_parts, or_cases, eqb-true}
-use Rattle.std.proofs.Math.Bool.{or-false}
-use Rattle.html_dom_tree.specs.Styled.{styled_nodes}
-use Rattle.html_dom_tree.specs.Tree.{NodeView, tag_node, text_node, is_tag}
-use Rattle.html_dom_tree.specs.Views.{nodes_of}
-use Rattle.html_dom_shown.specs.Collapsing.{Atom, kept, text_atoms}
-use Rattle.html_dom_shown.proofs.NodeAtoms.{nodes_atoms}
+use Rattle.std.proofs.{Common.{◌≡◌, ℕ, true, false, ◌||◌, List, [], ◌∷◌, ◌++◌, inl, inr, refl, ap, ◌∙◌, sym}, Math.Bool.{or-false}}
+use Rattle.std.{proofs.lemmas.Bool.{cases_Bool, false≢true, or_parts, or_cases, eqb-true}, specs.List.{filter}}
+use Rattle.html_dom_tree.specs.{Styled.{styled_nodes}, Tree.{NodeView, tag_node, text_node, is_tag}, Views.{nodes_of}}
+use Rattle.html_dom_shown.{proofs.NodeAtoms.{nodes_atoms}, specs.Collapsing.{Atom, kept, text_atoms}}
 use Rattle.html_flow_convert.specs.Nodes.{is_one}
 use Rattle.html_flow_convert.specs.Runs.{is_space, is_tab, is_blank_node, first_node_span, are_kept, run_nodes, nodes_with_runs}
-use Rattle.typst_html_spaces.proofs.Each.{Each}
-use Rattle.typst_html_spaces.proofs.EachRun.{IsInRun, of_each_run}
-use Rattle.typst_html_spaces.proofs.Walks.{Unseen, Ready, nothing_unseen}
-use Rattle.typst_html_spaces.proofs.ReadyNodes.{tag_ready, wrap_ready}
-use Rattle.typst_html_spaces.proofs.ReadyPieces.{AlmostReady}
+use Rattle.typst_html_spaces.proofs.{Each.{Each}, EachRun.{IsInRun, of_each_run}, ReadyNodes.{tag_ready, wrap_ready}}
+use Rattle.typst_html_spaces.proofs.{ReadyPieces.{AlmostReady}, Walks.{Unseen, Ready, nothing_unseen}}
 
 -- single characters
 

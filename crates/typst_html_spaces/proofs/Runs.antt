@@ -1,9 +1,7 @@
 -- Totals over lists of nodes that stay the same when runs of blanks are put in spans.
-use Rattle.std.proofs.Common.{◌≡◌, ◌||◌, List, [], ◌∷◌, ◌++◌, inl, inr, refl, ap, ◌∙◌, sym, append-nil}
-use Rattle.std.proofs.lemmas.Bool.{cases_Bool}
+use Rattle.std.proofs.{Common.{◌≡◌, ◌||◌, List, [], ◌∷◌, ◌++◌, inl, inr, refl, ap, ◌∙◌, sym, append-nil}, lemmas.Bool.{cases_Bool}}
 use Rattle.std.specs.List.{filter}
-use Rattle.html_dom_tree.specs.Tree.{NodeView, is_tag}
-use Rattle.html_dom_tree.specs.Views.{nodes_of}
+use Rattle.html_dom_tree.specs.{Tree.{NodeView, is_tag}, Views.{nodes_of}}
 use Rattle.html_flow_convert.specs.Runs.{is_blank_node, are_kept, first_node_span, run_nodes, front_nodes, blank_front, after_front, nodes_with_runs}
 use Rattle.typst_html_spaces.proofs.OwnPieces.{list_pieces, list_pieces-append, pre_wrap_pieces}
 

@@ -1,23 +1,15 @@
 -- What is seen of the body of a document that is written and read.
 use Rattle.std.proofs.Common.{◌≡◌, Bool, true, false, Some, ap, ◌∙◌}
 use Rattle.html_names_core.specs.Kinds.{is_raw}
-use Rattle.html_dom_tree.specs.PlainTree.{nodes_normal, element_normal}
-use Rattle.html_dom_tree.specs.Styled.{styled_nodes}
-use Rattle.html_dom_tree.specs.Tree.{NodesView, ElementView}
-use Rattle.html_dom_shown.specs.Bodies.{body_children}
-use Rattle.html_dom_shown.specs.SeenBodies.{seen_plains, seen_body, seen_tree}
-use Rattle.typst_html_encode.specs.FrameWriters.{Frames}
-use Rattle.typst_html_encode.specs.Indented.{element_layout}
-use Rattle.typst_html_encode.specs.IndentsCollapse.{NodesAreEdged}
+use Rattle.html_dom_tree.specs.{PlainTree.{nodes_normal, element_normal}, Styled.{styled_nodes}, Tree.{NodesView, ElementView}}
+use Rattle.html_dom_shown.specs.{Bodies.{body_children}, SeenBodies.{seen_plains, seen_body, seen_tree}}
+use Rattle.typst_html_encode.proofs.{IndentsCollapse.{body_collapses, body_normal}, ReadingBack.{reads_back}}
+use Rattle.typst_html_encode.specs.{FrameWriters.{Frames}, Indented.{element_layout}, IndentsCollapse.{NodesAreEdged}}
 use Rattle.typst_html_encode.specs.Text.{document_text, plain_options, pretty_options}
-use Rattle.typst_html_encode.proofs.IndentsCollapse.{body_collapses, body_normal}
-use Rattle.typst_html_encode.proofs.ReadingBack.{reads_back}
-use Rattle.html_flow_convert.specs.Converted.{converted_nodes}
-use Rattle.html_flow_convert.specs.declared.convert.ConversionLevel.TheVariants.{Block}
+use Rattle.html_flow_convert.specs.{Converted.{converted_nodes}, declared.convert.ConversionLevel.TheVariants.{Block}}
 use Rattle.html_flow_convert.specs.declared.convert.Whitespace.TheVariants.{Normal}
+use Rattle.typst_html_spaces.proofs.{EdgedNodes.{converted_are_edged}, SpacesStay.{spaces_stay}}
 use Rattle.typst_html_spaces.specs.SeenBody.{seen_text, CanBeRead, BodyIsSeen, ItemsAreSeen}
-use Rattle.typst_html_spaces.proofs.EdgedNodes.{converted_are_edged}
-use Rattle.typst_html_spaces.proofs.SpacesStay.{spaces_stay}
 
 -- of the tree that a root's text reads as
 

@@ -1,20 +1,13 @@
 -- Spaces stay: each atom of the nodes stays, and each by itself they are the items' text.
 use Rattle.std.proofs.Common.{◌≡◌, false, ap, ◌∙◌}
-use Rattle.html_dom_tree.specs.Styled.{styled_nodes}
-use Rattle.html_dom_tree.specs.Tree.{NodesView}
-use Rattle.html_dom_shown.specs.Collapsing.{merged_edges, collapsed_pieces}
-use Rattle.html_dom_shown.proofs.NodeAtoms.{nodes_atoms, normal_atoms}
+use Rattle.html_dom_tree.specs.{Styled.{styled_nodes}, Tree.{NodesView}}
+use Rattle.html_dom_shown.{proofs.NodeAtoms.{nodes_atoms, normal_atoms}, specs.Collapsing.{merged_edges, collapsed_pieces}}
 use Rattle.typst_html_encode.proofs.IndentsCollapse.{content_collapses}
-use Rattle.html_flow_convert.specs.Converted.{converted_nodes}
-use Rattle.html_flow_convert.specs.declared.convert.ConversionLevel.TheVariants.{Block}
+use Rattle.html_flow_convert.specs.{Converted.{converted_nodes}, declared.convert.ConversionLevel.TheVariants.{Block}}
 use Rattle.html_flow_convert.specs.declared.convert.Whitespace.TheVariants.{Normal}
-use Rattle.typst_html_spaces.specs.AtomContexts.{AtomsStay}
-use Rattle.typst_html_spaces.specs.SpacesStay.{seen_pieces, SpacesStay, PrettySpacesStay}
-use Rattle.typst_html_spaces.proofs.AtomContexts.{own_collapsed}
-use Rattle.typst_html_spaces.proofs.EdgedNodes.{converted_are_edged}
-use Rattle.typst_html_spaces.proofs.ItemPieces.{converted_seen}
-use Rattle.typst_html_spaces.proofs.OwnPieces.{nodes_pieces, nodes_own}
-use Rattle.typst_html_spaces.proofs.ReadyItems.{items_stay}
+use Rattle.typst_html_spaces.proofs.{AtomContexts.{own_collapsed}, EdgedNodes.{converted_are_edged}, ItemPieces.{converted_seen}}
+use Rattle.typst_html_spaces.proofs.{OwnPieces.{nodes_pieces, nodes_own}, ReadyItems.{items_stay}}
+use Rattle.typst_html_spaces.specs.{AtomContexts.{AtomsStay}, SpacesStay.{seen_pieces, SpacesStay, PrettySpacesStay}}
 
 -- nodes whose atoms all stay
 seen_own : (ns : NodesView) → AtomsStay false false (nodes_atoms false (styled_nodes ns)) →

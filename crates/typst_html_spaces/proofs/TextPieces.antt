@@ -1,26 +1,17 @@
 -- The pieces of a text, and what is done to a list of nodes, don't change what is seen.
 use Rattle.std.proofs.Common.{◌≡◌, ℕ, true, false, not, ◌&&◌, ◌==◌, List, [], ◌∷◌, ◌++◌, map, Option, None, Some, inl, inr, refl, ap, ◌∙◌, arith, append-nil}
-use Rattle.std.proofs.lemmas.Bool.{cases_Bool, and_parts, or_cases, not-true}
-use Rattle.std.proofs.lemmas.Bool.Decides.{nat_tests}
-use Rattle.html_names_core.specs.Characters.{is_blank, is_ignorable}
-use Rattle.html_names_core.specs.Names.{stands_in}
-use Rattle.html_dom_tree.specs.Tree.{NodeView}
-use Rattle.html_dom_tree.specs.Views.{nodes_of}
+use Rattle.std.proofs.lemmas.{Bool.{cases_Bool, and_parts, or_cases, not-true}, Bool.Decides.{nat_tests}}
+use Rattle.html_names_core.specs.{Characters.{is_blank, is_ignorable}, Names.{stands_in}}
+use Rattle.html_dom_tree.specs.{Tree.{NodeView}, Views.{nodes_of}}
 use Rattle.html_dom_shown.specs.Collapsing.{Piece, char, line}
-use Rattle.html_flow_convert.specs.BareSpaces.{bare_spaces}
-use Rattle.html_flow_convert.specs.Nodes.{break_node}
+use Rattle.html_flow_convert.specs.{BareSpaces.{bare_spaces}, Converted.{list_nodes, text_item_nodes, break_item_node}, Nodes.{break_node}}
 use Rattle.html_flow_convert.specs.Pieces.{PieceView, stretch, alone, line_break, is_normal, is_normal_there, first_char, is_in_stretch, in_stretch, is_carriage_return, outside_stretch, pieces_after, piece_node}
 use Rattle.html_flow_convert.specs.Runs.{nodes_with_runs}
-use Rattle.html_flow_convert.specs.Converted.{list_nodes, text_item_nodes, break_item_node}
-use Rattle.html_flow_convert.specs.declared.convert.ConversionLevel.{ConversionLevel}
-use Rattle.html_flow_convert.specs.declared.convert.ConversionLevel.TheVariants.{Block, Inline}
-use Rattle.html_flow_convert.specs.declared.convert.Whitespace.{Whitespace}
-use Rattle.html_flow_convert.specs.declared.convert.Whitespace.TheVariants.{Normal, Pre}
+use Rattle.html_flow_convert.specs.declared.convert.{ConversionLevel.{ConversionLevel}, Whitespace.{Whitespace}}
+use Rattle.html_flow_convert.specs.declared.convert.{ConversionLevel.TheVariants.{Block, Inline}, Whitespace.TheVariants.{Normal, Pre}}
+use Rattle.typst_html_spaces.proofs.{Changed.{protected_is_changed}, Each.{Each}}
+use Rattle.typst_html_spaces.proofs.{OwnPieces.{node_pieces, nodes_pieces, list_pieces, wraps_pieces}, Runs.{runs_pieces}}
 use Rattle.typst_html_spaces.specs.ItemText.{chars_by_line, text_pieces, break_piece}
-use Rattle.typst_html_spaces.proofs.Changed.{protected_is_changed}
-use Rattle.typst_html_spaces.proofs.Each.{Each}
-use Rattle.typst_html_spaces.proofs.OwnPieces.{node_pieces, nodes_pieces, list_pieces, wraps_pieces}
-use Rattle.typst_html_spaces.proofs.Runs.{runs_pieces}
 
 pub break_node_pieces : (span : ℕ) → node_pieces (break_node span) ≡ line ∷ []
 unfolding stands_in

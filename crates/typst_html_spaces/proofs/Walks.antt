@@ -2,18 +2,13 @@
 -- a space that stays.
 use Rattle.std.proofs.Common.{◌≡◌, Bool, true, false, ◌&&◌, List, [], ◌∷◌, ◌++◌, inl, inr, refl, ap, ◌∙◌, sym, if◌then◌else◌}
 use Rattle.std.proofs.lemmas.Bool.{cases_Bool, false≢true, and_parts, and_right}
-use Rattle.html_dom_tree.specs.Styled.{styled_node, styled_nodes}
-use Rattle.html_dom_tree.specs.Tree.{NodeView}
-use Rattle.html_dom_tree.specs.Views.{nodes_of}
-use Rattle.html_dom_shown.specs.Collapsing.{Atom, collapsible, kept}
-use Rattle.html_dom_shown.proofs.NodeAtoms.{node_atoms, nodes_atoms}
-use Rattle.html_flow_convert.specs.BareSpaces.{Thing, border, visible, space, node_things, nodes_things}
-use Rattle.html_flow_convert.specs.Protected.{protected_nodes}
+use Rattle.html_dom_tree.specs.{Styled.{styled_node, styled_nodes}, Tree.{NodeView}, Views.{nodes_of}}
+use Rattle.html_dom_shown.{proofs.NodeAtoms.{node_atoms, nodes_atoms}, specs.Collapsing.{Atom, collapsible, kept}}
+use Rattle.html_flow_convert.specs.{BareSpaces.{Thing, border, visible, space, node_things, nodes_things}, Protected.{protected_nodes}}
+use Rattle.typst_html_spaces.proofs.{AtomContexts.{support_at-append, support_past-append, AtomsStay-append}, Each.{Each}}
+use Rattle.typst_html_spaces.proofs.LineContexts.{visible_at-append, line_past-append, protects_by_context}
 use Rattle.typst_html_spaces.specs.AtomContexts.{support_at, support_past, AtomsStay}
 use Rattle.typst_html_spaces.specs.LineContexts.{visible_at, line_past, node_between, nodes_between}
-use Rattle.typst_html_spaces.proofs.Each.{Each}
-use Rattle.typst_html_spaces.proofs.AtomContexts.{support_at-append, support_past-append, AtomsStay-append}
-use Rattle.typst_html_spaces.proofs.LineContexts.{visible_at-append, line_past-append, protects_by_context}
 
 -- things, and the atoms that are made of them by what stands before and after. What stands after
 -- supports if it is visible; what stands before supports if it is in the line and no visible thing

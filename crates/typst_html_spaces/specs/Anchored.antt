@@ -1,12 +1,10 @@
 -- Nodes with anchors, and with an `href` of links: exactly what is visible of the nodes without
 -- them is visible of these.
 use Rattle.std.specs.Prelude.{◌≡◌, ℕ, Bool, false, List, [], ◌∷◌, codes, None}
-use Rattle.html_dom_tree.specs.PlainTree.{nodes_normal}
-use Rattle.html_dom_tree.specs.Tree.{Head, NodesView}
+use Rattle.html_dom_tree.specs.{PlainTree.{nodes_normal}, Tree.{Head, NodesView}}
 use Rattle.html_dom_shown.specs.Collapsing.{plains_atoms}
 use Rattle.typst_html_encode.specs.IndentsCollapse.{NodesAreEdged}
-use Rattle.typst_html_spaces.specs.Changed.{Change, Changed}
-use Rattle.typst_html_spaces.specs.PlainNodes.{ArePlainNodes}
+use Rattle.typst_html_spaces.specs.{Changed.{Change, Changed}, PlainNodes.{ArePlainNodes}}
 
 -- an attribute that an element may get
 pub data NewAttribute : Type 0 where

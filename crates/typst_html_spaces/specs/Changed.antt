@@ -1,7 +1,6 @@
 -- Nodes, and the same with other heads and with elements around texts and after tags.
 use Rattle.std.specs.Prelude.{ℕ, List}
-use Rattle.html_dom_tree.specs.Frames.{HtmlFrameView}
-use Rattle.html_dom_tree.specs.Tags.{TagView}
+use Rattle.html_dom_tree.specs.{Frames.{HtmlFrameView}, Tags.{TagView}}
 use Rattle.html_dom_tree.specs.Tree.{Head, tag_node, text_node, element_node, frame_node, NodesView, none, node}
 
 -- the elements that may come after a tag and around a text, and what may become of a head

@@ -1,15 +1,12 @@
 -- Clean items: their texts and labels hold text characters alone, and no void element has a body.
 -- So the nodes that they become can be written.
 use Rattle.std.specs.Prelude.{◌≡◌, Bool, true, false, not, ◌&&◌, ◌||◌}
-use Rattle.html_names_core.specs.Characters.{all, is_text_char}
-use Rattle.html_names_core.specs.Kinds.{is_void}
+use Rattle.html_names_core.specs.{Characters.{all, is_text_char}, Kinds.{is_void}}
 use Rattle.html_dom_tree.specs.Styled.{styled_nodes}
 use Rattle.html_flow_convert.specs.Converted.{RoleText, converted_nodes}
 use Rattle.html_flow_convert.specs.Items.{RoleView, inherits, sets, unsets, ItemView, tag_item, element_item, space_item, text_item, hole_item, break_item, box_item, block_item, frame_item, ItemsView, no_items, item, BodyView, absent, present}
-use Rattle.html_flow_convert.specs.declared.convert.ConversionLevel.TheVariants.{Block}
-use Rattle.html_flow_convert.specs.declared.convert.Whitespace.TheVariants.{Normal}
-use Rattle.typst_html_spaces.specs.CleanNodes.{is_clean_text, is_clean_tag, are_clean_values, AreCleanNodes}
-use Rattle.typst_html_spaces.specs.PlainFlow.{is_plain_flow}
+use Rattle.html_flow_convert.specs.declared.convert.{ConversionLevel.TheVariants.{Block}, Whitespace.TheVariants.{Normal}}
+use Rattle.typst_html_spaces.specs.{CleanNodes.{is_clean_text, is_clean_tag, are_clean_values, AreCleanNodes}, PlainFlow.{is_plain_flow}}
 
 abbrev pub is_clean_role : RoleView → Bool
 is_clean_role inherits = true

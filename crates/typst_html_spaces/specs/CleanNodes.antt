@@ -1,17 +1,10 @@
 -- Clean nodes: plain nodes whose texts, values and labels hold text characters alone, and in which
 -- no void element has a child. So they can be written, with anchors too.
-use Rattle.std.specs.Prelude.{◌≡◌, ℕ, Bool, true, not, ◌==◌, List, [], Option, None, Some}
-use Rattle.std.specs.List.{list_all}
-use Rattle.html_names_core.specs.Characters.{all, is_text_char}
-use Rattle.html_names_core.specs.Kinds.{is_void}
-use Rattle.html_names_core.specs.Texts.{TextPair}
-use Rattle.html_dom_tree.specs.Tags.{TagView, starts, ends}
-use Rattle.html_dom_tree.specs.Tree.{Head, NodesView}
-use Rattle.typst_html_encode.specs.ExportFaults.{nodes_faults}
-use Rattle.typst_html_encode.specs.FrameWriters.{Frames}
-use Rattle.typst_html_spaces.specs.Anchored.{Anchored}
-use Rattle.typst_html_spaces.specs.DeepNodes.{Wanted, HoldsOfAll}
-use Rattle.typst_html_spaces.specs.PlainFlow.{is_plain_name}
+use Rattle.std.specs.{List.{list_all}, Prelude.{◌≡◌, ℕ, Bool, true, not, ◌==◌, List, [], Option, None, Some}}
+use Rattle.html_names_core.specs.{Characters.{all, is_text_char}, Kinds.{is_void}, Texts.{TextPair}}
+use Rattle.html_dom_tree.specs.{Tags.{TagView, starts, ends}, Tree.{Head, NodesView}}
+use Rattle.typst_html_encode.specs.{ExportFaults.{nodes_faults}, FrameWriters.{Frames}}
+use Rattle.typst_html_spaces.specs.{Anchored.{Anchored}, DeepNodes.{Wanted, HoldsOfAll}, PlainFlow.{is_plain_name}}
 
 -- whether a text, if there is one, has text characters alone
 abbrev pub is_clean_text : Option (List ℕ) → Bool

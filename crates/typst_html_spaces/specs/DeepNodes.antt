@@ -1,7 +1,6 @@
 -- Properties of nodes at any depth: of each element, each text, each tag and each frame.
 use Rattle.std.specs.Prelude.{ℕ, Bool, true, false, List}
-use Rattle.html_dom_tree.specs.Tags.{TagView}
-use Rattle.html_dom_tree.specs.Tree.{Head, NodeView, tag_node, text_node, element_node, frame_node, NodesView, none, node}
+use Rattle.html_dom_tree.specs.{Tags.{TagView}, Tree.{Head, NodeView, tag_node, text_node, element_node, frame_node, NodesView, none, node}}
 
 -- the properties required of an element without children or with some, of a text directly under an
 -- element with or without the flag `pre_span`, of a tag, and of a frame

@@ -3,8 +3,7 @@
 -- after is visible.
 use Rattle.std.specs.Prelude.{◌≡◌, Bool, true, false, ◌&&◌, List, [], ◌∷◌, if◌then◌else◌}
 use Rattle.html_dom_tree.specs.Tree.{NodeView, tag_node, text_node, element_node, frame_node, NodesView, none, node}
-use Rattle.html_flow_convert.specs.BareSpaces.{Thing, border, visible, space, is_entered, node_things, nodes_things}
-use Rattle.html_flow_convert.specs.Nodes.{is_one}
+use Rattle.html_flow_convert.specs.{BareSpaces.{Thing, border, visible, space, is_entered, node_things, nodes_things}, Nodes.{is_one}}
 use Rattle.html_flow_convert.specs.Protected.{text_by_answer, protected_nodes}
 
 -- whether the first thing is visible, given whether the one right after the list is

@@ -1,16 +1,12 @@
 -- Plain flow: the items whose spaces all stay.
 use Rattle.std.specs.Prelude.{ℕ, Bool, true, false, not, ◌&&◌, ◌||◌, List, [], ◌∷◌, codes, bytes_eq, if◌then◌else◌, Option, Some}
-use Rattle.html_names_core.specs.Displays.{default_display}
-use Rattle.html_names_core.specs.Kinds.{is_replaced, is_line_break, shows_border}
-use Rattle.html_names_core.specs.Names.{listed_names, stands_in}
-use Rattle.html_names_core.specs.Texts.{TextPair}
-use Rattle.html_names_core.specs.declared.property.Display.{Display}
+use Rattle.html_names_core.specs.{Displays.{default_display}, Kinds.{is_replaced, is_line_break, shows_border}}
+use Rattle.html_names_core.specs.{Names.{listed_names, stands_in}, Texts.{TextPair}, declared.property.Display.{Display}}
 use Rattle.html_names_core.specs.declared.property.Display.TheVariants as display
 use Rattle.html_dom_tree.specs.Attributes.{has_name}
 use Rattle.html_flow_convert.specs.Converted.{body_whitespace}
 use Rattle.html_flow_convert.specs.Items.{ElemHead, ItemView, tag_item, element_item, space_item, text_item, hole_item, break_item, block_item, ItemsView, no_items, item, BodyView, absent, present}
-use Rattle.html_flow_convert.specs.declared.convert.Whitespace.{Whitespace}
-use Rattle.html_flow_convert.specs.declared.convert.Whitespace.TheVariants.{Normal}
+use Rattle.html_flow_convert.specs.declared.convert.{Whitespace.{Whitespace}, Whitespace.TheVariants.{Normal}}
 
 abbrev pub is_inline : Option Display → Bool
 is_inline (Some display.Inline) = true

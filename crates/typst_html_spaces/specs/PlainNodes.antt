@@ -1,17 +1,11 @@
 -- Nodes of plain flow: elements of plain names alone, and no frame.
 use Rattle.std.specs.Prelude.{◌≡◌, ℕ, Bool, true, false, List, codes, bytes_eq}
 use Rattle.html_names_core.specs.Kinds.{is_raw}
-use Rattle.html_dom_tree.specs.Styled.{styled_nodes}
-use Rattle.html_dom_tree.specs.Tree.{NodesView}
-use Rattle.typst_html_encode.specs.Indented.{NodesEndWell}
-use Rattle.typst_html_encode.specs.IndentsCollapse.{NodesAreEdged}
-use Rattle.html_dom_tree.specs.FrameFree.{NodesAreFrameFree}
-use Rattle.html_flow_convert.specs.Converted.{RoleText, converted_nodes}
-use Rattle.html_flow_convert.specs.Items.{ItemsView}
-use Rattle.html_flow_convert.specs.declared.convert.ConversionLevel.TheVariants.{Block}
-use Rattle.html_flow_convert.specs.declared.convert.Whitespace.TheVariants.{Normal}
-use Rattle.typst_html_spaces.specs.DeepNodes.{HeadsAlone}
-use Rattle.typst_html_spaces.specs.PlainFlow.{is_plain_name, is_plain_flow}
+use Rattle.html_dom_tree.specs.{FrameFree.{NodesAreFrameFree}, Styled.{styled_nodes}, Tree.{NodesView}}
+use Rattle.typst_html_encode.specs.{Indented.{NodesEndWell}, IndentsCollapse.{NodesAreEdged}}
+use Rattle.html_flow_convert.specs.{Converted.{RoleText, converted_nodes}, Items.{ItemsView}}
+use Rattle.html_flow_convert.specs.declared.convert.{ConversionLevel.TheVariants.{Block}, Whitespace.TheVariants.{Normal}}
+use Rattle.typst_html_spaces.specs.{DeepNodes.{HeadsAlone}, PlainFlow.{is_plain_name, is_plain_flow}}
 
 -- nodes that are plain at any depth
 abbrev pub ArePlainNodes : NodesView → Type 0

@@ -2,12 +2,10 @@
 -- read back, and stay readable with anchors.
 use Rattle.std.specs.Prelude.{◌≡◌, ◌↔◌, Bool, false, Some}
 use Rattle.html_names_core.specs.Kinds.{is_raw}
-use Rattle.html_dom_tree.specs.Tree.{NodesView}
+use Rattle.html_dom_tree.specs.{FrameFree.{NodesAreFrameFree}, Tree.{NodesView}}
 use Rattle.html_dom_shown.specs.Bodies.{body_children}
 use Rattle.typst_html_encode.specs.Indented.{NodesEndWell}
-use Rattle.html_dom_tree.specs.FrameFree.{NodesAreFrameFree}
-use Rattle.typst_html_spaces.specs.Anchored.{Anchored, IsAny}
-use Rattle.typst_html_spaces.specs.DeepNodes.{HeadsAlone}
+use Rattle.typst_html_spaces.specs.{Anchored.{Anchored, IsAny}, DeepNodes.{HeadsAlone}}
 
 abbrev pub AreReadable : NodesView → Type 0
 AreReadable = HeadsAlone (λ h. is_raw h.name ≡ false)

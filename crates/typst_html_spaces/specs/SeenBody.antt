@@ -1,28 +1,16 @@
 -- What is visible of the body of a document that is written and read.
 use Rattle.std.specs.Prelude.{◌≡◌, ℕ, true, false, List, [], Option, Some}
 use Rattle.html_names_core.specs.Kinds.{is_raw}
-use Rattle.html_dom_tree.specs.PlainTree.{nodes_normal}
-use Rattle.html_dom_tree.specs.Styled.{styled_nodes}
+use Rattle.html_dom_tree.specs.{FrameFree.{ElementIsFrameFree}, PlainTree.{nodes_normal}, Styled.{styled_nodes}}
 use Rattle.html_dom_tree.specs.Tree.{NodesView, ElementView}
-use Rattle.html_dom_shown.specs.Bodies.{body_children}
-pub use Rattle.html_dom_shown.specs.Bodies.{tree_body}
-use Rattle.html_dom_shown.specs.Collapsing.{Piece}
-pub use Rattle.html_dom_shown.specs.SeenBodies.{seen_plains, seen_body, seen_tree}
-use Rattle.typst_html_encode.specs.ExportFaults.{document_faults}
-use Rattle.typst_html_encode.specs.FrameWriters.{Frames}
-use Rattle.typst_html_encode.specs.Indented.{ElementEndsWell}
-use Rattle.typst_html_encode.specs.IndentsCollapse.{NodesAreEdged}
-use Rattle.typst_html_encode.specs.Reader.{read}
-use Rattle.html_dom_tree.specs.FrameFree.{ElementIsFrameFree}
-use Rattle.typst_html_encode.specs.ReadingBack.{ElementIsNamed}
-use Rattle.typst_html_encode.specs.Text.{document_text}
+use Rattle.html_dom_shown.specs.{Bodies.{body_children}, Collapsing.{Piece}}
+pub use Rattle.html_dom_shown.specs.{Bodies.{tree_body}, SeenBodies.{seen_plains, seen_body, seen_tree}}
+use Rattle.typst_html_encode.specs.{ExportFaults.{document_faults}, FrameWriters.{Frames}, Indented.{ElementEndsWell}}
+use Rattle.typst_html_encode.specs.{IndentsCollapse.{NodesAreEdged}, Reader.{read}, ReadingBack.{ElementIsNamed}, Text.{document_text}}
 use Rattle.typst_html_encode.specs.declared.options.HtmlOptions.{HtmlOptions}
-use Rattle.html_flow_convert.specs.Converted.{RoleText, converted_nodes}
-use Rattle.html_flow_convert.specs.Items.{ItemsView}
-use Rattle.html_flow_convert.specs.declared.convert.ConversionLevel.TheVariants.{Block}
-use Rattle.html_flow_convert.specs.declared.convert.Whitespace.TheVariants.{Normal}
-use Rattle.typst_html_spaces.specs.ItemText.{items_text}
-use Rattle.typst_html_spaces.specs.PlainFlow.{is_plain_flow}
+use Rattle.html_flow_convert.specs.{Converted.{RoleText, converted_nodes}, Items.{ItemsView}}
+use Rattle.html_flow_convert.specs.declared.convert.{ConversionLevel.TheVariants.{Block}, Whitespace.TheVariants.{Normal}}
+use Rattle.typst_html_spaces.specs.{ItemText.{items_text}, PlainFlow.{is_plain_flow}}
 
 abbrev pub seen_text : (text : List ℕ) → Option (List Piece)
 seen_text text = seen_tree (read text)

@@ -4,11 +4,8 @@ use Rattle.html_dom_tree.specs.Tags.{starts, ends}
 use Rattle.html_dom_shown.specs.Collapsing.{Piece, char, thing, line, edge}
 use Rattle.html_flow_convert.specs.Converted.{converted_nodes}
 use Rattle.html_flow_convert.specs.Items.{inherits, ItemView, tag_item, element_item, text_item, space_item, hole_item, break_item, box_item, block_item, ItemsView, no_items, item, absent, present, new_head}
-use Rattle.html_flow_convert.specs.declared.convert.ConversionLevel.TheVariants.{Block}
-use Rattle.html_flow_convert.specs.declared.convert.Whitespace.TheVariants.{Normal}
-use Rattle.typst_html_spaces.specs.ItemText.{items_text}
-use Rattle.typst_html_spaces.specs.PlainFlow.{is_plain_flow}
-use Rattle.typst_html_spaces.specs.SpacesStay.{seen_pieces}
+use Rattle.html_flow_convert.specs.declared.convert.{ConversionLevel.TheVariants.{Block}, Whitespace.TheVariants.{Normal}}
+use Rattle.typst_html_spaces.specs.{ItemText.{items_text}, PlainFlow.{is_plain_flow}, SpacesStay.{seen_pieces}}
 
 -- items without roles and spans
 abbrev pub row_items : List ItemView → ItemsView

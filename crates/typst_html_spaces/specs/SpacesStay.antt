@@ -1,18 +1,13 @@
 -- Spaces stay: once white space has collapsed, what is visible of the nodes that items become is
 -- the items' text.
 use Rattle.std.specs.Prelude.{◌≡◌, ℕ, true, false, List}
-use Rattle.html_dom_tree.specs.PlainTree.{nodes_normal}
-use Rattle.html_dom_tree.specs.Styled.{styled_nodes}
+use Rattle.html_dom_tree.specs.{PlainTree.{nodes_normal}, Styled.{styled_nodes}, Tree.{Head, NodesView}}
 use Rattle.html_names_core.specs.Kinds.{is_raw}
-use Rattle.html_dom_tree.specs.Tree.{Head, NodesView}
 use Rattle.html_dom_shown.specs.Collapsing.{Piece, plains_atoms, collapsed_pieces}
 use Rattle.typst_html_encode.specs.Indented.{content_layout}
-use Rattle.html_flow_convert.specs.Converted.{RoleText, converted_nodes}
-use Rattle.html_flow_convert.specs.Items.{ItemsView}
-use Rattle.html_flow_convert.specs.declared.convert.ConversionLevel.TheVariants.{Block}
-use Rattle.html_flow_convert.specs.declared.convert.Whitespace.TheVariants.{Normal}
-use Rattle.typst_html_spaces.specs.ItemText.{items_text}
-use Rattle.typst_html_spaces.specs.PlainFlow.{is_plain_flow}
+use Rattle.html_flow_convert.specs.{Converted.{RoleText, converted_nodes}, Items.{ItemsView}}
+use Rattle.html_flow_convert.specs.declared.convert.{ConversionLevel.TheVariants.{Block}, Whitespace.TheVariants.{Normal}}
+use Rattle.typst_html_spaces.specs.{ItemText.{items_text}, PlainFlow.{is_plain_flow}}
 
 -- what is visible of nodes, with their css as `style` attributes
 abbrev pub seen_pieces : NodesView → List Piece

@@ -1,14 +1,12 @@
 //! Laws of how white space collapses. Each function has laws as its contract, and does nothing.
 
 ghost use Rattle.typst_html_spaces.specs.Anchored.{AnchorsAreUnseen, AnchorsKeepEdges, AnchorsKeepPlainNodes};
-ghost use Rattle.typst_html_spaces.specs.AtomContexts.{CollapsesByContext, PiecesOfBoth};
-ghost use Rattle.typst_html_spaces.specs.SeenRows.{AreSeen, AreNotPlain, lines, blocks, lists_and_tables, others};
-ghost use Rattle.typst_html_spaces.specs.CleanItems.{CleanItemsMakeCleanNodes};
-ghost use Rattle.typst_html_spaces.specs.CleanNodes.{AnchorsKeepCleanNodes, CleanNodesAreWritten};
-ghost use Rattle.typst_html_spaces.specs.LineContexts.{ProtectsByContext};
+ghost use Rattle.typst_html_spaces.specs.{AtomContexts.{CollapsesByContext, PiecesOfBoth}, CleanItems.{CleanItemsMakeCleanNodes}};
+ghost use Rattle.typst_html_spaces.specs.{CleanNodes.{AnchorsKeepCleanNodes, CleanNodesAreWritten}, LineContexts.{ProtectsByContext}};
 ghost use Rattle.typst_html_spaces.specs.PlainNodes.{PlainFlowMakesPlainNodes, PlainNamesAreInside, PlainNodesCanBeRead};
 ghost use Rattle.typst_html_spaces.specs.ReadableNodes.{AnchorsKeepBody, AnchorsKeepFrameFree, AnchorsKeepReadable, ReadableNodesCanBeRead};
 ghost use Rattle.typst_html_spaces.specs.SeenBody.{BodyIsSeen, ItemsAreSeen};
+ghost use Rattle.typst_html_spaces.specs.SeenRows.{AreSeen, AreNotPlain, lines, blocks, lists_and_tables, others};
 ghost use Rattle.typst_html_spaces.specs.SpacesStay.{PrettySpacesStay, SpacesStay};
 
 /// What stands before and after an atom determines what collapsing makes of it.

@@ -4,12 +4,8 @@
 
 ghost use Rattle.std.specs.Prelude.{◌≡◌};
 ghost use Rattle.typst_html_ffi.specs.CallReplies.{Replies, RepliesWith, call_dead_links, document_call_answer, write_answer};
-ghost use Rattle.typst_html_ffi.specs.DeadLinks.{dead_links_answer};
-ghost use Rattle.typst_html_ffi.specs.Fragments.{fragment_call_answer};
-ghost use Rattle.typst_html_ffi.specs.PageFindings.{check_report};
-ghost use Rattle.typst_html_ffi.specs.PageLinks.{links_report};
-ghost use Rattle.typst_html_ffi.specs.PageReports.{Reports};
-ghost use Rattle.typst_html_ffi.specs.Unused.{unused_call_answer};
+ghost use Rattle.typst_html_ffi.specs.{DeadLinks.{dead_links_answer}, Fragments.{fragment_call_answer}, PageFindings.{check_report}};
+ghost use Rattle.typst_html_ffi.specs.{PageLinks.{links_report}, PageReports.{Reports}, Unused.{unused_call_answer}};
 
 use std::alloc::Global;
 use typst_html_ffi::Reply;

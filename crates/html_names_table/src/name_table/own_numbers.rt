@@ -1,7 +1,6 @@
 //! Numbers of texts in slots that a hash selects, and in an ordered map where texts collide.
 
-ghost use Rattle.std.specs.Prelude.{◌≡◌, ◌+◌, ◌*◌, ◌-◌, ◌%◌, ◌^◌, bit_and, bit_xor, IfOk};
-ghost use Rattle.std.specs.BTreeMap.{get_by_text};
+ghost use Rattle.std.specs.{BTreeMap.{get_by_text}, Prelude.{◌≡◌, ◌+◌, ◌*◌, ◌-◌, ◌%◌, ◌^◌, bit_and, bit_xor, IfOk}};
 ghost use Rattle.html_names_table.specs.OwnNumbers.{slot_of, slot_number, HoldsNoText, PutsText};
 
 use std::alloc::{AllocError, Global};

@@ -1,7 +1,6 @@
 //! An attribute's value of one's own.
 
-ghost use Rattle.std.specs.Prelude.{codes};
-ghost use Rattle.std.specs.Fmt.{decimal};
+ghost use Rattle.std.specs.{Fmt.{decimal}, Prelude.{codes}};
 ghost use Rattle.tests_surface.specs.declared.own.attr.Limit.TheVariants.{Most, Unlimited};
 
 use html_values::{IntoAttr, NoneValue};

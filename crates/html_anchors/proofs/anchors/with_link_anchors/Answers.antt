@@ -1,18 +1,13 @@
 use Rattle.std.proofs.Common.{◌≡◌, sym, ap, ◌∙◌}
-use Rattle.html_dom_tree.specs.Tree.{none}
-use Rattle.html_dom_tree.specs.Views.{nodes_view}
-use Rattle.html_dom_document.specs.Documents.{DocumentView, document_root, given_root}
+use Rattle.html_dom_tree.specs.{Tree.{none}, Views.{nodes_view}}
+use Rattle.html_dom_document.specs.{Documents.{DocumentView, document_root, given_root}, Introspectors.{has_location}}
 use Rattle.html_dom_document.specs.Views.{document_view}
-use Rattle.html_dom_document.specs.Introspectors.{has_location}
 use Rattle.html_names_core.specs.Names.{stands_in}
-use Rattle.html_anchors.specs.LinkAnchors.{document_targets}
-use Rattle.html_anchors.specs.MadeDocuments.{with_children}
-use Rattle.html_links.specs.TreeNames.{element_names}
-use Rattle.html_anchors.specs.AnchorWalk.{Walked, element_walk}
-use Rattle.html_anchors.specs.WalkViews.{state_view}
 use Rattle.html_anchors.proofs.DocumentNames.{anchors_are_new, anchors_are_serving, anchors_are_shown, ids_stay_distinct}
-use Rattle.html_anchors.proofs.MovedRoots.{put_again}
-use Rattle.html_anchors.proofs.WholeWalk.{answers_are, root_walked, root_written}
+use Rattle.html_anchors.proofs.{MovedRoots.{put_again}, WholeWalk.{answers_are, root_walked, root_written}}
+use Rattle.html_anchors.specs.{AnchorWalk.{Walked, element_walk}, LinkAnchors.{document_targets}, MadeDocuments.{with_children}}
+use Rattle.html_anchors.specs.WalkViews.{state_view}
+use Rattle.html_links.specs.TreeNames.{element_names}
 use Rattle.html_anchors.proofs.anchors.with_link_anchors.Goals as goal
 
 pub returns : goal.returns

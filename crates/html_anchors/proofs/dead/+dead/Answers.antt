@@ -1,12 +1,8 @@
-use Rattle.std.proofs.Common.{◌≡◌, ◌++◌, [], ◌∷◌, drop, length-drop, ap, sym, arith, ◌∙◌}
-use Rattle.std.proofs.lemmas.List.{nil_from_length}
+use Rattle.std.proofs.{Common.{◌≡◌, ◌++◌, [], ◌∷◌, drop, length-drop, ap, sym, arith, ◌∙◌}, lemmas.List.{nil_from_length}}
 use Rattle.std.specs.Prelude.{option_map}
-use Rattle.html_dom_tree.specs.Views.{head_of, node_view, nodes_view}
-use Rattle.html_dom_tree.proofs.Nodes.{nodes_view-drop}
-use Rattle.html_anchors.specs.DeadLinks.{dead_links_view}
-use Rattle.html_anchors.specs.LinkTargets.{live_hrefs_view}
-use Rattle.html_anchors.specs.Links.{nodes_dead_links}
+use Rattle.html_dom_tree.{proofs.Nodes.{nodes_view-drop}, specs.Views.{head_of, node_view, nodes_view}}
 use Rattle.html_anchors.proofs.Linking.{element_dead, no_more_dead, one_more_dead}
+use Rattle.html_anchors.specs.{DeadLinks.{dead_links_view}, LinkTargets.{live_hrefs_view}, Links.{nodes_dead_links}}
 use Rattle.html_anchors.proofs.dead.+dead.Goals as goal
 
 pub add_element-returns : goal.add_element-returns

@@ -1,10 +1,6 @@
-use Rattle.std.proofs.Common.{◌≡◌, ◌++◌, List, [], drop}
-use Rattle.std.specs.Prelude.{option_map}
-use Rattle.html_dom_tree.specs.Tree.{NodeView}
-use Rattle.html_dom_tree.specs.Views.{nodes_view}
-use Rattle.html_anchors.specs.DeadLinks.{dead_links_view}
-use Rattle.html_anchors.specs.LinkTargets.{live_hrefs_view}
-use Rattle.html_anchors.specs.Links.{dest_before, nodes_dead_links}
+use Rattle.std.{proofs.Common.{◌≡◌, ◌++◌, List, [], drop}, specs.Prelude.{option_map}}
+use Rattle.html_dom_tree.specs.{Tree.{NodeView}, Views.{nodes_view}}
+use Rattle.html_anchors.specs.{DeadLinks.{dead_links_view}, LinkTargets.{live_hrefs_view}, Links.{dest_before, nodes_dead_links}}
 use Rattle.html_anchors.proofs.dead.+dead.Given as goal
 
 abbrev pub invariant-add_nodes-loop-child : goal.invariant-add_nodes-loop-child

@@ -1,10 +1,7 @@
-use Rattle.std.proofs.Common.{Bool, map, sym, ap, ◌∙◌}
-use Rattle.std.specs.Prelude.{false, if◌then◌else◌}
-use Rattle.html_names_core.specs.Names.{stands_in}
-use Rattle.html_names_core.specs.Texts.{text_view}
+use Rattle.std.{proofs.Common.{Bool, map, sym, ap, ◌∙◌}, specs.Prelude.{false, if◌then◌else◌}}
+use Rattle.html_names_core.specs.{Names.{stands_in}, Texts.{text_view}}
 use Rattle.html_dom_tree.specs.Views.{element_view}
-use Rattle.html_links.specs.InDocument.{document_places}
-use Rattle.html_links.specs.TreeNames.{Name}
+use Rattle.html_links.specs.{InDocument.{document_places}, TreeNames.{Name}}
 use Rattle.html_anchors.proofs.dead.found_names.Goals as goal
 
 pub returns-then-base_is_elsewhere : goal.returns-then-base_is_elsewhere

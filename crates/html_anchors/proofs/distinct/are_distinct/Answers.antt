@@ -1,8 +1,6 @@
 use Rattle.std.proofs.Common.{map, ap, ◌∙◌}
-use Rattle.html_names_core.specs.Names.{stands_in}
-use Rattle.html_names_core.specs.Texts.{text_view}
-use Rattle.html_links.specs.Distinct.{names_view}
-use Rattle.html_links.proofs.Differing.{are_new, new_distinct}
+use Rattle.html_names_core.specs.{Names.{stands_in}, Texts.{text_view}}
+use Rattle.html_links.{proofs.Differing.{are_new, new_distinct}, specs.Distinct.{names_view}}
 use Rattle.html_anchors.proofs.distinct.are_distinct.Goals as goal
 
 pub loop-name-init : goal.loop-name-init

@@ -1,7 +1,5 @@
 use Rattle.std.proofs.Common.{◌≡◌, drop}
-use Rattle.html_links.specs.Distinct.{are_distinct, names_view}
-use Rattle.html_links.specs.UsedNames.{used_in}
-use Rattle.html_links.proofs.Differing.{are_new}
+use Rattle.html_links.{proofs.Differing.{are_new}, specs.Distinct.{are_distinct, names_view}, specs.UsedNames.{used_in}}
 use Rattle.html_anchors.proofs.distinct.are_distinct.Given as goal
 
 abbrev pub invariant-loop-name : goal.invariant-loop-name

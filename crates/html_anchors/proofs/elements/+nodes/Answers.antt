@@ -1,19 +1,13 @@
 use Rattle.std.proofs.Common.{[], ◌∷◌, ◌<◌, ◌≤◌, length, reverse, ap, sym, ◌∙◌, refl, subst, arith}
 use denote.Param.Weighed.{most, most-append}
-use Rattle.std.proofs.lemmas.Grind.{common_steps}
-use Rattle.std.proofs.lemmas.Result.{on_ok_weaker}
-use Rattle.std.proofs.lemmas.List.{nil_from_length, reverse-reverse}
-use Rattle.html_dom_tree.proofs.Reversed.{most_reversed, next_reversed}
-use Rattle.html_dom_tree.proofs.node.HtmlNode.TheLaws.{the_size}
+use Rattle.std.proofs.lemmas.{Grind.{common_steps}, List.{nil_from_length, reverse-reverse}, Result.{on_ok_weaker}}
+use Rattle.html_dom_tree.proofs.{Reversed.{most_reversed, next_reversed}, node.HtmlNode.TheLaws.{the_size}}
+use Rattle.html_dom_tree.specs.{Tree.{none}, Views.{optional_text_view, node_view, nodes_view, element_view}}
 use Rattle.html_names_core.specs.Tables.{known_attrs}
-use Rattle.html_dom_tree.specs.Tree.{none}
-use Rattle.html_dom_tree.specs.Views.{optional_text_view, node_view, nodes_view, element_view}
-use Rattle.html_anchors.specs.Anchors.{span_before}
-use Rattle.html_dom_document.specs.DomIndices.{◌then◌}
-use Rattle.html_anchors.specs.AnchorWalk.{first_waiting, Serves}
-use Rattle.html_anchors.specs.WalkViews.{state_view, targets_view}
-use Rattle.html_anchors.proofs.WholeWalk.{element_served, node_placed, node_kept, node_walked, nodes_kept, nodes_walked}
 use Rattle.html_anchors.proofs.Steps.{span_placed}
+use Rattle.html_anchors.proofs.WholeWalk.{element_served, node_placed, node_kept, node_walked, nodes_kept, nodes_walked}
+use Rattle.html_anchors.specs.{AnchorWalk.{first_waiting, Serves}, Anchors.{span_before}, WalkViews.{state_view, targets_view}}
+use Rattle.html_dom_document.specs.DomIndices.{◌then◌}
 use Rattle.html_anchors.proofs.elements.+nodes.Goals as goal
 
 pub anchor_element-returns : goal.anchor_element-returns

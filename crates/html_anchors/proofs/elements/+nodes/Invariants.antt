@@ -1,11 +1,8 @@
 use Rattle.std.proofs.Common.{◌≡◌, ◌≤◌, false, take, drop, reverse, vec_len}
 use denote.Param.Weighed.{most}
-use Rattle.html_dom_tree.proofs.node.HtmlNode.TheLaws.{the_size}
-use Rattle.html_dom_tree.specs.Views.{nodes_view}
-use Rattle.html_anchors.specs.Joined.{walked_behind}
-use Rattle.html_anchors.specs.AnchorWalk.{walk}
-use Rattle.html_anchors.specs.WalkViews.{state_view, targets_view}
+use Rattle.html_dom_tree.{proofs.node.HtmlNode.TheLaws.{the_size}, specs.Views.{nodes_view}}
 use Rattle.html_anchors.proofs.WholeWalk.{has_end}
+use Rattle.html_anchors.specs.{AnchorWalk.{walk}, Joined.{walked_behind}, WalkViews.{state_view, targets_view}}
 use Rattle.html_anchors.proofs.elements.+nodes.Given as goal
 
 abbrev pub invariant-anchor_in_place-loop-child : goal.invariant-anchor_in_place-loop-child

@@ -1,10 +1,7 @@
 use Rattle.std.proofs.Common.{ap, ◌∙◌}
-use Rattle.html_dom_tree.specs.Frames.{no_frame_items, placed_item}
-use Rattle.html_dom_tree.specs.FrameViews.{point_view, anchors_view, frame_item_view}
-use Rattle.html_anchors.specs.Events.{items_starts}
-use Rattle.html_anchors.specs.Joined.{InFrame, with_starts}
-use Rattle.html_anchors.specs.WalkViews.{state_view, targets_view}
+use Rattle.html_dom_tree.specs.{FrameViews.{point_view, anchors_view, frame_item_view}, Frames.{no_frame_items, placed_item}}
 use Rattle.html_anchors.proofs.InFrames.{starts_from, item_named, items_named}
+use Rattle.html_anchors.specs.{Events.{items_starts}, Joined.{InFrame, with_starts}, WalkViews.{state_view, targets_view}}
 use Rattle.html_anchors.proofs.frames.+frames.Goals as goal
 
 pub name_frame-loop-content-preserved : goal.name_frame-loop-content-preserved

@@ -1,8 +1,6 @@
 use Rattle.std.proofs.Common.{◌≡◌, drop}
 use Rattle.html_dom_tree.specs.FrameViews.{anchors_view}
-use Rattle.html_anchors.specs.Joined.{with_starts}
-use Rattle.html_anchors.specs.WalkViews.{state_view, targets_view}
-use Rattle.html_anchors.proofs.InFrames.{starts_from}
+use Rattle.html_anchors.{proofs.InFrames.{starts_from}, specs.Joined.{with_starts}, specs.WalkViews.{state_view, targets_view}}
 use Rattle.html_anchors.proofs.frames.+frames.Given as goal
 
 abbrev pub invariant-name_frame-loop-content : goal.invariant-name_frame-loop-content

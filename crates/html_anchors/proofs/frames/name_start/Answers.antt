@@ -1,11 +1,8 @@
-use Rattle.std.proofs.Common.{sym, ap, ◌∙◌}
-use Rattle.std.specs.Prelude.{option_map}
-use Rattle.std.proofs.lemmas.List.{map-append}
+use Rattle.std.{proofs.Common.{sym, ap, ◌∙◌}, proofs.lemmas.List.{map-append}, specs.Prelude.{option_map}}
 use Rattle.html_dom_tree.specs.FrameViews.{optional_text_view, point_view, anchor_view, anchors_view}
 use Rattle.html_names_core.specs.Texts.{text_view}
-use Rattle.html_anchors.specs.Joined.{InFrame}
-use Rattle.html_anchors.specs.WalkViews.{state_view, targets_view}
 use Rattle.html_anchors.proofs.InFrames.{start_named, no_target, no_point, end_passes}
+use Rattle.html_anchors.specs.{Joined.{InFrame}, WalkViews.{state_view, targets_view}}
 use Rattle.html_anchors.proofs.frames.name_start.Goals as goal
 
 pub returns-in_default-point : goal.returns-in_default-point

@@ -1,13 +1,10 @@
 use Rattle.std.proofs.Common.{◌++◌, [], ◌∷◌, map, reverse, refl, sym, ap, ◌∙◌, arith}
 use denote.Param.Weighed.{most, most-append}
-use Rattle.std.proofs.lemmas.List.{append-nil, map-append, nil_from_length, reverse-reverse}
-use Rattle.std.specs.Prelude.{option_map}
-use Rattle.html_dom_tree.proofs.Reversed.{most_reversed, next_reversed}
-use Rattle.html_dom_tree.proofs.node.HtmlNode.TheLaws.{the_size}
+use Rattle.std.{proofs.lemmas.List.{append-nil, map-append, nil_from_length, reverse-reverse}, specs.Prelude.{option_map}}
+use Rattle.html_dom_tree.proofs.{Reversed.{most_reversed, next_reversed}, node.HtmlNode.TheLaws.{the_size}}
 use Rattle.html_dom_tree.specs.Views.{attrs_view, head_of, node_view, nodes_of, nodes_view}
-use Rattle.html_anchors.specs.LinkTargets.{hrefs_view}
-use Rattle.html_anchors.specs.Links.{attrs_with_href, href_of}
 use Rattle.html_anchors.proofs.Linking.{element_has_links, list_with_links, nodes_with_links-nodes_of, one_more_with_links}
+use Rattle.html_anchors.specs.{LinkTargets.{hrefs_view}, Links.{attrs_with_href, href_of}}
 use Rattle.html_anchors.proofs.links.+link.Goals as goal
 
 pub element_with_links-returns : goal.element_with_links-returns

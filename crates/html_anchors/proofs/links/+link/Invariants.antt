@@ -1,12 +1,8 @@
 use Rattle.std.proofs.Common.{◌≡◌, ◌≤◌, ◌++◌, List, [], map, reverse, vec_len}
 use denote.Param.Weighed.{most}
 use Rattle.std.specs.Prelude.{option_map}
-use Rattle.html_dom_tree.proofs.node.HtmlNode.TheLaws.{the_size}
-use Rattle.html_dom_tree.specs.Tree.{NodeView}
-use Rattle.html_dom_tree.specs.Views.{node_view}
-use Rattle.html_anchors.specs.LinkTargets.{hrefs_view}
-use Rattle.html_anchors.specs.Links.{dest_before}
-use Rattle.html_anchors.proofs.Linking.{list_with_links}
+use Rattle.html_dom_tree.{proofs.node.HtmlNode.TheLaws.{the_size}, specs.Tree.{NodeView}, specs.Views.{node_view}}
+use Rattle.html_anchors.{proofs.Linking.{list_with_links}, specs.LinkTargets.{hrefs_view}, specs.Links.{dest_before}}
 use Rattle.html_anchors.proofs.links.+link.Given as goal
 
 -- those that are left stand in reverse, none deeper than those that were there

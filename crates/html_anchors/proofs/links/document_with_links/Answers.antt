@@ -1,18 +1,13 @@
 use Rattle.std.proofs.Common.{◌≡◌, [], sym, ap, ◌∙◌}
 use Rattle.html_names_core.specs.Names.{stands_in}
-use Rattle.html_dom_tree.specs.Tree.{none}
-use Rattle.html_dom_tree.specs.Views.{nodes_view}
-use Rattle.html_dom_document.specs.Documents.{DocumentView, document_root, given_root}
-use Rattle.html_dom_document.specs.Introspectors.{introspector_view}
+use Rattle.html_dom_tree.specs.{Tree.{none}, Views.{nodes_view}}
+use Rattle.html_dom_document.specs.{Documents.{DocumentView, document_root, given_root}, Introspectors.{introspector_view}}
 use Rattle.html_dom_document.specs.Views.{document_view}
-use Rattle.html_links.specs.Indicated.{element_places}
-use Rattle.html_anchors.specs.Links.{anchor_hrefs, document_hrefs, nodes_with_links}
-use Rattle.html_anchors.specs.MadeDocuments.{with_children}
-use Rattle.html_links.specs.UsedNames.{used_in}
+use Rattle.html_links.specs.{Indicated.{element_places}, UsedNames.{used_in}}
 use Rattle.html_anchors.proofs.FoundLinks.{document_live_links_lead}
 use Rattle.html_anchors.proofs.GivenLinks.{document_links_lead, left_in_document, links_lead_to_one, links_stay_distinct}
-use Rattle.html_anchors.proofs.MovedRoots.{put_again}
-use Rattle.html_anchors.proofs.Serving.{still_serves}
+use Rattle.html_anchors.proofs.{MovedRoots.{put_again}, Serving.{still_serves}}
+use Rattle.html_anchors.specs.{Links.{anchor_hrefs, document_hrefs, nodes_with_links}, MadeDocuments.{with_children}}
 use Rattle.html_anchors.proofs.links.document_with_links.Goals as goal
 
 pub returns : goal.returns

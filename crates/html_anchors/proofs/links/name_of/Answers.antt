@@ -1,6 +1,5 @@
-use Rattle.std.proofs.Common.{◌≡◌, ◌<◌, length, string_bytes, Some, sym, ap, ◌∙◌, rules}
+use Rattle.std.proofs.{Common.{◌≡◌, ◌<◌, length, string_bytes, Some, sym, ap, ◌∙◌, rules}, lemmas.Str.{IsUtf8-string_bytes}}
 use Rattle.std.specs.Prelude.{option_map}
-use Rattle.std.proofs.lemmas.Str.{IsUtf8-string_bytes}
 use Rattle.html_dom_tree.specs.Views.{text_view}
 use Rattle.html_dom_document.specs.Introspectors.{introspector_view}
 use Rattle.html_anchors.proofs.Linking.{a_name, name_there, no_name}

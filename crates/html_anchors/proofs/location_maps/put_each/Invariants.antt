@@ -1,7 +1,6 @@
 use Rattle.std.proofs.Common.{◌≡◌, drop}
 use Rattle.html_names_core.specs.Texts.{text_view}
-use Rattle.html_anchors.specs.LocationMaps.{names_in, locations_in}
-use Rattle.html_anchors.specs.AnchorWalk.{put_each}
+use Rattle.html_anchors.specs.{AnchorWalk.{put_each}, LocationMaps.{names_in, locations_in}}
 use Rattle.html_anchors.proofs.location_maps.put_each.Given as goal
 
 abbrev pub invariant-loop-location : goal.invariant-loop-location

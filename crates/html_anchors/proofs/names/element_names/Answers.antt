@@ -1,11 +1,8 @@
 use Rattle.std.proofs.Common.{map, ap, ◌∙◌, rules}
-use Rattle.html_names_core.specs.Names.{stands_in}
-use Rattle.html_names_core.specs.Texts.{text_view}
-use Rattle.html_links.specs.Distinct.{names_view}
-use Rattle.html_links.specs.UsedNames.{used_in, with_names}
-use Rattle.html_links.specs.TreeNames.{with_used_name}
-use Rattle.html_anchors.proofs.NumberedNames.{all_put, put_in_turn}
+use Rattle.html_names_core.specs.{Names.{stands_in}, Texts.{text_view}}
 use Rattle.html_links.proofs.Gathering.{with-all}
+use Rattle.html_links.specs.{Distinct.{names_view}, TreeNames.{with_used_name}, UsedNames.{used_in, with_names}}
+use Rattle.html_anchors.proofs.NumberedNames.{all_put, put_in_turn}
 use Rattle.html_anchors.proofs.names.element_names.Goals as goal
 
 pub loop-name-init : goal.loop-name-init

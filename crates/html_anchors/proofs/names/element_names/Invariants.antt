@@ -1,7 +1,6 @@
 use Rattle.std.proofs.Common.{◌≡◌, drop}
 use Rattle.html_names_core.specs.Names.{stands_in}
-use Rattle.html_links.specs.Distinct.{names_view}
-use Rattle.html_links.specs.UsedNames.{used_in, with_names}
+use Rattle.html_links.specs.{Distinct.{names_view}, UsedNames.{used_in, with_names}}
 use Rattle.html_anchors.proofs.names.element_names.Given as goal
 
 abbrev pub invariant-loop-name : goal.invariant-loop-name

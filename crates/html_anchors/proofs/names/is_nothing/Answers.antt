@@ -1,5 +1,4 @@
-use Rattle.std.proofs.Common.{◌≡◌, ◌==◌, length, string_bytes, ap, ◌∙◌, rules}
-use Rattle.std.specs.String.{string_len}
+use Rattle.std.{proofs.Common.{◌≡◌, ◌==◌, length, string_bytes, ap, ◌∙◌, rules}, specs.String.{string_len}}
 use Rattle.html_anchors.proofs.NumberedNames.{nothing_is}
 use Rattle.html_anchors.proofs.names.is_nothing.Goals as goal
 

@@ -1,6 +1,5 @@
-use Rattle.std.proofs.Common.{◌≡◌, ◌++◌, codes, string_bytes, ap, ◌∙◌, chars, rules}
+use Rattle.std.proofs.{Common.{◌≡◌, ◌++◌, codes, string_bytes, ap, ◌∙◌, chars, rules}, lemmas.Result.{IfOk-weaker}}
 use Rattle.std.specs.Prelude.{decimal}
-use Rattle.std.proofs.lemmas.Result.{IfOk-weaker}
 use Rattle.html_anchors.proofs.NumberedNames.{numbered_is}
 use Rattle.html_anchors.proofs.names.name_with_number.Goals as goal
 

@@ -1,7 +1,6 @@
 use Rattle.std.proofs.Common.{ap, ◌∙◌, refl}
 use Rattle.html_dom_tree.specs.FrameViews.{optional_text_view, anchors_view, html_frame_view}
-use Rattle.html_anchors.specs.WalkViews.{state_view, targets_view}
-use Rattle.html_anchors.proofs.Steps.{own_is, frame_served}
+use Rattle.html_anchors.{proofs.Steps.{own_is, frame_served}, specs.WalkViews.{state_view, targets_view}}
 use Rattle.html_anchors.proofs.nodes.anchor_frame.Goals as goal
 
 pub returns : goal.returns

@@ -1,8 +1,6 @@
-use Rattle.std.specs.Prelude.{option_map}
-use Rattle.std.proofs.lemmas.Result.{IfOk-weaker}
+use Rattle.std.{proofs.lemmas.Result.{IfOk-weaker}, specs.Prelude.{option_map}}
 use Rattle.html_dom_tree.specs.Views.{optional_text_view}
-use Rattle.html_anchors.specs.WalkViews.{state_view, targets_view}
-use Rattle.html_anchors.proofs.Steps.{tag_started, tag_ended}
+use Rattle.html_anchors.{proofs.Steps.{tag_started, tag_ended}, specs.WalkViews.{state_view, targets_view}}
 use Rattle.html_anchors.proofs.nodes.anchor_tag.Goals as goal
 
 pub returns-in_ok-start-in-Start : goal.returns-in_ok-start-in-Start

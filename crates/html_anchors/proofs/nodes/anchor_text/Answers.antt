@@ -1,7 +1,6 @@
 use Rattle.std.proofs.Common.{Some, None}
 use Rattle.html_dom_tree.specs.Views.{text_view}
-use Rattle.html_anchors.specs.WalkViews.{state_view}
-use Rattle.html_anchors.proofs.Steps.{text_served}
+use Rattle.html_anchors.{proofs.Steps.{text_served}, specs.WalkViews.{state_view}}
 use Rattle.html_anchors.proofs.nodes.anchor_text.Goals as goal
 
 pub returns-in_ok-put_in_span : goal.returns-in_ok-put_in_span

@@ -1,10 +1,7 @@
 use Rattle.std.proofs.Common.{ap, sym, ◌∙◌}
-use Rattle.html_dom_tree.specs.Tree.{element_node, node, none}
-use Rattle.html_dom_tree.specs.Views.{text_view, nodes_view}
-use Rattle.html_dom_tree.proofs.Basics.{node_view-Element}
-use Rattle.html_anchors.specs.Anchors.{span_head}
+use Rattle.html_dom_tree.{proofs.Basics.{node_view-Element}, specs.Tree.{element_node, node, none}, specs.Views.{text_view, nodes_view}}
+use Rattle.html_anchors.{proofs.Steps.{then-none, nodes_view-push}, specs.Anchors.{span_head}}
 use Rattle.html_dom_document.specs.DomIndices.{◌then◌}
-use Rattle.html_anchors.proofs.Steps.{then-none, nodes_view-push}
 use Rattle.html_anchors.proofs.nodes.push_span.Goals as goal
 
 pub returns-in_ok-push : goal.returns-in_ok-push

@@ -1,9 +1,6 @@
 use Rattle.std.proofs.Common.{◌≡◌, sym, ap, ◌∙◌}
-use Rattle.html_dom_document.specs.Documents.{document_root, given_root, with_root}
-use Rattle.html_dom_document.specs.Views.{document_view}
-use Rattle.html_dom_tree.specs.Tree.{ElementView, none}
-use Rattle.html_dom_tree.specs.Views.{element_view, nodes_view}
-use Rattle.html_dom_tree.specs.declared.node.HtmlElement.{HtmlElement}
+use Rattle.html_dom_document.specs.{Documents.{document_root, given_root, with_root}, Views.{document_view}}
+use Rattle.html_dom_tree.specs.{Tree.{ElementView, none}, Views.{element_view, nodes_view}, declared.node.HtmlElement.{HtmlElement}}
 use Rattle.html_anchors.proofs.root_children.take_children.Goals as goal
 
 pub returns : goal.returns

@@ -1,6 +1,5 @@
 use Rattle.std.proofs.Common.{◌∙◌, ◌==◌}
-use Rattle.html_dom_document.specs.Introspectors.{has_location}
-use Rattle.html_dom_document.proofs.Locations.{is_eq-nat_cmp, set_or}
+use Rattle.html_dom_document.{proofs.Locations.{is_eq-nat_cmp, set_or}, specs.Introspectors.{has_location}}
 use Rattle.html_dom_document.proofs.tables.add.Goals as goal
 
 pub returns : goal.returns

@@ -1,11 +1,6 @@
-use Rattle.std.proofs.Common.{◌||◌, sym, ap, ◌∙◌}
-use Rattle.std.proofs.lemmas.Map.Iter.{rest_all}
-use Rattle.std.specs.Map.Iter.{deref}
-use Rattle.std.proofs.Math.Bool.{or-false}
-use Rattle.html_dom_document.specs.Introspectors.{has_location}
-use Rattle.html_dom_document.specs.Places.{is_among}
-use Rattle.html_dom_document.specs.Records.{locations_view}
+use Rattle.std.{proofs.Common.{◌||◌, sym, ap, ◌∙◌}, proofs.Math.Bool.{or-false}, proofs.lemmas.Map.Iter.{rest_all}, specs.Map.Iter.{deref}}
 use Rattle.html_dom_document.proofs.Locations.{among_keys}
+use Rattle.html_dom_document.specs.{Introspectors.{has_location}, Places.{is_among}, Records.{locations_view}}
 use Rattle.html_dom_document.proofs.tables.add_all.Goals as goal
 
 pub returns : goal.returns

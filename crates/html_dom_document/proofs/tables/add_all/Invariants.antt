@@ -1,7 +1,5 @@
 use Rattle.std.proofs.Common.{◌≡◌, ℕ, ◌||◌}
-use Rattle.html_dom_document.specs.Introspectors.{has_location}
-use Rattle.html_dom_document.specs.Places.{is_among}
-use Rattle.html_dom_document.specs.Records.{locations_view}
+use Rattle.html_dom_document.specs.{Introspectors.{has_location}, Places.{is_among}, Records.{locations_view}}
 use Rattle.html_dom_document.proofs.tables.add_all.Given as goal
 
 abbrev pub invariant-loop-location : goal.invariant-loop-location

@@ -1,8 +1,6 @@
-use Rattle.std.proofs.Common.{◌≡◌, ◌==◌, true, false, option_map, is_some, ap, sym, subst, ◌∙◌}
-use Rattle.std.proofs.lemmas.Bool.Decides.{Decides-eqb}
+use Rattle.std.proofs.{Common.{◌≡◌, ◌==◌, true, false, option_map, is_some, ap, sym, subst, ◌∙◌}, lemmas.Bool.Decides.{Decides-eqb}}
 use Rattle.std.specs.BTreeMap.{get}
-use Rattle.html_dom_document.specs.Introspectors.{location_cmp, position_view}
-use Rattle.html_dom_document.proofs.Locations.{is_eq-nat_cmp, position_added}
+use Rattle.html_dom_document.{proofs.Locations.{is_eq-nat_cmp, position_added}, specs.Introspectors.{location_cmp, position_view}}
 use Rattle.html_dom_document.proofs.tables.add_position.Goals as goal
 
 pub returns-in_ok-insert : goal.returns-in_ok-insert

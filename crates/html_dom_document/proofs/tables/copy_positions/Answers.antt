@@ -1,6 +1,5 @@
 use Rattle.std.specs.BTreeMap.{is_at}
-use Rattle.html_dom_document.specs.Introspectors.{location_cmp, position_view}
-use Rattle.html_dom_document.proofs.Locations.{same_looked_up}
+use Rattle.html_dom_document.{proofs.Locations.{same_looked_up}, specs.Introspectors.{location_cmp, position_view}}
 use Rattle.html_dom_document.proofs.tables.copy_positions.Goals as goal
 
 pub returns : goal.returns

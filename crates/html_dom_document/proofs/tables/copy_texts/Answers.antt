@@ -1,8 +1,6 @@
-use Rattle.std.proofs.Common.{ap, chars}
-use Rattle.std.specs.BTreeMap.{is_at}
+use Rattle.std.{proofs.Common.{ap, chars}, specs.BTreeMap.{is_at}}
 use Rattle.html_dom_tree.specs.Views.{text_view}
-use Rattle.html_dom_document.specs.Introspectors.{location_cmp}
-use Rattle.html_dom_document.proofs.Locations.{same_looked_up}
+use Rattle.html_dom_document.{proofs.Locations.{same_looked_up}, specs.Introspectors.{location_cmp}}
 use Rattle.html_dom_document.proofs.tables.copy_texts.Goals as goal
 
 pub returns : goal.returns

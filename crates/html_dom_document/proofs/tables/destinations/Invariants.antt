@@ -1,7 +1,5 @@
 use Rattle.std.proofs.Common.{◌≡◌, ℕ, ◌||◌, drop}
-use Rattle.html_dom_document.specs.Introspectors.{has_location}
-use Rattle.html_dom_document.specs.Places.{is_destination}
-use Rattle.html_dom_document.specs.Records.{places_view}
+use Rattle.html_dom_document.specs.{Introspectors.{has_location}, Places.{is_destination}, Records.{places_view}}
 use Rattle.html_dom_document.proofs.tables.destinations.Given as goal
 
 abbrev pub invariant-loop-place : goal.invariant-loop-place

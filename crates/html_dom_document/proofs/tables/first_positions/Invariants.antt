@@ -1,9 +1,6 @@
-use Rattle.std.proofs.Common.{◌≡◌, ℕ}
-use Rattle.std.specs.Vec.Iter.{into_iter_items}
+use Rattle.std.{proofs.Common.{◌≡◌, ℕ}, specs.Vec.Iter.{into_iter_items}}
 use Rattle.html_dom_tree.specs.Attributes.{or_else}
-use Rattle.html_dom_document.specs.Introspectors.{position_in}
-use Rattle.html_dom_document.specs.Places.{first_position}
-use Rattle.html_dom_document.specs.Records.{places_view}
+use Rattle.html_dom_document.specs.{Introspectors.{position_in}, Places.{first_position}, Records.{places_view}}
 use Rattle.html_dom_document.proofs.tables.first_positions.Given as goal
 
 abbrev pub invariant-loop-place : goal.invariant-loop-place

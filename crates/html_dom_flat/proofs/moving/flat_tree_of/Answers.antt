@@ -1,9 +1,6 @@
 use Rattle.std.proofs.Common.{◌≡◌, ◌∙◌, sym}
-use Rattle.html_dom_tree.specs.Tree.{element_node, none, node}
-use Rattle.html_dom_tree.specs.Views.{element_view}
-use Rattle.html_dom_flat.specs.Flat.{nodes_flat}
-use Rattle.html_dom_flat.specs.Builders.{builder_view}
-use Rattle.html_dom_flat.proofs.Flats.{element_list, list_spells, list_spelled}
+use Rattle.html_dom_tree.specs.{Tree.{element_node, none, node}, Views.{element_view}}
+use Rattle.html_dom_flat.{proofs.Flats.{element_list, list_spells, list_spelled}, specs.Builders.{builder_view}, specs.Flat.{nodes_flat}}
 use Rattle.html_dom_flat.proofs.moving.flat_tree_of.Goals as goal
 
 pub into_tree-requires : goal.into_tree-requires

@@ -1,6 +1,5 @@
 use Rattle.std.proofs.Common.{rules, ◌≡◌, false}
-use Rattle.html_dom_flat.specs.Stacks.{is_top_before, stack_view}
-use Rattle.html_dom_flat.proofs.Stacking.{none_popped}
+use Rattle.html_dom_flat.{proofs.Stacking.{none_popped}, specs.Stacks.{is_top_before, stack_view}}
 use Rattle.html_dom_flat.proofs.spelling.pop_before.Goals as goal
 
 pub returns-then-not-is_top_before : goal.returns-then-not-is_top_before

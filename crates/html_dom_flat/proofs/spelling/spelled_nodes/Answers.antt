@@ -1,9 +1,7 @@
-use Rattle.std.proofs.Common.{◌≡◌, [], ◌++◌, ap, sym, ◌∙◌, append-nil, map, arith}
-use Rattle.std.proofs.lemmas.Grind.{common_steps}
+use Rattle.std.proofs.{Common.{◌≡◌, [], ◌++◌, ap, sym, ◌∙◌, append-nil, map, arith}, lemmas.Grind.{common_steps}}
 use Rattle.html_dom_tree.specs.Views.{node_view, nodes_of}
-use Rattle.html_dom_flat.specs.FlatViews.{flat_nodes_view}
-use Rattle.html_dom_flat.specs.Stacks.{indexed_node, stack_view, stack_nodes}
 use Rattle.html_dom_flat.proofs.Stacking.{stack_spells}
+use Rattle.html_dom_flat.specs.{FlatViews.{flat_nodes_view}, Stacks.{indexed_node, stack_view, stack_nodes}}
 use Rattle.html_dom_flat.proofs.spelling.spelled_nodes.Goals as goal
 
 pub returns : goal.returns

@@ -1,7 +1,6 @@
 use Rattle.std.proofs.Common.{◌≡◌, ◌+◌, ◌-◌, ◌<◌, ap, sym, ◌∙◌, arith, length}
-use Rattle.html_dom_flat.specs.FlatViews.{flat_node_view}
-use Rattle.html_dom_flat.specs.Stacks.{stack_view, made_of}
 use Rattle.html_dom_flat.proofs.Stacking.{stacked_more, stacked_none}
+use Rattle.html_dom_flat.specs.{FlatViews.{flat_node_view}, Stacks.{stack_view, made_of}}
 use Rattle.html_dom_flat.proofs.spelling.stacked.Goals as goal
 
 pub loop-index-init : goal.loop-index-init

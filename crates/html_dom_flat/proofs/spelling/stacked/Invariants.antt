@@ -1,6 +1,5 @@
 use Rattle.std.proofs.Common.{◌≡◌, ◌≤◌, length, drop}
-use Rattle.html_dom_flat.specs.FlatViews.{flat_nodes_view}
-use Rattle.html_dom_flat.specs.Stacks.{stack_view, list_stack}
+use Rattle.html_dom_flat.specs.{FlatViews.{flat_nodes_view}, Stacks.{stack_view, list_stack}}
 use Rattle.html_dom_flat.proofs.spelling.stacked.Given as goal
 
 abbrev pub invariant-loop-index : goal.invariant-loop-index

@@ -1,8 +1,6 @@
-use Rattle.std.proofs.Common.{rules, ◌≡◌, [], ◌∷◌, ◌++◌, ap, sym, ◌∙◌, append_assoc, map}
-use Rattle.std.proofs.lemmas.List.{map-append}
+use Rattle.std.proofs.{Common.{rules, ◌≡◌, [], ◌∷◌, ◌++◌, ap, sym, ◌∙◌, append_assoc, map}, lemmas.List.{map-append}}
 use Rattle.html_dom_tree.specs.Views.{node_view}
-use Rattle.html_dom_flat.specs.Stacks.{stack_view, stacked_before, rest_after}
-use Rattle.html_dom_flat.proofs.Stacking.{popped_before, popped_after}
+use Rattle.html_dom_flat.{proofs.Stacking.{popped_before, popped_after}, specs.Stacks.{stack_view, stacked_before, rest_after}}
 use Rattle.html_dom_flat.proofs.spelling.take_before.Goals as goal
 
 pub loop-node-preserved : goal.loop-node-preserved

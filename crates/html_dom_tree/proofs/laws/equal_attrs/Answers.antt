@@ -1,6 +1,5 @@
 use Rattle.html_names_core.proofs.Equals.{same_law}
-use Rattle.html_dom_tree.specs.NodeEqual.{pairs_discrete}
-use Rattle.html_dom_tree.specs.Views.{attrs_view}
+use Rattle.html_dom_tree.specs.{NodeEqual.{pairs_discrete}, Views.{attrs_view}}
 use Rattle.html_dom_tree.proofs.laws.equal_attrs.Goals as goal
 
 pub returns : goal.returns

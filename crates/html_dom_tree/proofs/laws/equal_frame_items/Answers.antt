@@ -1,6 +1,5 @@
 use Rattle.html_names_core.proofs.Equals.{same_law}
-use Rattle.html_dom_tree.specs.FrameEqual.{frame_item_discrete}
-use Rattle.html_dom_tree.specs.FrameViews.{frame_item_view}
+use Rattle.html_dom_tree.specs.{FrameEqual.{frame_item_discrete}, FrameViews.{frame_item_view}}
 use Rattle.html_dom_tree.proofs.laws.equal_frame_items.Goals as goal
 
 pub returns : goal.returns

@@ -1,6 +1,5 @@
 use Rattle.html_names_core.proofs.Equals.{same_law}
-use Rattle.html_dom_tree.specs.NodeEqual.{html_frame_discrete}
-use Rattle.html_dom_tree.specs.FrameViews.{html_frame_view}
+use Rattle.html_dom_tree.specs.{FrameViews.{html_frame_view}, NodeEqual.{html_frame_discrete}}
 use Rattle.html_dom_tree.proofs.laws.equal_html_frames.Goals as goal
 
 pub returns : goal.returns

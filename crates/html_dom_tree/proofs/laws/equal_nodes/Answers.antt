@@ -1,6 +1,5 @@
 use Rattle.html_names_core.proofs.Equals.{same_law}
-use Rattle.html_dom_tree.specs.NodeEqual.{node_discrete}
-use Rattle.html_dom_tree.specs.Views.{node_view}
+use Rattle.html_dom_tree.specs.{NodeEqual.{node_discrete}, Views.{node_view}}
 use Rattle.html_dom_tree.proofs.laws.equal_nodes.Goals as goal
 
 pub returns : goal.returns

@@ -1,6 +1,5 @@
 use Rattle.html_names_core.proofs.Equals.{same_law}
-use Rattle.html_dom_tree.specs.NodeEqual.{tag_discrete}
-use Rattle.html_dom_tree.specs.FrameViews.{tag_view}
+use Rattle.html_dom_tree.specs.{FrameViews.{tag_view}, NodeEqual.{tag_discrete}}
 use Rattle.html_dom_tree.proofs.laws.equal_tags.Goals as goal
 
 pub returns : goal.returns

@@ -1,8 +1,5 @@
-use Rattle.std.proofs.Common.{◌≡◌, map, sym, ap, ◌∙◌, arith}
-use Rattle.std.proofs.lemmas.Grind.{common_steps}
-use Rattle.html_dom_tree.specs.Styled.{styled_node}
-use Rattle.html_dom_tree.specs.Views.{nodes_of, node_view}
-use Rattle.html_dom_tree.proofs.Styles.{nodes_styled-nodes_of}
+use Rattle.std.proofs.{Common.{◌≡◌, map, sym, ap, ◌∙◌, arith}, lemmas.Grind.{common_steps}}
+use Rattle.html_dom_tree.{proofs.Styles.{nodes_styled-nodes_of}, specs.Styled.{styled_node}, specs.Views.{nodes_of, node_view}}
 use Rattle.html_dom_tree.proofs.resolve.+style.Goals as goal
 
 pub style_nodes-returns : goal.style_nodes-returns

@@ -1,6 +1,5 @@
 use Rattle.std.proofs.Common.{◌≡◌, map, take}
-use Rattle.html_dom_tree.specs.Views.{node_view}
-use Rattle.html_dom_tree.specs.Styled.{styled_node}
+use Rattle.html_dom_tree.specs.{Styled.{styled_node}, Views.{node_view}}
 use Rattle.html_dom_tree.proofs.resolve.+style.Given as goal
 
 abbrev pub invariant-style_nodes-loop-node : goal.invariant-style_nodes-loop-node

@@ -1,8 +1,6 @@
-use Rattle.std.proofs.Common.{◌≡◌, ◌<◌, length, ap, sym, ◌∙◌, ◌++◌, codes, chars, string_bytes, rules}
-use Rattle.std.proofs.lemmas.Str.{IsUtf8-string_bytes}
+use Rattle.std.proofs.{Common.{◌≡◌, ◌<◌, length, ap, sym, ◌∙◌, ◌++◌, codes, chars, string_bytes, rules}, lemmas.Str.{IsUtf8-string_bytes}}
 use Rattle.html_names_core.proofs.Texts.{chars_add}
-use Rattle.html_dom_tree.specs.Views.{text_view}
-use Rattle.html_dom_tree.proofs.Styles.{before_nothing, before_some}
+use Rattle.html_dom_tree.{proofs.Styles.{before_nothing, before_some}, specs.Views.{text_view}}
 use Rattle.html_values_css.proofs.Styles.{semicolon_chars}
 use Rattle.html_dom_tree.proofs.resolve.before_value.Goals as goal
 

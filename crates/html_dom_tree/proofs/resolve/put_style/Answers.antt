@@ -1,8 +1,6 @@
 use Rattle.std.proofs.Common.{◌≡◌, codes, Some, sym, ap, ◌∙◌}
 use Rattle.html_names_core.specs.Tables.{known_attrs}
-use Rattle.html_dom_tree.specs.Attributes.{first, with_value}
-use Rattle.html_dom_tree.specs.Styled.{attrs_with_style}
-use Rattle.html_dom_tree.specs.Views.{text_view, attrs_view}
+use Rattle.html_dom_tree.specs.{Attributes.{first, with_value}, Styled.{attrs_with_style}, Views.{text_view, attrs_view}}
 use Rattle.html_dom_tree.proofs.resolve.put_style.Goals as goal
 
 pub returns-in-Some : goal.returns-in-Some

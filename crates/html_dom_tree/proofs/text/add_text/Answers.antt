@@ -1,5 +1,4 @@
-use Rattle.std.proofs.Common.{string_bytes}
-use Rattle.std.proofs.lemmas.Str.{IsUtf8-string_bytes}
+use Rattle.std.proofs.{Common.{string_bytes}, lemmas.Str.{IsUtf8-string_bytes}}
 use Rattle.html_names_core.proofs.Texts.{chars_add}
 use Rattle.html_dom_tree.proofs.text.add_text.Goals as goal
 

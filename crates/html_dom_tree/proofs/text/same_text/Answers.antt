@@ -1,5 +1,4 @@
-use Rattle.std.proofs.Common.{string_bytes, chars, ap, sym, ◌∙◌}
-use Rattle.std.proofs.lemmas.Slice.Eq.{bytes_eq-Decides}
+use Rattle.std.proofs.{Common.{string_bytes, chars, ap, sym, ◌∙◌}, lemmas.Slice.Eq.{bytes_eq-Decides}}
 use Rattle.html_names_core.proofs.Texts.{text_views}
 use Rattle.html_dom_tree.proofs.text.same_text.Goals as goal
 

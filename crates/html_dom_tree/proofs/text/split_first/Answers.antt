@@ -1,5 +1,4 @@
-use Rattle.std.proofs.Common.{◌++◌, sym, ap, ◌∙◌}
-use Rattle.std.proofs.lemmas.Str.{chars_past_char}
+use Rattle.std.proofs.{Common.{◌++◌, sym, ap, ◌∙◌}, lemmas.Str.{chars_past_char}}
 use lib.Utf8.{encode}
 use Rattle.html_dom_tree.proofs.text.split_first.Goals as goal
 

@@ -1,7 +1,5 @@
-use Rattle.std.proofs.Common.{rules, ◌≡◌, ◌<◌, ap, [], length, drop, arith}
-use Rattle.std.proofs.lemmas.List.{drop_all}
-use Rattle.html_flow_construct.specs.Construct.{args_view, entries_view, faults}
-use Rattle.html_flow_construct.proofs.JoinedFaults.{joined-found}
+use Rattle.std.proofs.{Common.{rules, ◌≡◌, ◌<◌, ap, [], length, drop, arith}, lemmas.List.{drop_all}}
+use Rattle.html_flow_construct.{proofs.JoinedFaults.{joined-found}, specs.Construct.{args_view, entries_view, faults}}
 use Rattle.html_flow_construct.proofs.construction.cast_args.Goals as goal
 
 pub returns-else-is_empty : goal.returns-else-is_empty

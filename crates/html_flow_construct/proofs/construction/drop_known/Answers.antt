@@ -1,7 +1,5 @@
-use Rattle.std.proofs.Common.{rules}
-use Rattle.std.proofs.lemmas.Fn.{filter_same}
-use Rattle.html_flow_construct.specs.Construct.{entries_view}
-use Rattle.html_flow_construct.proofs.Others.{is_other, others_kept}
+use Rattle.std.proofs.{Common.{rules}, lemmas.Fn.{filter_same}}
+use Rattle.html_flow_construct.{proofs.Others.{is_other, others_kept}, specs.Construct.{entries_view}}
 use Rattle.html_flow_construct.proofs.construction.drop_known.Goals as goal
 
 pub returns : goal.returns

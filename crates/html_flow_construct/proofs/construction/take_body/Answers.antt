@@ -1,11 +1,9 @@
 use Rattle.std.proofs.Common.{◌∙◌, ◌≡◌, ap, sym, subst, false, Some}
 use Rattle.html_names_core.specs.Kinds.{is_void}
-use Rattle.html_flow_construct.specs.Construct.{args_view, choice_faults, takes}
-use Rattle.html_flow_construct.specs.ArgumentPieces.{unnamed_at}
-use Rattle.html_flow_faults.specs.ConstructFaults.{IsFirst}
-use Rattle.html_flow_convert.specs.Items.{present}
-use Rattle.html_flow_convert.specs.Views.{items_view}
 use Rattle.html_flow_construct.proofs.Unnamed.{no_body, a_body, same_faults, removed_view}
+use Rattle.html_flow_construct.specs.{ArgumentPieces.{unnamed_at}, Construct.{args_view, choice_faults, takes}}
+use Rattle.html_flow_faults.specs.ConstructFaults.{IsFirst}
+use Rattle.html_flow_convert.specs.{Items.{present}, Views.{items_view}}
 use Rattle.html_flow_construct.proofs.construction.take_body.Goals as goal
 
 pub returns-in_default-clause-ends : goal.returns-in_default-clause-ends

@@ -1,6 +1,5 @@
 use Rattle.std.proofs.Common.{◌≡◌, ◌+◌, drop, option_map}
-use Rattle.html_flow_construct.specs.Construct.{args_view}
-use Rattle.html_flow_construct.specs.ArgumentPieces.{unnamed_at}
+use Rattle.html_flow_construct.specs.{ArgumentPieces.{unnamed_at}, Construct.{args_view}}
 use Rattle.html_flow_construct.proofs.construction.unnamed_at.Given as goal
 
 abbrev pub invariant-loop-place : goal.invariant-loop-place

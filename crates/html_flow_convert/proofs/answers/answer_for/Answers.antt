@@ -1,7 +1,6 @@
 use Rattle.std.proofs.Common.{List, Bool, ap}
 use Rattle.html_dom_tree.specs.Views.{nodes_view}
-use Rattle.html_flow_convert.specs.BareSpaces.{nodes_things}
-use Rattle.html_flow_convert.specs.Walks.{walk_view}
+use Rattle.html_flow_convert.specs.{BareSpaces.{nodes_things}, Walks.{walk_view}}
 use Rattle.html_flow_convert.specs.declared.line.Last.TheVariants as last
 use Rattle.html_flow_convert.proofs.Walking.{all_answered}
 use Rattle.html_flow_convert.proofs.answers.answer_for.Goals as goal

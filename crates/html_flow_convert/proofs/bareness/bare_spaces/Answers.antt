@@ -1,7 +1,6 @@
 use Rattle.std.proofs.Common.{◌<◌, arith}
 use Rattle.html_dom_flat.specs.FlatTrees.{tree_nodes}
-use Rattle.html_flow_convert.proofs.Lines.{stands_next, stands_end}
-use Rattle.html_flow_convert.proofs.Turns.{turns_among}
+use Rattle.html_flow_convert.proofs.{Lines.{stands_next, stands_end}, Turns.{turns_among}}
 use Rattle.html_flow_convert.proofs.bareness.bare_spaces.Goals as goal
 
 pub loop-place-smaller : goal.loop-place-smaller

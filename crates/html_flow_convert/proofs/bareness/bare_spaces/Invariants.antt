@@ -1,6 +1,5 @@
 use Rattle.std.proofs.Common.{◌-◌, drop, length}
-use Rattle.html_dom_flat.specs.FlatTrees.{tree_nodes}
-use Rattle.html_dom_flat.specs.FlatViews.{flat_nodes_view}
+use Rattle.html_dom_flat.specs.{FlatTrees.{tree_nodes}, FlatViews.{flat_nodes_view}}
 use Rattle.html_flow_convert.specs.Lines.{Stands}
 use Rattle.html_flow_convert.proofs.bareness.bare_spaces.Given as goal
 

@@ -1,6 +1,4 @@
-use Rattle.std.proofs.Common.{◌≡◌, ◌∷◌, ap, arith, length}
-use Rattle.std.specs.Vec.Iter.{into_iter_items}
-use Rattle.std.proofs.lemmas.Result.{err_from_is_err_and}
+use Rattle.std.{proofs.Common.{◌≡◌, ◌∷◌, ap, arith, length}, proofs.lemmas.Result.{err_from_is_err_and}, specs.Vec.Iter.{into_iter_items}}
 use Rattle.html_flow_convert.proofs.Items.{nodes_added, none_passed, first_left}
 use Rattle.html_flow_convert.proofs.convert.+convert.Goals as goal
 

@@ -1,9 +1,6 @@
-use Rattle.std.proofs.Common.{◌≡◌, ◌+◌, ◌*◌, ◌++◌, length, map}
-use Rattle.std.specs.Vec.Iter.{into_iter_items, into_iter_len}
+use Rattle.std.{proofs.Common.{◌≡◌, ◌+◌, ◌*◌, ◌++◌, length, map}, specs.Vec.Iter.{into_iter_items, into_iter_len}}
 use Rattle.html_dom_tree.specs.Views.{node_view}
-use Rattle.html_flow_convert.specs.Converted.{items_nodes, role_text}
-use Rattle.html_flow_convert.specs.Depth.{items_too_deep}
-use Rattle.html_flow_convert.specs.Views.{items_view}
+use Rattle.html_flow_convert.specs.{Converted.{items_nodes, role_text}, Depth.{items_too_deep}, Views.{items_view}}
 use Rattle.html_flow_convert.proofs.convert.+convert.Given as goal
 
 abbrev pub invariant-convert_list-loop-pair : goal.invariant-convert_list-loop-pair

@@ -1,7 +1,6 @@
 use Rattle.std.proofs.Common.{◌≡◌, ◌++◌, [], ◌∷◌, OnOk, ap, ◌∙◌, chars, map, subst}
 use Rattle.html_names_core.proofs.Lists.{chars_ascii}
-use Rattle.html_dom_tree.specs.Tree.{text_node}
-use Rattle.html_dom_tree.specs.Views.{node_view}
+use Rattle.html_dom_tree.specs.{Tree.{text_node}, Views.{node_view}}
 use Rattle.html_flow_convert.proofs.convert.push_literal.Goals as goal
 
 pub returns : goal.returns

@@ -1,6 +1,5 @@
 use Rattle.std.proofs.Common.{◌≡◌, ◌+◌, ◌*◌, drop}
-use Rattle.html_flow_convert.specs.Depth.{items_too_deep}
-use Rattle.html_flow_convert.specs.Views.{items_view}
+use Rattle.html_flow_convert.specs.{Depth.{items_too_deep}, Views.{items_view}}
 use Rattle.html_flow_convert.proofs.depth.+depth.Given as goal
 
 abbrev pub invariant-items_too_deep-loop-pair : goal.invariant-items_too_deep-loop-pair

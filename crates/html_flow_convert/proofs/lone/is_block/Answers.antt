@@ -1,5 +1,4 @@
-use Rattle.std.proofs.Common.{ap, sym, ◌∙◌, bytes_eq, codes, string_bytes, refl}
-use Rattle.std.proofs.lemmas.Str.{IsUtf8-string_bytes}
+use Rattle.std.proofs.{Common.{ap, sym, ◌∙◌, bytes_eq, codes, string_bytes, refl}, lemmas.Str.{IsUtf8-string_bytes}}
 use Rattle.html_flow_convert.proofs.LoneNodes.{bytes_eq-word, block_text}
 use Rattle.html_flow_convert.proofs.lone.is_block.Goals as goal
 

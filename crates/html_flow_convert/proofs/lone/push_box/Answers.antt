@@ -1,8 +1,6 @@
 use Rattle.std.proofs.Common.{◌≡◌, ◌++◌, ◌∷◌, [], ◌∙◌, None, Some, OnOk, List, ap, map, subst}
-use Rattle.html_dom_tree.specs.Tree.{NodeView, element_node}
-use Rattle.html_dom_tree.specs.Views.{node_view, nodes_view}
-use Rattle.html_flow_convert.specs.LoneNode.{change_view, lone_node, box_change_of, box_head}
-use Rattle.html_flow_convert.proofs.LoneNodes.{changed_is, wrapped_is}
+use Rattle.html_dom_tree.specs.{Tree.{NodeView, element_node}, Views.{node_view, nodes_view}}
+use Rattle.html_flow_convert.{proofs.LoneNodes.{changed_is, wrapped_is}, specs.LoneNode.{change_view, lone_node, box_change_of, box_head}}
 use Rattle.html_flow_convert.proofs.lone.push_box.Goals as goal
 
 pub returns-in-Some : goal.returns-in-Some

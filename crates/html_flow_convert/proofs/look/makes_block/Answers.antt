@@ -1,8 +1,6 @@
-use Rattle.std.proofs.Common.{ap, sym, ◌∙◌}
-use Rattle.std.specs.List.{list_any}
+use Rattle.std.{proofs.Common.{ap, sym, ◌∙◌}, specs.List.{list_any}}
 use Rattle.html_values_css.specs.Properties.{property_view}
-use Rattle.html_flow_convert.proofs.Looks.{any_map}
-use Rattle.html_flow_convert.specs.BareSpaces.{is_display_block}
+use Rattle.html_flow_convert.{proofs.Looks.{any_map}, specs.BareSpaces.{is_display_block}}
 use Rattle.html_flow_convert.proofs.look.makes_block.Goals as goal
 
 pub returns : goal.returns

@@ -1,5 +1,4 @@
-use Rattle.std.proofs.Common.{arith}
-use Rattle.std.proofs.lemmas.Bool.Decides.{nat_tests}
+use Rattle.std.proofs.{Common.{arith}, lemmas.Bool.Decides.{nat_tests}}
 use Rattle.html_flow_convert.specs.TextStretches.{is_above_space}
 use Rattle.html_flow_convert.proofs.pieces.is_above_space.Goals as goal
 

@@ -1,7 +1,5 @@
-use Rattle.std.proofs.Common.{◌≡◌, ◌++◌, ap, sym, ◌∙◌}
-use Rattle.std.specs.Str.Iter.{chars_rest}
-use Rattle.html_flow_convert.proofs.Passing.{stretch_left}
-use Rattle.html_flow_convert.proofs.Stretching.{stretch_goes_on, stretch_ends}
+use Rattle.std.{proofs.Common.{◌≡◌, ◌++◌, ap, sym, ◌∙◌}, specs.Str.Iter.{chars_rest}}
+use Rattle.html_flow_convert.proofs.{Passing.{stretch_left}, Stretching.{stretch_goes_on, stretch_ends}}
 use Rattle.html_flow_convert.proofs.pieces.is_stretch.Goals as goal
 use lib.Utf8.{encode}
 

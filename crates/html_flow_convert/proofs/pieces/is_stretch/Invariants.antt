@@ -1,5 +1,4 @@
-use Rattle.std.proofs.Common.{◌≡◌, IsUtf8, false, chars}
-use Rattle.std.specs.Str.Iter.{chars_rest}
+use Rattle.std.{proofs.Common.{◌≡◌, IsUtf8, false, chars}, specs.Str.Iter.{chars_rest}}
 use Rattle.html_flow_convert.specs.TextStretches.{is_stretch}
 use Rattle.html_flow_convert.proofs.pieces.is_stretch.Given as goal
 

@@ -1,6 +1,5 @@
 use Rattle.std.proofs.Common.{[], ◌∷◌, string_bytes, sym, ap, ◌∙◌, append-nil}
-use Rattle.std.proofs.lemmas.Result.{IfOk-weaker}
-use Rattle.std.proofs.lemmas.Str.{IsUtf8-string_bytes, chars_past_char, chars-nil}
+use Rattle.std.proofs.lemmas.{Result.{IfOk-weaker}, Str.{IsUtf8-string_bytes, chars_past_char, chars-nil}}
 use Rattle.html_flow_convert.proofs.pieces.one_char.Goals as goal
 use lib.Utf8.{encode}
 

@@ -1,8 +1,6 @@
 use Rattle.std.proofs.Common.{◌≡◌, ◌+◌, ◌<◌, true, get_or, arith, ap, sym, ◌∙◌, length, drop}
-use Rattle.std.proofs.lemmas.Grind.{common_steps}
-use Rattle.std.proofs.lemmas.Str.{IsCharBoundary-start}
-use Rattle.html_flow_convert.specs.TextStretches.{is_above_space, Passes}
-use Rattle.html_flow_convert.proofs.Passing.{passes_none, shown_passed, space_passed}
+use Rattle.std.proofs.lemmas.{Grind.{common_steps}, Str.{IsCharBoundary-start}}
+use Rattle.html_flow_convert.{proofs.Passing.{passes_none, shown_passed, space_passed}, specs.TextStretches.{is_above_space, Passes}}
 use Rattle.html_flow_convert.proofs.pieces.past_words.Goals as goal
 
 pub loop-at-init : goal.loop-at-init

@@ -1,5 +1,4 @@
-use Rattle.std.proofs.Common.{◌-◌, drop, length}
-use Rattle.std.specs.Str.{IsCharBoundary}
+use Rattle.std.{proofs.Common.{◌-◌, drop, length}, specs.Str.{IsCharBoundary}}
 use Rattle.html_flow_convert.specs.TextStretches.{Passes}
 use Rattle.html_flow_convert.proofs.pieces.past_words.Given as goal
 

@@ -1,7 +1,5 @@
-use Rattle.std.proofs.Common.{◌++◌, map, refl, ap, ◌∙◌}
-use Rattle.std.proofs.lemmas.Result.{on_ok_weaker}
-use Rattle.html_names_core.proofs.Basics.{chars-encode}
-use Rattle.html_names_core.proofs.Lists.{chars_ascii}
+use Rattle.std.proofs.{Common.{◌++◌, map, refl, ap, ◌∙◌}, lemmas.Result.{on_ok_weaker}}
+use Rattle.html_names_core.proofs.{Basics.{chars-encode}, Lists.{chars_ascii}}
 use Rattle.html_dom_tree.specs.Views.{node_view}
 use Rattle.html_flow_convert.proofs.Passing.{alone_seen}
 use Rattle.html_flow_convert.proofs.pieces.push_outside.Goals as goal

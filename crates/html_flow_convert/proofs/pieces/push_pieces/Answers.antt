@@ -1,17 +1,13 @@
 use Rattle.std.proofs.Common.{◌≡◌, ◌-◌, ◌++◌, [], chars, length, map, take, refl, sym, ap, subst, ◌∙◌}
-use Rattle.std.specs.Prelude.{OnOk}
-use Rattle.std.specs.Str.{IsCharBoundary}
-use Rattle.std.proofs.lemmas.Result.{on_err_weaker}
-use Rattle.std.proofs.lemmas.Str.{IsCharBoundary-at_seam}
-use Rattle.html_names_core.proofs.Held.{on_err}
-use Rattle.html_names_core.proofs.Basics.{front_length}
-use Rattle.html_flow_convert.specs.Beginnings.{AddsBeginning}
-use Rattle.html_dom_tree.specs.Views.{node_view}
-use Rattle.html_flow_convert.specs.Pieces.{outside_stretch, piece_node, text_nodes}
-use Rattle.html_flow_convert.specs.TextStretches.{char_before, with_stretch}
+use Rattle.std.proofs.lemmas.{Result.{on_err_weaker}, Str.{IsCharBoundary-at_seam}}
+use Rattle.std.specs.{Prelude.{OnOk}, Str.{IsCharBoundary}}
+use Rattle.html_names_core.proofs.{Basics.{front_length}, Held.{on_err}}
 use Rattle.html_flow_convert.proofs.Beginnings.{Grows, grows_by_none, grows_more, begins, begins_between, begins_as}
 use Rattle.html_flow_convert.proofs.Passing.{Pending, passes_none, passes_char, pending_begins, pending_passes, pending_outside}
 use Rattle.html_flow_convert.proofs.Stretching.{text_ended}
+use Rattle.html_flow_convert.specs.{Beginnings.{AddsBeginning}, Pieces.{outside_stretch, piece_node, text_nodes}}
+use Rattle.html_flow_convert.specs.TextStretches.{char_before, with_stretch}
+use Rattle.html_dom_tree.specs.Views.{node_view}
 use Rattle.html_flow_convert.proofs.pieces.push_pieces.Goals as goal
 use native.Mathlib.Numerals.{unary_clauses}
 use denote.Text.{Utf8}

@@ -3,9 +3,7 @@ use denote.Text.{Utf8}
 use denote.Shadow.{shadow}
 use Rattle.std.specs.Str.Iter.{chars_rest}
 use Rattle.html_dom_tree.specs.Views.{node_view}
-use Rattle.html_flow_convert.specs.Pieces.{text_nodes}
-use Rattle.html_flow_convert.proofs.Beginnings.{Grows}
-use Rattle.html_flow_convert.proofs.Passing.{Pending}
+use Rattle.html_flow_convert.{proofs.Beginnings.{Grows}, proofs.Passing.{Pending}, specs.Pieces.{text_nodes}}
 use Rattle.html_flow_convert.proofs.pieces.push_pieces.Given as goal
 
 abbrev pub invariant-loop-c : goal.invariant-loop-c

@@ -1,9 +1,6 @@
-use Rattle.std.proofs.Common.{◌++◌, map, refl, sym, ap, ◌∙◌, append-nil}
-use Rattle.std.proofs.lemmas.Result.{on_ok_weaker}
-use Rattle.std.proofs.StrCases.{chars_of_empty}
+use Rattle.std.proofs.{Common.{◌++◌, map, refl, sym, ap, ◌∙◌, append-nil}, StrCases.{chars_of_empty}, lemmas.Result.{on_ok_weaker}}
 use Rattle.html_dom_tree.specs.Views.{node_view}
-use Rattle.html_flow_convert.specs.Pieces.{piece_node}
-use Rattle.html_flow_convert.proofs.Stretching.{stretch_of_text, no_length}
+use Rattle.html_flow_convert.{proofs.Stretching.{stretch_of_text, no_length}, specs.Pieces.{piece_node}}
 use Rattle.html_flow_convert.proofs.pieces.push_stretch.Goals as goal
 
 pub returns-then-is_empty-clause-added : goal.returns-then-is_empty-clause-added

@@ -1,13 +1,8 @@
 use Rattle.std.proofs.Common.{◌≡◌, ◌<◌, ◌≤◌, ◌++◌, ◌∙◌, length, take, drop, sym, ap, refl, arith}
-use Rattle.std.proofs.lemmas.Grind.{common_steps}
-use Rattle.std.proofs.lemmas.List.{drop_all, take_all}
-use Rattle.std.proofs.lemmas.Result.{on_ok_weaker}
-use Rattle.html_dom_tree.specs.Tree.{element_node}
-use Rattle.html_dom_tree.specs.Views.{element_view, nodes_view}
-use Rattle.html_flow_convert.specs.AnswerLists.{answers_view}
-use Rattle.html_flow_convert.specs.BareSpaces.{nodes_things}
-use Rattle.html_flow_convert.specs.Protected.{space_count, nodes_by_answers}
+use Rattle.std.proofs.lemmas.{Grind.{common_steps}, List.{drop_all, take_all}, Result.{on_ok_weaker}}
+use Rattle.html_dom_tree.specs.{Tree.{element_node}, Views.{element_view, nodes_view}}
 use Rattle.html_flow_convert.proofs.Protecting.{shut_element, open_element, protect_in_place, protect_end}
+use Rattle.html_flow_convert.specs.{AnswerLists.{answers_view}, BareSpaces.{nodes_things}, Protected.{space_count, nodes_by_answers}}
 use Rattle.html_flow_convert.proofs.protect.+protect.Goals as goal
 
 pub protect_element-returns-then-not-is_entered-clause-made : goal.protect_element-returns-then-not-is_entered-clause-made

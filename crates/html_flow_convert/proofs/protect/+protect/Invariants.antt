@@ -1,9 +1,7 @@
 use Rattle.std.proofs.Common.{◌≡◌, drop, take}
 use Rattle.html_dom_tree.specs.Views.{nodes_view}
 use Rattle.html_dom_flat.proofs.Flats.{joined}
-use Rattle.html_flow_convert.specs.AnswerLists.{answers_view}
-use Rattle.html_flow_convert.specs.BareSpaces.{nodes_things}
-use Rattle.html_flow_convert.specs.Protected.{space_count, nodes_by_answers}
+use Rattle.html_flow_convert.specs.{AnswerLists.{answers_view}, BareSpaces.{nodes_things}, Protected.{space_count, nodes_by_answers}}
 use Rattle.html_flow_convert.proofs.protect.+protect.Given as goal
 
 abbrev pub invariant-protect_nodes-loop-node : goal.invariant-protect_nodes-loop-node

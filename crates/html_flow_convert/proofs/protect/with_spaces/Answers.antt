@@ -1,10 +1,7 @@
-use Rattle.std.proofs.Common.{◌≡◌, ◌++◌, ◌∙◌, ap, sym, take, drop, length, arith}
-use Rattle.std.proofs.lemmas.Grind.{common_steps}
+use Rattle.std.proofs.{Common.{◌≡◌, ◌++◌, ◌∙◌, ap, sym, take, drop, length, arith}, lemmas.Grind.{common_steps}}
 use Rattle.std.specs.List.{list_all}
 use Rattle.html_dom_tree.specs.Views.{nodes_view}
-use Rattle.html_flow_convert.specs.BareSpaces.{bare_spaces}
-use Rattle.html_flow_convert.specs.Protected.{nodes_by_answers}
-use Rattle.html_flow_convert.proofs.Protecting.{kept_all}
+use Rattle.html_flow_convert.{proofs.Protecting.{kept_all}, specs.BareSpaces.{bare_spaces}, specs.Protected.{nodes_by_answers}}
 use Rattle.html_flow_convert.proofs.protect.with_spaces.Goals as goal
 
 pub returns-then-are_bare : goal.returns-then-are_bare

@@ -1,8 +1,6 @@
-use Rattle.std.proofs.Common.{◌≡◌, map, drop}
-use Rattle.std.specs.List.{filter}
+use Rattle.std.{proofs.Common.{◌≡◌, map, drop}, specs.List.{filter}}
 use Rattle.html_dom_tree.specs.Views.{node_view}
-use Rattle.html_flow_convert.specs.Runs.{is_blank_node, are_kept}
-use Rattle.html_flow_convert.proofs.Blanks.{kept_after}
+use Rattle.html_flow_convert.{proofs.Blanks.{kept_after}, specs.Runs.{is_blank_node, are_kept}}
 use Rattle.html_flow_convert.proofs.runs.are_kept.Given as goal
 
 abbrev pub invariant-loop-node : goal.invariant-loop-node

@@ -1,10 +1,8 @@
 use Rattle.std.proofs.Common.{◌≡◌, ◌++◌, [], ◌∷◌, true, false, map, reverse, refl, sym, ap, ◌∙◌}
 use Rattle.std.proofs.lemmas.List.{map-append, nil_from_length, reverse-reverse}
-use Rattle.html_dom_tree.proofs.Reversed.{next_reversed}
-use Rattle.html_dom_tree.specs.Views.{node_view}
-use Rattle.html_flow_convert.specs.OpenRuns.{goes_on, has_kept_run}
-use Rattle.html_flow_convert.specs.Runs.{run_nodes}
+use Rattle.html_dom_tree.{proofs.Reversed.{next_reversed}, specs.Views.{node_view}}
 use Rattle.html_flow_convert.proofs.Blanks.{goes_on_node, begins_on, run_goes_on, run_ends, runs_end, runs_stay}
+use Rattle.html_flow_convert.specs.{OpenRuns.{goes_on, has_kept_run}, Runs.{run_nodes}}
 use Rattle.html_flow_convert.proofs.runs.with_runs.Goals as goal
 
 pub returns-then-not-has_kept_run : goal.returns-then-not-has_kept_run

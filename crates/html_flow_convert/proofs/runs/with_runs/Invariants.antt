@@ -1,7 +1,6 @@
 use Rattle.std.proofs.Common.{◌≡◌, map, reverse, false, vec_len}
 use Rattle.html_dom_tree.specs.Views.{node_view}
-use Rattle.html_flow_convert.specs.Runs.{nodes_with_runs}
-use Rattle.html_flow_convert.proofs.Blanks.{begins_with_tag, runs_of}
+use Rattle.html_flow_convert.{proofs.Blanks.{begins_with_tag, runs_of}, specs.Runs.{nodes_with_runs}}
 use Rattle.html_flow_convert.proofs.runs.with_runs.Given as goal
 
 -- those that are left stand in reverse

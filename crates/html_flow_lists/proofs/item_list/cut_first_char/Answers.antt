@@ -1,5 +1,4 @@
-use Rattle.std.proofs.Common.{◌≡◌, rules, string_bytes, string_len}
-use Rattle.std.proofs.lemmas.Str.{IsUtf8-string_bytes}
+use Rattle.std.proofs.{Common.{◌≡◌, rules, string_bytes, string_len}, lemmas.Str.{IsUtf8-string_bytes}}
 use Rattle.html_flow_lists.proofs.Cuts.{first_char_gone, none_gone}
 use Rattle.html_flow_lists.proofs.item_list.cut_first_char.Goals as goal
 

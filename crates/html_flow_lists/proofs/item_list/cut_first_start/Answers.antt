@@ -1,5 +1,4 @@
-use Rattle.html_flow_lists.specs.ItemLists.{with_cut_text, without_first}
-use Rattle.html_flow_lists.proofs.Cuts.{first_changed_is}
+use Rattle.html_flow_lists.{proofs.Cuts.{first_changed_is}, specs.ItemLists.{with_cut_text, without_first}}
 use Rattle.html_flow_lists.proofs.item_list.cut_first_start.Goals as goal
 
 pub returns-in-Some : goal.returns-in-Some

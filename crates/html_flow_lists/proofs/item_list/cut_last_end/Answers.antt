@@ -1,6 +1,5 @@
 use Rattle.std.proofs.Common.{refl}
-use Rattle.html_flow_lists.specs.ItemLists.{with_cut_text, without_last}
-use Rattle.html_flow_lists.proofs.LastItems.{changed_is}
+use Rattle.html_flow_lists.{proofs.LastItems.{changed_is}, specs.ItemLists.{with_cut_text, without_last}}
 use Rattle.html_flow_lists.proofs.item_list.cut_last_end.Goals as goal
 
 pub returns-in-Some : goal.returns-in-Some

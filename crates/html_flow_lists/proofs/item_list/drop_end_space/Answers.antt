@@ -1,7 +1,6 @@
 use Rattle.std.proofs.Common.{◌≡◌, true}
 use Rattle.html_flow_convert.specs.Views.{pairs_view}
-use Rattle.html_flow_lists.specs.ItemLists.{is_lone_space, last_passes}
-use Rattle.html_flow_lists.proofs.Cuts.{space_popped}
+use Rattle.html_flow_lists.{proofs.Cuts.{space_popped}, specs.ItemLists.{is_lone_space, last_passes}}
 use Rattle.html_flow_lists.proofs.item_list.drop_end_space.Goals as goal
 
 pub returns-then-ends_in_lone_space-clause-same : goal.returns-then-ends_in_lone_space-clause-same

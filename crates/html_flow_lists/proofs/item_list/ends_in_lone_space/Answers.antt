@@ -1,6 +1,5 @@
 use Rattle.std.proofs.Common.{refl, sym, ◌∙◌}
-use Rattle.html_flow_lists.specs.ItemLists.{is_lone_space}
-use Rattle.html_flow_lists.proofs.LastItems.{last_passes_is}
+use Rattle.html_flow_lists.{proofs.LastItems.{last_passes_is}, specs.ItemLists.{is_lone_space}}
 use Rattle.html_flow_lists.proofs.item_list.ends_in_lone_space.Goals as goal
 
 pub returns-in-Some : goal.returns-in-Some

@@ -1,6 +1,5 @@
 use Rattle.std.proofs.Common.{refl, sym, ◌∙◌}
-use Rattle.html_flow_lists.specs.Notes.{is_line_item}
-use Rattle.html_flow_lists.proofs.LastItems.{last_passes_is}
+use Rattle.html_flow_lists.{proofs.LastItems.{last_passes_is}, specs.Notes.{is_line_item}}
 use Rattle.html_flow_lists.proofs.notes.ends_in_line.Goals as goal
 
 pub returns-in-Some : goal.returns-in-Some

@@ -1,8 +1,6 @@
-use Rattle.std.proofs.Common.{◌≡◌, suc, ◌+◌, ◌++◌, length, map}
-use Rattle.std.specs.Vec.Iter.{into_iter_items}
+use Rattle.std.{proofs.Common.{◌≡◌, suc, ◌+◌, ◌++◌, length, map}, specs.Vec.Iter.{into_iter_items}}
 use Rattle.html_flow_convert.specs.Views.{pairs_view}
-use Rattle.html_flow_lists.specs.ListViews.{note_view}
-use Rattle.html_flow_lists.specs.Notes.{note_items}
+use Rattle.html_flow_lists.specs.{ListViews.{note_view}, Notes.{note_items}}
 use Rattle.html_flow_lists.proofs.notes.note_items.Given as goal
 
 abbrev pub invariant-loop-note : goal.invariant-loop-note

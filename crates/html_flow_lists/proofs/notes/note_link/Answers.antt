@@ -1,5 +1,4 @@
-use Rattle.html_names_core.specs.Tables.{known_tags}
-use Rattle.html_names_core.specs.Texts.{text_view}
+use Rattle.html_names_core.specs.{Tables.{known_tags}, Texts.{text_view}}
 use Rattle.html_flow_lists.proofs.NoteParts.{link_seen}
 use Rattle.html_flow_lists.proofs.notes.note_link.Goals as goal
 

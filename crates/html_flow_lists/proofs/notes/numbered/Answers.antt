@@ -1,8 +1,6 @@
 use Rattle.std.proofs.Common.{◌≡◌, ◌++◌, ap, ◌∙◌, chars, string_bytes}
+use Rattle.std.proofs.lemmas.{Fmt.{IsAscii-decimal}, Result.{IfOk-weaker}, Str.{chars-append, chars-IsAscii}}
 use Rattle.std.specs.Prelude.{decimal}
-use Rattle.std.proofs.lemmas.Fmt.{IsAscii-decimal}
-use Rattle.std.proofs.lemmas.Result.{IfOk-weaker}
-use Rattle.std.proofs.lemmas.Str.{chars-append, chars-IsAscii}
 use Rattle.html_names_core.proofs.Lists.{chars_ascii}
 use Rattle.html_flow_lists.proofs.notes.numbered.Goals as goal
 

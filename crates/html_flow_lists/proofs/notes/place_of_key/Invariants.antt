@@ -1,6 +1,5 @@
 use Rattle.std.proofs.Common.{◌≡◌, ◌+◌, chars, drop, map}
-use Rattle.html_flow_lists.specs.ListViews.{note_view}
-use Rattle.html_flow_lists.specs.Notes.{place_of_key}
+use Rattle.html_flow_lists.specs.{ListViews.{note_view}, Notes.{place_of_key}}
 use Rattle.html_flow_lists.proofs.notes.place_of_key.Given as goal
 
 abbrev pub invariant-loop-note : goal.invariant-loop-note

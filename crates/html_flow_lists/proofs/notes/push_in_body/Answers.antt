@@ -1,6 +1,5 @@
 use Rattle.std.proofs.lemmas.Result.{on_ok_weaker}
-use Rattle.html_flow_lists.specs.Notes.{back_items}
-use Rattle.html_flow_lists.proofs.Lines.{longer_body_view}
+use Rattle.html_flow_lists.{proofs.Lines.{longer_body_view}, specs.Notes.{back_items}}
 use Rattle.html_flow_lists.proofs.notes.push_in_body.Goals as goal
 
 pub returns-in-Some : goal.returns-in-Some

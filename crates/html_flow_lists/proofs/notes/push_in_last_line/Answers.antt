@@ -1,7 +1,5 @@
-use Rattle.std.proofs.Common.{refl}
-use Rattle.std.proofs.lemmas.Result.{on_ok_weaker}
-use Rattle.html_flow_lists.specs.Notes.{back_items, with_longer_line}
-use Rattle.html_flow_lists.proofs.LastItems.{changed_is}
+use Rattle.std.proofs.{Common.{refl}, lemmas.Result.{on_ok_weaker}}
+use Rattle.html_flow_lists.{proofs.LastItems.{changed_is}, specs.Notes.{back_items, with_longer_line}}
 use Rattle.html_flow_lists.proofs.notes.push_in_last_line.Goals as goal
 
 pub returns-in-Some : goal.returns-in-Some

@@ -1,8 +1,6 @@
 use Rattle.std.proofs.Common.{◌++◌, ap, chars, codes, ◌∙◌, None, Some}
-use Rattle.html_flow_convert.specs.Items.{located_item}
-use Rattle.html_flow_convert.specs.Views.{pairs_view}
-use Rattle.html_flow_lists.specs.Notes.{mark_location, note_link}
-use Rattle.html_flow_lists.proofs.Lines.{arrow_chars}
+use Rattle.html_flow_convert.specs.{Items.{located_item}, Views.{pairs_view}}
+use Rattle.html_flow_lists.{proofs.Lines.{arrow_chars}, specs.Notes.{mark_location, note_link}}
 use Rattle.html_flow_lists.proofs.notes.push_link_to_mark.Goals as goal
 
 pub returns : goal.returns

@@ -1,8 +1,6 @@
 use Rattle.std.proofs.Common.{codes, refl}
-use Rattle.html_names_core.specs.Tables.{known_attrs, known_tags}
-use Rattle.html_names_core.proofs.Lists.{chars_ascii}
-use Rattle.html_flow_lists.specs.ListViews.{note_view}
-use Rattle.html_flow_lists.proofs.NoteParts.{note_seen}
+use Rattle.html_names_core.{proofs.Lists.{chars_ascii}, specs.Tables.{known_attrs, known_tags}}
+use Rattle.html_flow_lists.{proofs.NoteParts.{note_seen}, specs.ListViews.{note_view}}
 use Rattle.html_flow_lists.proofs.notes.push_note.Goals as goal
 
 pub returns : goal.returns

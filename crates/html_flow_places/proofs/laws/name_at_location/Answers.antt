@@ -1,5 +1,4 @@
-use Rattle.std.proofs.Common.{[], ap, ◌∙◌, unwrap_or}
-use Rattle.std.proofs.lemmas.Slice.Eq.{bytes_eq-Decides}
+use Rattle.std.proofs.{Common.{[], ap, ◌∙◌, unwrap_or}, lemmas.Slice.Eq.{bytes_eq-Decides}}
 use Rattle.html_flow_places.proofs.NamedLocations.{added_there}
 use Rattle.html_flow_places.proofs.laws.name_at_location.Goals as goal
 

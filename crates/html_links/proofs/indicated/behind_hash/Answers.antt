@@ -1,9 +1,6 @@
 use Rattle.std.proofs.Common.{◌≡◌, ◌==◌, Some, true, false, chars, sym, ap, ◌∙◌, rules}
-use Rattle.std.specs.Str.Iter.{chars_rest}
-use Rattle.std.proofs.lemmas.List.{nil_from_length}
-use Rattle.std.proofs.lemmas.Str.{IsUtf8-past_char}
-use Rattle.html_links.specs.Indicated.{is_control_or_space}
-use Rattle.html_links.proofs.TakenFragments.{at_blank, at_hash, at_no_hash, at_other}
+use Rattle.std.{proofs.lemmas.List.{nil_from_length}, proofs.lemmas.Str.{IsUtf8-past_char}, specs.Str.Iter.{chars_rest}}
+use Rattle.html_links.{proofs.TakenFragments.{at_blank, at_hash, at_no_hash, at_other}, specs.Indicated.{is_control_or_space}}
 use Rattle.html_links.proofs.indicated.behind_hash.Goals as goal
 
 pub returns-then-c-eq35 : goal.returns-then-c-eq35

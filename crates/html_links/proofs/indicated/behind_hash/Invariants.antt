@@ -1,6 +1,4 @@
-use Rattle.std.proofs.Common.{◌≡◌, chars}
-use Rattle.std.specs.Str.{IsUtf8}
-use Rattle.std.specs.Str.Iter.{chars_rest}
+use Rattle.std.{proofs.Common.{◌≡◌, chars}, specs.Str.{IsUtf8}, specs.Str.Iter.{chars_rest}}
 use Rattle.html_links.specs.Indicated.{behind_hash}
 use Rattle.html_links.proofs.indicated.behind_hash.Given as goal
 

@@ -1,6 +1,5 @@
 use Rattle.std.proofs.Common.{◌≡◌, IfOk, chars, string_bytes, subst, ◌∙◌}
-use Rattle.html_links.specs.Indicated.{decoding, url_fragment}
-use Rattle.html_links.proofs.TakenFragments.{in_characters}
+use Rattle.html_links.{proofs.TakenFragments.{in_characters}, specs.Indicated.{decoding, url_fragment}}
 use Rattle.html_links.proofs.indicated.decoded_name.Goals as goal
 
 pub returns : goal.returns

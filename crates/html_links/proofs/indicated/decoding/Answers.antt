@@ -1,5 +1,4 @@
-use Rattle.std.proofs.Common.{◌≡◌, IfOk, string_bytes, ap, subst, ◌∙◌}
-use Rattle.std.specs.Str.Lossy.{utf8_lossy}
+use Rattle.std.{proofs.Common.{◌≡◌, IfOk, string_bytes, ap, subst, ◌∙◌}, specs.Str.Lossy.{utf8_lossy}}
 use Rattle.percent_encoding.specs.Percent.{percent_decode}
 use Rattle.html_links.specs.Indicated.{decoding}
 use Rattle.html_links.proofs.indicated.decoding.Goals as goal

@@ -1,7 +1,6 @@
 use Rattle.std.proofs.Common.{◌≡◌, Some, true, false, chars, length, string_bytes, sym, ap, ◌∙◌, rules}
-use Rattle.html_links.specs.Indicated.{decoding, if_place, indicated_name, url_fragment}
-use Rattle.html_links.specs.UsedNames.{used_in}
 use Rattle.html_links.proofs.TakenFragments.{indicated_as_decoded, indicated_as_it_is, none_indicated}
+use Rattle.html_links.specs.{Indicated.{decoding, if_place, indicated_name, url_fragment}, UsedNames.{used_in}}
 use Rattle.html_links.proofs.indicated.indicated_name.Goals as goal
 
 pub returns-then-is_empty : goal.returns-then-is_empty

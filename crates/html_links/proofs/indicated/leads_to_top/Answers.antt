@@ -1,6 +1,5 @@
 use Rattle.std.proofs.Common.{◌≡◌, chars, length, string_bytes, sym, ap, ◌∙◌, rules}
-use Rattle.html_links.specs.Indicated.{decoding, is_top, url_fragment}
-use Rattle.html_links.proofs.TakenFragments.{decoded_leads, empty_leads}
+use Rattle.html_links.{proofs.TakenFragments.{decoded_leads, empty_leads}, specs.Indicated.{decoding, is_top, url_fragment}}
 use Rattle.html_links.proofs.indicated.leads_to_top.Goals as goal
 
 pub returns-then-is_empty : goal.returns-then-is_empty

@@ -1,9 +1,7 @@
 use Rattle.std.proofs.Common.{◌≡◌, ◌++◌, [], ◌∷◌, true, false, chars, sym, ap, subst, ◌∙◌, rules}
-use Rattle.std.specs.Str.Iter.{chars_rest}
-use Rattle.std.proofs.lemmas.List.{nil_from_length}
-use Rattle.std.proofs.lemmas.Str.{IsUtf8-past_char}
-use Rattle.html_links.specs.Indicated.{is_control_or_space, is_dropped}
+use Rattle.std.{proofs.lemmas.List.{nil_from_length}, proofs.lemmas.Str.{IsUtf8-past_char}, specs.Str.Iter.{chars_rest}}
 use Rattle.html_links.proofs.TakenFragments.{IsTaken, all_taken, dropped, held, written}
+use Rattle.html_links.specs.Indicated.{is_control_or_space, is_dropped}
 use Rattle.html_links.proofs.indicated.url_end.Goals as goal
 
 pub loop-c-preserved-then-is_dropped : goal.loop-c-preserved-then-is_dropped

@@ -1,5 +1,4 @@
-use Rattle.std.proofs.Common.{chars}
-use Rattle.std.specs.Str.Iter.{chars_rest}
+use Rattle.std.{proofs.Common.{chars}, specs.Str.Iter.{chars_rest}}
 use Rattle.html_links.proofs.TakenFragments.{IsTaken}
 use Rattle.html_links.proofs.indicated.url_end.Given as goal
 

@@ -1,7 +1,6 @@
 use Rattle.std.proofs.Common.{◌≡◌, IfOk, chars, subst}
 use Rattle.html_names_core.specs.Texts.{text_view}
-use Rattle.html_links.specs.Spellings.{encoding, is_in_fragment_set}
-use Rattle.html_links.proofs.TakenFragments.{url_fragment_bytes}
+use Rattle.html_links.{proofs.TakenFragments.{url_fragment_bytes}, specs.Spellings.{encoding, is_in_fragment_set}}
 use Rattle.html_links.proofs.indicated.url_fragment.Goals as goal
 
 pub returns-clause-text : goal.returns-clause-text

@@ -1,5 +1,4 @@
-use Rattle.std.proofs.Common.{◌∙◌, string_bytes}
-use Rattle.std.proofs.lemmas.Str.{IsUtf8-string_bytes}
+use Rattle.std.proofs.{Common.{◌∙◌, string_bytes}, lemmas.Str.{IsUtf8-string_bytes}}
 use Rattle.html_links.proofs.UsedNames.{contains_is}
 use Rattle.html_links.proofs.names.is_used.Goals as goal
 

@@ -1,7 +1,5 @@
-use Rattle.std.proofs.Common.{map, ap, ◌∙◌}
-use Rattle.std.proofs.Math.Path.{fun_ext}
-use Rattle.html_names_core.specs.Names.{stands_in}
-use Rattle.html_names_core.specs.Texts.{text_view}
+use Rattle.std.proofs.{Common.{map, ap, ◌∙◌}, Math.Path.{fun_ext}}
+use Rattle.html_names_core.specs.{Names.{stands_in}, Texts.{text_view}}
 use Rattle.html_links.proofs.UsedNames.{insert_is, still_used}
 use Rattle.html_links.proofs.names.put_in_use.Goals as goal
 

@@ -1,9 +1,7 @@
 use Rattle.std.proofs.Common.{◌++◌, refl, ap, ◌∙◌, rules}
-use Rattle.html_dom_tree.specs.Tree.{node, none}
-use Rattle.html_dom_tree.specs.Views.{head_of, node_view, nodes_view}
-use Rattle.html_links.specs.Distinct.{names_view}
-use Rattle.html_links.specs.TreeNames.{nodes_names, gathered_names}
+use Rattle.html_dom_tree.specs.{Tree.{node, none}, Views.{head_of, node_view, nodes_view}}
 use Rattle.html_links.proofs.Gathering.{element_listed, gathered, gathered_all, nodes_split, tag_passed, text_passed}
+use Rattle.html_links.specs.{Distinct.{names_view}, TreeNames.{nodes_names, gathered_names}}
 use Rattle.html_links.proofs.names_in_tree.+names.Goals as goal
 
 pub add_element-returns : goal.add_element-returns

@@ -1,7 +1,6 @@
 use Rattle.std.proofs.Common.{◌≡◌, ◌++◌, drop}
 use Rattle.html_dom_tree.specs.Views.{nodes_view}
-use Rattle.html_links.specs.Distinct.{names_view}
-use Rattle.html_links.specs.TreeNames.{nodes_names}
+use Rattle.html_links.specs.{Distinct.{names_view}, TreeNames.{nodes_names}}
 use Rattle.html_links.proofs.names_in_tree.+names.Given as goal
 
 abbrev pub invariant-add_nodes-loop-node : goal.invariant-add_nodes-loop-node

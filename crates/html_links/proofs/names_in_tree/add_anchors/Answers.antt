@@ -1,8 +1,6 @@
 use Rattle.std.proofs.Common.{refl, rules}
 use Rattle.html_dom_tree.specs.FrameViews.{anchors_view}
-use Rattle.html_links.specs.Distinct.{names_view}
-use Rattle.html_links.specs.TreeNames.{anchor_names}
-use Rattle.html_links.proofs.Gathering.{gathered_all}
+use Rattle.html_links.{proofs.Gathering.{gathered_all}, specs.Distinct.{names_view}, specs.TreeNames.{anchor_names}}
 use Rattle.html_links.proofs.names_in_tree.add_anchors.Goals as goal
 
 pub returns : goal.returns

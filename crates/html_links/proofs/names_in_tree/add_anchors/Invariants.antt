@@ -1,7 +1,6 @@
 use Rattle.std.proofs.Common.{◌≡◌, ◌++◌, drop}
 use Rattle.html_dom_tree.specs.FrameViews.{anchors_view}
-use Rattle.html_links.specs.Distinct.{names_view}
-use Rattle.html_links.specs.TreeNames.{anchor_names}
+use Rattle.html_links.specs.{Distinct.{names_view}, TreeNames.{anchor_names}}
 use Rattle.html_links.proofs.names_in_tree.add_anchors.Given as goal
 
 abbrev pub invariant-loop-anchor : goal.invariant-loop-anchor

@@ -1,8 +1,6 @@
 use Rattle.std.proofs.Common.{◌++◌, ap, ◌∙◌}
 use Rattle.html_dom_tree.specs.FrameViews.{anchors_view, html_frame_view}
-use Rattle.html_links.specs.Distinct.{names_view}
-use Rattle.html_links.specs.TreeNames.{anchor_names}
-use Rattle.html_links.proofs.Gathering.{frame_listed}
+use Rattle.html_links.{proofs.Gathering.{frame_listed}, specs.Distinct.{names_view}, specs.TreeNames.{anchor_names}}
 use Rattle.html_links.proofs.names_in_tree.add_frame.Goals as goal
 
 pub returns : goal.returns

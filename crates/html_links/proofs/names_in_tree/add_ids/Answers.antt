@@ -1,8 +1,6 @@
 use Rattle.std.proofs.Common.{◌++◌, [], ◌∷◌, map, refl, ap, ◌∙◌, rules}
 use Rattle.html_dom_tree.specs.Views.{pair_view}
-use Rattle.html_links.specs.Distinct.{names_view}
-use Rattle.html_links.specs.TreeNames.{all_ids}
-use Rattle.html_links.proofs.Gathering.{gathered, gathered_all, ids_split}
+use Rattle.html_links.{proofs.Gathering.{gathered, gathered_all, ids_split}, specs.Distinct.{names_view}, specs.TreeNames.{all_ids}}
 use Rattle.html_links.proofs.names_in_tree.add_ids.Goals as goal
 
 pub loop-pair-preserved : goal.loop-pair-preserved

@@ -1,7 +1,6 @@
 use Rattle.std.proofs.Common.{◌≡◌, ◌++◌, map, drop}
 use Rattle.html_dom_tree.specs.Views.{pair_view}
-use Rattle.html_links.specs.Distinct.{names_view}
-use Rattle.html_links.specs.TreeNames.{all_ids}
+use Rattle.html_links.specs.{Distinct.{names_view}, TreeNames.{all_ids}}
 use Rattle.html_links.proofs.names_in_tree.add_ids.Given as goal
 
 abbrev pub invariant-loop-pair : goal.invariant-loop-pair

@@ -1,10 +1,7 @@
-use Rattle.std.proofs.Common.{ap, sym, ◌∙◌}
-use Rattle.std.specs.Prelude.{option_to_list}
+use Rattle.std.{proofs.Common.{ap, sym, ◌∙◌}, specs.Prelude.{option_to_list}}
 use Rattle.html_dom_tree.specs.Views.{head_of, nodes_view}
-use Rattle.html_links.specs.InDocument.{nodes_part}
-use Rattle.html_links.specs.Indicated.{nodes_places}
-use Rattle.html_links.specs.UsedNames.{used_in, with_names}
 use Rattle.html_links.proofs.PutPlaces.{no_more_put, one_more_put, own_put, part_put, tag_put, text_put}
+use Rattle.html_links.specs.{InDocument.{nodes_part}, Indicated.{nodes_places}, UsedNames.{used_in, with_names}}
 use Rattle.html_links.proofs.places.+places.Goals as goal
 
 pub add_element-returns-then-not-keeps_children : goal.add_element-returns-then-not-keeps_children

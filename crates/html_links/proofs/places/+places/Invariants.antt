@@ -1,8 +1,6 @@
 use Rattle.std.proofs.Common.{◌≡◌, drop}
 use Rattle.html_dom_tree.specs.Views.{nodes_view}
-use Rattle.html_links.specs.InDocument.{nodes_part}
-use Rattle.html_links.specs.Indicated.{nodes_places}
-use Rattle.html_links.specs.UsedNames.{used_in, with_names}
+use Rattle.html_links.specs.{InDocument.{nodes_part}, Indicated.{nodes_places}, UsedNames.{used_in, with_names}}
 use Rattle.html_links.proofs.places.+places.Given as goal
 
 abbrev pub invariant-add_nodes-loop-child : goal.invariant-add_nodes-loop-child

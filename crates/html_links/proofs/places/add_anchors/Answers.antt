@@ -1,5 +1,4 @@
-use Rattle.html_links.specs.UsedNames.{used_in}
-use Rattle.html_links.proofs.PutPlaces.{no_anchor_put, one_anchor_put}
+use Rattle.html_links.{proofs.PutPlaces.{no_anchor_put, one_anchor_put}, specs.UsedNames.{used_in}}
 use Rattle.html_links.proofs.places.add_anchors.Goals as goal
 
 pub loop-anchor-preserved : goal.loop-anchor-preserved

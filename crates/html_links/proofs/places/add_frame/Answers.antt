@@ -1,8 +1,6 @@
 use Rattle.std.proofs.Common.{ap, ◌∙◌, rules}
 use Rattle.html_dom_tree.specs.FrameViews.{anchors_view, html_frame_view}
-use Rattle.html_links.specs.TreeNames.{anchor_names}
-use Rattle.html_links.specs.UsedNames.{used_in, with_names}
-use Rattle.html_links.proofs.PutPlaces.{frame_put}
+use Rattle.html_links.{proofs.PutPlaces.{frame_put}, specs.TreeNames.{anchor_names}, specs.UsedNames.{used_in, with_names}}
 use Rattle.html_links.proofs.places.add_frame.Goals as goal
 
 pub returns : goal.returns

@@ -1,8 +1,6 @@
 use Rattle.std.proofs.Common.{◌≡◌, ap, sym, ◌∙◌, rules}
 use Rattle.html_names_core.specs.Texts.{text_view}
-use Rattle.html_links.specs.TreeNames.{with_used_name}
-use Rattle.html_links.specs.UsedNames.{used_in}
-use Rattle.html_links.proofs.Gathering.{with-one}
+use Rattle.html_links.{proofs.Gathering.{with-one}, specs.TreeNames.{with_used_name}, specs.UsedNames.{used_in}}
 use Rattle.html_links.proofs.places.add_name.Goals as goal
 
 pub returns : goal.returns

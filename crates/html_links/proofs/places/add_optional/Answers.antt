@@ -1,8 +1,6 @@
-use Rattle.std.proofs.Common.{ap, sym, ◌∙◌}
-use Rattle.std.specs.Prelude.{option_map, option_to_list}
+use Rattle.std.{proofs.Common.{ap, sym, ◌∙◌}, specs.Prelude.{option_map, option_to_list}}
 use Rattle.html_names_core.specs.Texts.{text_view}
-use Rattle.html_links.specs.UsedNames.{used_in, with_names}
-use Rattle.html_links.proofs.Gathering.{with-none}
+use Rattle.html_links.{proofs.Gathering.{with-none}, specs.UsedNames.{used_in, with_names}}
 use Rattle.html_links.proofs.places.add_optional.Goals as goal
 
 pub returns-in-None : goal.returns-in-None

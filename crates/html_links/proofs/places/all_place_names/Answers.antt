@@ -1,11 +1,7 @@
-use Rattle.std.proofs.Common.{◌≡◌, subst}
-use Rattle.std.specs.Prelude.{IfOk}
+use Rattle.std.{proofs.Common.{◌≡◌, subst}, specs.Prelude.{IfOk}}
 use Rattle.html_names_core.specs.Names.{stands_in}
-use Rattle.html_dom_tree.specs.Tree.{ElementView}
-use Rattle.html_dom_tree.specs.Views.{element_view}
-use Rattle.html_links.specs.Indicated.{element_places}
-use Rattle.html_links.specs.UsedNames.{used_in}
-use Rattle.html_links.proofs.InDocument.{whole_tree}
+use Rattle.html_dom_tree.specs.{Tree.{ElementView}, Views.{element_view}}
+use Rattle.html_links.{proofs.InDocument.{whole_tree}, specs.Indicated.{element_places}, specs.UsedNames.{used_in}}
 use Rattle.html_links.proofs.places.all_place_names.Goals as goal
 
 pub returns : goal.returns

@@ -1,13 +1,8 @@
 use Rattle.std.proofs.Common.{map, ap, ◌∙◌}
-use Rattle.html_names_core.specs.Names.{stands_in}
-use Rattle.html_names_core.specs.Texts.{text_view}
-use Rattle.html_dom_tree.specs.Tree.{element_node, node, none}
-use Rattle.html_dom_tree.specs.Views.{element_view}
-use Rattle.html_links.specs.InDocument.{node_part}
-use Rattle.html_links.specs.Indicated.{nodes_places}
-use Rattle.html_links.specs.UsedNames.{with_names}
-use Rattle.html_links.proofs.Gathering.{with-all}
-use Rattle.html_links.proofs.PutPlaces.{places_of_part}
+use Rattle.html_names_core.specs.{Names.{stands_in}, Texts.{text_view}}
+use Rattle.html_dom_tree.specs.{Tree.{element_node, node, none}, Views.{element_view}}
+use Rattle.html_links.proofs.{Gathering.{with-all}, PutPlaces.{places_of_part}}
+use Rattle.html_links.specs.{InDocument.{node_part}, Indicated.{nodes_places}, UsedNames.{with_names}}
 use Rattle.html_links.proofs.places.names_in_part.Goals as goal
 
 pub returns : goal.returns

@@ -1,7 +1,5 @@
-use Rattle.std.proofs.Common.{◌≡◌, IsUtf8, chars, filter}
-use Rattle.std.specs.Str.Iter.{chars_rest}
-use Rattle.html_links.specs.Indicated.{is_kept}
-use Rattle.html_links.specs.Scripts.{begins}
+use Rattle.std.{proofs.Common.{◌≡◌, IsUtf8, chars, filter}, specs.Str.Iter.{chars_rest}}
+use Rattle.html_links.specs.{Indicated.{is_kept}, Scripts.{begins}}
 use denote.Shadow.{shadow}
 use denote.Text.{Utf8}
 use Rattle.html_links.proofs.scripts.begins.Given as goal

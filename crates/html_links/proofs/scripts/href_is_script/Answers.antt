@@ -1,6 +1,5 @@
 use Rattle.std.proofs.Common.{◌≡◌, ℕ, Bool, List, codes, chars, false, true, true≢false, refl, sym, ap, ◌∙◌}
-use Rattle.html_names_core.proofs.Lists.{chars_ascii}
-use Rattle.html_names_core.specs.Names.{is_ascii}
+use Rattle.html_names_core.{proofs.Lists.{chars_ascii}, specs.Names.{is_ascii}}
 use Rattle.html_links.specs.Scripts.{begins, url_begin}
 use Rattle.html_links.proofs.scripts.href_is_script.Goals as goal
 use Rattle.html_links.proofs.scripts.href_is_script.Goals.{then-begins, else-begins}

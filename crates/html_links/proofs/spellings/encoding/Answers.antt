@@ -1,7 +1,5 @@
-use Rattle.std.proofs.Common.{◌≡◌, chars, string_bytes, refl, ap, ◌∙◌}
-use Rattle.std.proofs.lemmas.Str.{chars-IsAscii}
-use Rattle.percent_encoding.specs.Percent.{percent_encode}
-use Rattle.percent_encoding.proofs.PercentLemmas.{IsAscii-percent_encode}
+use Rattle.std.proofs.{Common.{◌≡◌, chars, string_bytes, refl, ap, ◌∙◌}, lemmas.Str.{chars-IsAscii}}
+use Rattle.percent_encoding.{proofs.PercentLemmas.{IsAscii-percent_encode}, specs.Percent.{percent_encode}}
 use Rattle.html_links.proofs.spellings.encoding.Goals as goal
 
 pub returns : goal.returns

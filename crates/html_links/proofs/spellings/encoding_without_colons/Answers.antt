@@ -1,8 +1,7 @@
 use Rattle.std.proofs.Common.{◌≡◌, IfOk, subst}
 use Rattle.html_names_core.specs.Texts.{text_view}
-use Rattle.html_links.specs.Spellings.{is_in_colon_set}
+use Rattle.html_links.{proofs.SpelledNames.{encoding_of_bytes, colon_set_is}, specs.Spellings.{is_in_colon_set}}
 use Rattle.html_links.specs.declared.spellings.TheConstants.{COLON}
-use Rattle.html_links.proofs.SpelledNames.{encoding_of_bytes, colon_set_is}
 use Rattle.html_links.proofs.spellings.encoding_without_colons.Goals as goal
 
 pub returns : goal.returns

@@ -1,10 +1,7 @@
 use Rattle.std.proofs.Common.{◌≡◌, true, false, not, ◌||◌, chars, sym, ap, ◌∙◌, rules}
-use Rattle.std.specs.List.{list_any}
-use Rattle.std.specs.Str.Iter.{chars_rest}
-use Rattle.std.proofs.lemmas.List.{nil_from_length}
-use Rattle.std.proofs.lemmas.Str.{IsUtf8-past_char, chars-nil, chars_past_char}
-use Rattle.html_links.specs.Directives.{has_directive}
-use Rattle.html_links.specs.Spellings.{is_in_fragment_set}
+use Rattle.std.proofs.lemmas.{List.{nil_from_length}, Str.{IsUtf8-past_char, chars-nil, chars_past_char}}
+use Rattle.std.specs.{List.{list_any}, Str.Iter.{chars_rest}}
+use Rattle.html_links.specs.{Directives.{has_directive}, Spellings.{is_in_fragment_set}}
 use Rattle.html_links.proofs.spellings.is_left.Goals as goal
 
 pub returns-then-is_in_fragment_set : goal.returns-then-is_in_fragment_set

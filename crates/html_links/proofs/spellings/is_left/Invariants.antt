@@ -1,7 +1,4 @@
-use Rattle.std.proofs.Common.{◌≡◌, chars}
-use Rattle.std.specs.List.{list_any}
-use Rattle.std.specs.Str.{IsUtf8}
-use Rattle.std.specs.Str.Iter.{chars_rest}
+use Rattle.std.{proofs.Common.{◌≡◌, chars}, specs.List.{list_any}, specs.Str.{IsUtf8}, specs.Str.Iter.{chars_rest}}
 use Rattle.html_links.specs.Spellings.{is_in_fragment_set}
 use Rattle.html_links.proofs.spellings.is_left.Given as goal
 

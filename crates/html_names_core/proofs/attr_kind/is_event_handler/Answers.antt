@@ -1,8 +1,5 @@
-use Rattle.std.proofs.Common.{◌≡◌, true, chars, sym, ap, ◌∙◌, subst}
-use Rattle.std.specs.Char.{eq_ignore_ascii_case}
-use Rattle.std.specs.Str.{IsUtf8}
-use Rattle.html_names_core.specs.AttrKinds.{is_event_handler}
-use Rattle.html_names_core.proofs.AttrKinds.{one_read, two_read}
+use Rattle.std.{proofs.Common.{◌≡◌, true, chars, sym, ap, ◌∙◌, subst}, specs.Char.{eq_ignore_ascii_case}, specs.Str.{IsUtf8}}
+use Rattle.html_names_core.{proofs.AttrKinds.{one_read, two_read}, specs.AttrKinds.{is_event_handler}}
 use Rattle.html_names_core.proofs.attr_kind.is_event_handler.Goals as goal
 
 pub returns-in_default-next : goal.returns-in_default-next

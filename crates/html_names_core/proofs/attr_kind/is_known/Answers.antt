@@ -1,6 +1,5 @@
 use Rattle.std.proofs.Common.{sym, ap, ◌∙◌}
-use Rattle.html_names_core.specs.Tables.{is_known_attr}
-use Rattle.html_names_core.proofs.Known.{attr_is_known}
+use Rattle.html_names_core.{proofs.Known.{attr_is_known}, specs.Tables.{is_known_attr}}
 use Rattle.html_names_core.proofs.attr_kind.is_known.Goals as goal
 
 pub returns-in-Known : goal.returns-in-Known

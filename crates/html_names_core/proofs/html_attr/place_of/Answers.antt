@@ -1,6 +1,5 @@
 use Rattle.std.proofs.Common.{ℕ, List, chars, subst}
-use Rattle.html_names_core.specs.Held.{IsLookup}
-use Rattle.html_names_core.proofs.Held.{attr_texts}
+use Rattle.html_names_core.{proofs.Held.{attr_texts}, specs.Held.{IsLookup}}
 use Rattle.html_names_core.proofs.html_attr.place_of.Goals as goal
 
 pub returns : goal.returns

@@ -1,7 +1,5 @@
-use Rattle.std.proofs.Common.{◌+◌, ◌≡◌, ◌<◌, ◌≤◌, sym, length, arith, bytes_eq, get_or, false, []}
-use Rattle.std.proofs.lemmas.List.{length-map}
-use Rattle.html_names_core.specs.Names.{texts}
-use Rattle.html_names_core.proofs.Starts.{within, empty, other, not_among, found, not_here, more}
+use Rattle.std.proofs.{Common.{◌+◌, ◌≡◌, ◌<◌, ◌≤◌, sym, length, arith, bytes_eq, get_or, false, []}, lemmas.List.{length-map}}
+use Rattle.html_names_core.{proofs.Starts.{within, empty, other, not_among, found, not_here, more}, specs.Names.{texts}}
 use Rattle.html_names_core.proofs.lookup.place_in.Goals as goal
 
 pub returns-in_err-first : goal.returns-in_err-first

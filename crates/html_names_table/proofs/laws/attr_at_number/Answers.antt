@@ -1,5 +1,4 @@
-use Rattle.std.proofs.Common.{◌∙◌}
-use Rattle.std.proofs.lemmas.Slice.Eq.{bytes_eq-Decides}
+use Rattle.std.proofs.{Common.{◌∙◌}, lemmas.Slice.Eq.{bytes_eq-Decides}}
 use Rattle.html_names_table.proofs.NameTables.{name_at-added}
 use Rattle.html_names_table.proofs.laws.attr_at_number.Goals as goal
 

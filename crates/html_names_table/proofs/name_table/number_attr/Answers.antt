@@ -1,11 +1,7 @@
 use Rattle.std.proofs.Common.{◌≡◌, ℕ, refl, length}
+use Rattle.html_names_table.{proofs.Numberings.{next_known, next_own}, specs.NumberMaps.{known_number}, specs.OwnNumbers.{IsOwnNumbering}}
 use Rattle.html_names_table.specs.declared.name_table.number_map.NumberMap.{NumberMap}
-use Rattle.html_names_table.specs.NumberMaps.{known_number}
-use Rattle.html_names_table.specs.OwnNumbers.{IsOwnNumbering}
-use Rattle.html_names_core.specs.Tables.{known_attrs, attr_count}
-use Rattle.html_names_core.proofs.Held.{attr_long}
-use Rattle.html_names_core.proofs.Same.{attr_places}
-use Rattle.html_names_table.proofs.Numberings.{next_known, next_own}
+use Rattle.html_names_core.{proofs.Held.{attr_long}, proofs.Same.{attr_places}, specs.Tables.{known_attrs, attr_count}}
 use Rattle.html_names_table.proofs.name_table.number_attr.Goals as goal
 use Rattle.html_names_table.proofs.name_table.number_attr.Goals.{then-are_few+in_ok-widen_attrs-in-None, else-are_few}
 

@@ -1,11 +1,7 @@
 use Rattle.std.proofs.Common.{◌≡◌, ℕ, refl, length}
+use Rattle.html_names_table.{proofs.Numberings.{next_known, next_own}, specs.NumberMaps.{known_number}, specs.OwnNumbers.{IsOwnNumbering}}
 use Rattle.html_names_table.specs.declared.name_table.number_map.NumberMap.{NumberMap}
-use Rattle.html_names_table.specs.NumberMaps.{known_number}
-use Rattle.html_names_table.specs.OwnNumbers.{IsOwnNumbering}
-use Rattle.html_names_core.specs.Tables.{known_tags, tag_count}
-use Rattle.html_names_core.proofs.Held.{tag_long}
-use Rattle.html_names_core.proofs.Same.{tag_places}
-use Rattle.html_names_table.proofs.Numberings.{next_known, next_own}
+use Rattle.html_names_core.{proofs.Held.{tag_long}, proofs.Same.{tag_places}, specs.Tables.{known_tags, tag_count}}
 use Rattle.html_names_table.proofs.name_table.number_tag.Goals as goal
 use Rattle.html_names_table.proofs.name_table.number_tag.Goals.{then-are_few+in_ok-widen_tags-in-None, else-are_few}
 

@@ -1,7 +1,6 @@
 use Rattle.std.proofs.Common.{not, ap, ◌∙◌}
 use Rattle.html_names_core.specs.Tables.{known_attrs}
-use Rattle.html_names_table.proofs.Numberings.{known_by, widened_known, widened_own}
-use Rattle.html_names_table.proofs.OwnNumbers.{own_fresh}
+use Rattle.html_names_table.proofs.{Numberings.{known_by, widened_known, widened_own}, OwnNumbers.{own_fresh}}
 use Rattle.html_names_table.proofs.name_table.widen_attrs.Goals as goal
 use Rattle.html_names_table.proofs.name_table.widen_attrs.Goals.{then-is_none+in_ok-put, else-is_none}
 

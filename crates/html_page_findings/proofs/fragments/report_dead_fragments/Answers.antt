@@ -1,11 +1,8 @@
-use Rattle.std.proofs.Common.{◌≡◌, List, [], false, refl, ap, sym, ◌∙◌}
-use Rattle.std.specs.Prelude.{if◌then◌else◌}
+use Rattle.std.{proofs.Common.{◌≡◌, List, [], false, refl, ap, sym, ◌∙◌}, specs.Prelude.{if◌then◌else◌}}
 use Rattle.html_names_core.specs.Names.{stands_in}
 use Rattle.html_dom_tree.specs.Views.{element_view}
-use Rattle.html_links.specs.Bases.{base_is_elsewhere}
-use Rattle.html_links.specs.InDocument.{document_places}
-use Rattle.html_page_findings.specs.Fragments.{dead_among, fragment_links}
-use Rattle.html_page_findings.specs.PlacedTexts.{Placed}
+use Rattle.html_links.specs.{Bases.{base_is_elsewhere}, InDocument.{document_places}}
+use Rattle.html_page_findings.specs.{Fragments.{dead_among, fragment_links}, PlacedTexts.{Placed}}
 use Rattle.html_page_findings.proofs.fragments.report_dead_fragments.Goals as goal
 
 pub returns-then-base_is_elsewhere : goal.returns-then-base_is_elsewhere

@@ -1,6 +1,5 @@
 use Rattle.std.proofs.Common.{map, ap, ◌∙◌}
-use Rattle.html_names_core.specs.Names.{stands_in}
-use Rattle.html_names_core.specs.Texts.{text_view}
+use Rattle.html_names_core.specs.{Names.{stands_in}, Texts.{text_view}}
 use Rattle.html_dom_tree.specs.Views.{element_view}
 use Rattle.html_page_findings.specs.RepeatedIds.{placed_ids, repeated}
 use Rattle.html_page_findings.proofs.repeated.report_repeated_ids.Goals as goal

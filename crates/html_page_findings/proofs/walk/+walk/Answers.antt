@@ -1,10 +1,8 @@
-use Rattle.std.proofs.Common.{◌≡◌, ◌++◌, ◌∷◌, [], ap, sym, ◌∙◌, append_assoc, refl}
-use Rattle.std.proofs.lemmas.List.{append-nil}
+use Rattle.std.proofs.{Common.{◌≡◌, ◌++◌, ◌∷◌, [], ap, sym, ◌∙◌, append_assoc, refl}, lemmas.List.{append-nil}}
 use Rattle.html_links.specs.InDocument.{node_part}
-use Rattle.html_page_findings.specs.PlacedTexts.{node_placed, nodes_placed}
-use Rattle.html_page_findings.specs.WantedTexts.{kind_of}
-use Rattle.html_dom_tree.proofs.Taking.{all_left, all_taken, more_taken}
 use Rattle.html_page_findings.proofs.Walks.{none_placed, placed_in_turn}
+use Rattle.html_page_findings.specs.{PlacedTexts.{node_placed, nodes_placed}, WantedTexts.{kind_of}}
+use Rattle.html_dom_tree.proofs.Taking.{all_left, all_taken, more_taken}
 use Rattle.html_page_findings.proofs.walk.+walk.Goals as goal
 
 pub pass_element-returns-clause-path : goal.pass_element-returns-clause-path

@@ -1,9 +1,7 @@
 use Rattle.std.proofs.Common.{◌≡◌, false, drop}
-use Rattle.html_dom_tree.proofs.Taking.{Left}
-use Rattle.html_dom_tree.specs.Views.{nodes_view}
+use Rattle.html_dom_tree.{proofs.Taking.{Left}, specs.Views.{nodes_view}}
 use Rattle.html_links.specs.InDocument.{nodes_part}
-use Rattle.html_page_findings.specs.PlacedTexts.{nodes_placed}
-use Rattle.html_page_findings.specs.WantedTexts.{kind_of}
+use Rattle.html_page_findings.specs.{PlacedTexts.{nodes_placed}, WantedTexts.{kind_of}}
 use Rattle.html_page_findings.proofs.walk.+walk.Given as goal
 
 abbrev pub invariant-pass_nodes-loop-index : goal.invariant-pass_nodes-loop-index

@@ -1,10 +1,7 @@
-use Rattle.std.proofs.Common.{◌≡◌, [], ◌∷◌, ap, ◌∙◌, refl, rules}
-use Rattle.std.proofs.lemmas.List.{drop_all}
+use Rattle.std.proofs.{Common.{◌≡◌, [], ◌∷◌, ap, ◌∙◌, refl, rules}, lemmas.List.{drop_all}}
 use Rattle.html_names_core.specs.Texts.{text_view}
-use Rattle.html_dom_tree.proofs.Taking.{all_left, all_taken, more_taken}
-use Rattle.html_dom_tree.specs.FrameViews.{anchors_view}
-use Rattle.html_links.specs.TreeNames.{anchor_names}
-use Rattle.html_links.proofs.PutPlaces.{anchors_in_turn}
+use Rattle.html_dom_tree.{proofs.Taking.{all_left, all_taken, more_taken}, specs.FrameViews.{anchors_view}}
+use Rattle.html_links.{proofs.PutPlaces.{anchors_in_turn}, specs.TreeNames.{anchor_names}}
 use Rattle.html_page_findings.specs.PlacedTexts.{placed_at}
 use Rattle.html_page_findings.proofs.walk.pass_anchors.Goals as goal
 

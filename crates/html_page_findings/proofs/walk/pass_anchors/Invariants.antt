@@ -1,7 +1,5 @@
 use Rattle.std.proofs.Common.{◌≡◌, List, drop, String, Global}
-use Rattle.html_dom_tree.proofs.Taking.{Left}
-use Rattle.html_dom_tree.specs.FrameViews.{anchors_view}
-use Rattle.html_dom_tree.specs.declared.frame.Point.{Point}
+use Rattle.html_dom_tree.{proofs.Taking.{Left}, specs.FrameViews.{anchors_view}, specs.declared.frame.Point.{Point}}
 use Rattle.html_links.specs.TreeNames.{anchor_names}
 use Rattle.html_page_findings.specs.PlacedTexts.{Placed, placed_at}
 use Rattle.html_page_findings.proofs.walk.pass_anchors.Given as goal

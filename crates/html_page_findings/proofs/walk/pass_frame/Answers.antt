@@ -1,6 +1,4 @@
-use Rattle.std.proofs.Common.{◌≡◌, ◌∙◌, append_assoc, rules}
-use Rattle.std.specs.Prelude.{option_map}
-use Rattle.std.proofs.lemmas.List.{map-append}
+use Rattle.std.{proofs.Common.{◌≡◌, ◌∙◌, append_assoc, rules}, proofs.lemmas.List.{map-append}, specs.Prelude.{option_map}}
 use Rattle.html_names_core.specs.Texts.{text_view}
 use Rattle.html_dom_tree.specs.FrameViews.{html_frame_view}
 use Rattle.html_page_findings.proofs.walk.pass_frame.Goals as goal

@@ -1,9 +1,7 @@
-use Rattle.std.proofs.Common.{[], ap, ◌∙◌}
-use Rattle.std.proofs.lemmas.List.{append-nil}
+use Rattle.std.proofs.{Common.{[], ap, ◌∙◌}, lemmas.List.{append-nil}}
 use Rattle.html_dom_tree.specs.Views.{element_view}
 use Rattle.html_links.specs.InDocument.{node_part}
-use Rattle.html_page_findings.specs.PlacedTexts.{document_placed}
-use Rattle.html_page_findings.specs.WantedTexts.{kind_of}
+use Rattle.html_page_findings.specs.{PlacedTexts.{document_placed}, WantedTexts.{kind_of}}
 use Rattle.html_page_findings.proofs.walk.report_texts.Goals as goal
 
 pub returns-in-Ok : goal.returns-in-Ok

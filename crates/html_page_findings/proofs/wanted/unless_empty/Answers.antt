@@ -1,5 +1,4 @@
-use Rattle.std.proofs.Common.{refl, string_bytes, rules}
-use Rattle.std.proofs.lemmas.Str.{IsUtf8-string_bytes}
+use Rattle.std.proofs.{Common.{refl, string_bytes, rules}, lemmas.Str.{IsUtf8-string_bytes}}
 use Rattle.html_dom_tree.specs.Views.{text_view}
 use Rattle.html_links.proofs.TakenFragments.{none_unless, some_unless}
 use Rattle.html_page_findings.proofs.wanted.unless_empty.Goals as goal

@@ -1,6 +1,5 @@
 use Rattle.std.proofs.Common.{chars, ◌∙◌}
-use Rattle.html_page_names.specs.ForeignNames.{lowered}
-use Rattle.html_page_names.proofs.Lowered.{first_encoding, second_encoding}
+use Rattle.html_page_names.{proofs.Lowered.{first_encoding, second_encoding}, specs.ForeignNames.{lowered}}
 use Rattle.html_page_names.proofs.foreign_names.is_html_encoding.Goals as goal
 
 pub returns-then-is_same_lowered : goal.returns-then-is_same_lowered

@@ -1,5 +1,4 @@
-use Rattle.html_page_names.specs.NamedReferences.{legacy_reference}
-use Rattle.html_page_names.specs.ReferenceRows.{legacy_groups}
+use Rattle.html_page_names.specs.{NamedReferences.{legacy_reference}, ReferenceRows.{legacy_groups}}
 use Rattle.html_page_names.proofs.references.legacy_reference.Goals as goal
 
 pub returns : goal.returns

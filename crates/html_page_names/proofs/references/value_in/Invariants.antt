@@ -1,6 +1,5 @@
 use Rattle.std.proofs.Common.{◌≡◌, true, drop}
-use Rattle.html_page_names.specs.ReferenceRow.{value_in}
-use Rattle.html_page_names.specs.ReferenceTables.{are_as_long, rows_view}
+use Rattle.html_page_names.specs.{ReferenceRow.{value_in}, ReferenceTables.{are_as_long, rows_view}}
 use Rattle.html_page_names.proofs.references.value_in.Given as goal
 
 abbrev pub invariant-loop-reference : goal.invariant-loop-reference

@@ -1,8 +1,7 @@
 use Rattle.std.proofs.Common.{◌≡◌, ◌<◌, ◌≤◌, ◌+◌, length, get_or, sym, ap, ◌∙◌, inl, inr, arith}
 use mathlib.Core.Logic.{⊎_elim}
-use Rattle.html_page_names.specs.ReferenceRow.{value_in}
-use Rattle.html_page_names.specs.ReferenceTables.{groups_view}
 use Rattle.html_page_names.proofs.ByLetter.{no_letter, below_letters, in_group, view_at, view_past, long_at}
+use Rattle.html_page_names.specs.{ReferenceRow.{value_in}, ReferenceTables.{groups_view}}
 use Rattle.html_page_names.proofs.references.value_in_groups.Goals as goal
 
 pub returns-in_err-first : goal.returns-in_err-first

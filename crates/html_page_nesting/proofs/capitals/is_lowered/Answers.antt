@@ -1,7 +1,6 @@
 use Rattle.std.proofs.Common.{◌+◌, ◌≡◌, ◌<◌, ◌≤◌, sym, ◌∙◌, length, arith, bytes_eq, chars, get_or, false, [], map}
 use Rattle.std.proofs.lemmas.List.{length-map}
-use Rattle.html_names_core.specs.Names.{texts}
-use Rattle.html_names_core.proofs.Starts.{within, empty, other, not_among, more}
+use Rattle.html_names_core.{proofs.Starts.{within, empty, other, not_among, more}, specs.Names.{texts}}
 use Rattle.html_page_names.specs.ForeignNames.{lowered}
 use Rattle.html_page_nesting.proofs.SmallNames.{any_lowered, all_ascii_lowered, found, not_here}
 use Rattle.html_page_nesting.proofs.capitals.is_lowered.Goals as goal

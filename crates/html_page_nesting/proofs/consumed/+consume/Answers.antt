@@ -1,8 +1,6 @@
 use Rattle.std.proofs.Common.{◌≡◌, ◌-◌, ◌∷◌, ◌++◌, [], length, reverse, take, refl, sym, ap, ◌∙◌, arith}
-use Rattle.std.proofs.lemmas.List.{length-append, length-reverse, nil_from_length, reverse-reverse, take-set}
-use Rattle.std.proofs.lemmas.Result.{on_ok_weaker}
-use Rattle.html_dom_tree.proofs.Reversed.{last_apart, next_reversed}
-use Rattle.html_dom_tree.proofs.Taking.{all_left, all_taken, more_taken, same_taken}
+use Rattle.std.proofs.lemmas.{List.{length-append, length-reverse, nil_from_length, reverse-reverse, take-set}, Result.{on_ok_weaker}}
+use Rattle.html_dom_tree.proofs.{Reversed.{last_apart, next_reversed}, Taking.{all_left, all_taken, more_taken, same_taken}}
 use Rattle.html_dom_tree.specs.Views.{element_view, nodes_view}
 use Rattle.html_page_nesting.proofs.Walks.{element_taken, none_walked, too_deep_found, walked_in_turn}
 use Rattle.html_page_nesting.proofs.consumed.+consume.Goals as goal

@@ -1,6 +1,5 @@
 use Rattle.std.proofs.Common.{◌≡◌, ◌+◌, ◌-◌, ◌*◌, length, reverse, vec_len}
-use Rattle.html_dom_tree.proofs.Taking.{Left}
-use Rattle.html_dom_tree.specs.Views.{nodes_view}
+use Rattle.html_dom_tree.{proofs.Taking.{Left}, specs.Views.{nodes_view}}
 use Rattle.html_page_nesting.specs.Walks.{nodes_walk}
 use Rattle.html_page_nesting.proofs.consumed.+consume.Given as goal
 

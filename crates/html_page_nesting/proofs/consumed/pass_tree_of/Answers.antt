@@ -1,5 +1,4 @@
-use Rattle.std.proofs.Common.{refl}
-use Rattle.std.proofs.lemmas.Result.{on_ok_weaker}
+use Rattle.std.proofs.{Common.{refl}, lemmas.Result.{on_ok_weaker}}
 use Rattle.html_dom_tree.specs.Views.{element_view, nodes_view}
 use Rattle.html_page_nesting.proofs.Walks.{tree_taken}
 use Rattle.html_page_nesting.proofs.consumed.pass_tree_of.Goals as goal

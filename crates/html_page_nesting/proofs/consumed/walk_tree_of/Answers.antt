@@ -1,6 +1,5 @@
 use Rattle.html_dom_tree.specs.Views.{element_view}
-use Rattle.html_page_nesting.specs.Misnested.{misnested_nodes}
-use Rattle.html_page_nesting.proofs.Walks.{walk_ended}
+use Rattle.html_page_nesting.{proofs.Walks.{walk_ended}, specs.Misnested.{misnested_nodes}}
 use Rattle.html_page_nesting.proofs.consumed.walk_tree_of.Goals as goal
 
 pub returns : goal.returns

@@ -1,5 +1,4 @@
-use Rattle.std.proofs.Common.{◌≡◌, drop, map}
-use Rattle.std.specs.List.{list_any}
+use Rattle.std.{proofs.Common.{◌≡◌, drop, map}, specs.List.{list_any}}
 use Rattle.html_dom_tree.specs.Views.{pair_view}
 use Rattle.html_page_names.specs.ForeignNames.{is_font_attr}
 use Rattle.html_page_nesting.proofs.rules.has_font_attr.Given as goal

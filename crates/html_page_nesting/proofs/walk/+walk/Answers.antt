@@ -1,9 +1,6 @@
-use Rattle.std.proofs.Common.{◌≡◌, ◌++◌, ◌∷◌, [], ap, ◌∙◌, refl}
-use Rattle.std.proofs.lemmas.List.{drop_all}
-use Rattle.std.proofs.lemmas.Result.{on_ok_weaker}
+use Rattle.std.proofs.{Common.{◌≡◌, ◌++◌, ◌∷◌, [], ap, ◌∙◌, refl}, lemmas.List.{drop_all}, lemmas.Result.{on_ok_weaker}}
 use Rattle.html_names_core.proofs.Basics.{from_place}
-use Rattle.html_dom_tree.proofs.Basics.{node_view-Element}
-use Rattle.html_dom_tree.proofs.Taking.{all_left, all_taken, more_taken, same_taken}
+use Rattle.html_dom_tree.proofs.{Basics.{node_view-Element}, Taking.{all_left, all_taken, more_taken, same_taken}}
 use Rattle.html_dom_tree.specs.Views.{element_view, nodes_view}
 use Rattle.html_page_nesting.proofs.Walks.{element_taken, none_walked, too_deep_found, walked_in_turn}
 use Rattle.html_page_nesting.proofs.walk.+walk.Goals as goal

@@ -1,6 +1,5 @@
 use Rattle.std.proofs.Common.{◌≡◌, drop}
-use Rattle.html_dom_tree.proofs.Taking.{Left}
-use Rattle.html_dom_tree.specs.Views.{nodes_view}
+use Rattle.html_dom_tree.{proofs.Taking.{Left}, specs.Views.{nodes_view}}
 use Rattle.html_page_nesting.specs.Walks.{nodes_walk}
 use Rattle.html_page_nesting.proofs.walk.+walk.Given as goal
 

@@ -1,5 +1,4 @@
-use Rattle.std.proofs.Common.{ap}
-use Rattle.std.proofs.lemmas.Result.{on_ok_weaker}
+use Rattle.std.proofs.{Common.{ap}, lemmas.Result.{on_ok_weaker}}
 use Rattle.html_dom_tree.specs.Views.{element_view, nodes_view}
 use Rattle.html_page_nesting.proofs.Walks.{tree_taken}
 use Rattle.html_page_nesting.proofs.walk.pass_tree.Goals as goal

@@ -1,6 +1,5 @@
 use Rattle.std.proofs.Common.{◌≡◌, drop, map}
-use Rattle.html_dom_tree.specs.Attributes.{has_name}
-use Rattle.html_dom_tree.specs.Views.{pair_view}
+use Rattle.html_dom_tree.specs.{Attributes.{has_name}, Views.{pair_view}}
 use Rattle.html_page_nesting.proofs.written.has_name.Given as goal
 
 abbrev pub invariant-loop-pair : goal.invariant-loop-pair

@@ -1,5 +1,4 @@
-use Rattle.std.proofs.Common.{◌≡◌, drop, map}
-use Rattle.std.specs.List.{list_any}
+use Rattle.std.{proofs.Common.{◌≡◌, drop, map}, specs.List.{list_any}}
 use Rattle.html_dom_tree.specs.Views.{pair_view}
 use Rattle.html_page_nesting.specs.WrittenTexts.{has_return}
 use Rattle.html_page_nesting.proofs.written.have_return.Given as goal

@@ -1,6 +1,5 @@
 use Rattle.std.proofs.Common.{◌≡◌, length, map}
-use Rattle.html_dom_tree.specs.Attributes.{names_differ}
-use Rattle.html_dom_tree.specs.Views.{pair_view}
+use Rattle.html_dom_tree.specs.{Attributes.{names_differ}, Views.{pair_view}}
 use Rattle.html_page_nesting.proofs.written.names_differ.Given as goal
 
 abbrev pub invariant-loop-first : goal.invariant-loop-first

@@ -1,10 +1,8 @@
 use Rattle.std.proofs.Common.{◌≡◌, true, false, ◌++◌, chars, sym, ap, ◌∙◌, append_assoc, append-nil, rules}
+use Rattle.std.proofs.lemmas.{List.{nil_from_length}, Str.{IsUtf8-past_char, chars-nil, chars_past_char}}
 use Rattle.std.specs.Str.Iter.{chars_rest}
-use Rattle.std.proofs.lemmas.List.{nil_from_length}
-use Rattle.std.proofs.lemmas.Str.{IsUtf8-past_char, chars-nil, chars_past_char}
 use Rattle.html_dom_tree.specs.Views.{text_view}
-use Rattle.html_page_read.specs.DocumentTypes.{spaced}
-use Rattle.html_page_read.proofs.Spaces.{char_spaced, space_spaced}
+use Rattle.html_page_read.{proofs.Spaces.{char_spaced, space_spaced}, specs.DocumentTypes.{spaced}}
 use Rattle.html_page_read.proofs.doctype.spaced.Goals as goal
 use Rattle.html_page_tree.specs.PageBodies.{is_space}
 

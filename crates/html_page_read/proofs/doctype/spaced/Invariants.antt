@@ -1,6 +1,4 @@
-use Rattle.std.proofs.Common.{◌≡◌, ◌++◌, true, chars}
-use Rattle.std.specs.Str.{IsUtf8}
-use Rattle.std.specs.Str.Iter.{chars_rest}
+use Rattle.std.{proofs.Common.{◌≡◌, ◌++◌, true, chars}, specs.Str.{IsUtf8}, specs.Str.Iter.{chars_rest}}
 use Rattle.html_dom_tree.specs.Views.{text_view}
 use Rattle.html_page_read.specs.DocumentTypes.{spaced}
 use Rattle.html_page_read.proofs.doctype.spaced.Given as goal

@@ -1,5 +1,4 @@
-use Rattle.std.proofs.Common.{not, ◌&&◌, chars, sym, ap, ◌∙◌}
-use Rattle.std.specs.List.{list_all}
+use Rattle.std.{proofs.Common.{not, ◌&&◌, chars, sym, ap, ◌∙◌}, specs.List.{list_all}}
 use Rattle.html_names_core.specs.Characters.{is_tag_char}
 use Rattle.html_page_read.proofs.Words.{empty_chars}
 use Rattle.html_page_read.proofs.draft.is_tag_name.Goals as goal

@@ -1,5 +1,4 @@
-use Rattle.std.proofs.Common.{◌≡◌, true, Some, None, chars, take, sym, ap, ◌∙◌}
-use Rattle.std.specs.Prelude.{◌∷◌, option_to_list}
+use Rattle.std.{proofs.Common.{◌≡◌, true, Some, None, chars, take, sym, ap, ◌∙◌}, specs.Prelude.{◌∷◌, option_to_list}}
 use Rattle.html_names_core.specs.Names.{is_ascii}
 use Rattle.html_page_names.specs.NamedReferences.{legacy_reference}
 use Rattle.html_page_read.proofs.References.{found_here, found_later, front_chars, rest_chars}

@@ -1,8 +1,6 @@
 use Rattle.std.proofs.Common.{◌≡◌, ◌≤◌, false, inl, inr, chars, eqb, leb, length, map, take, sym, ap, ◌∙◌, arith}
-use Rattle.std.specs.Char.{to_ascii_lowercase}
-use Rattle.std.specs.List.{starts_with}
-use Rattle.std.proofs.lemmas.Bool.{cases_Bool}
-use Rattle.std.proofs.lemmas.Bool.Decides.{nat_tests}
+use Rattle.std.proofs.lemmas.{Bool.{cases_Bool}, Bool.Decides.{nat_tests}}
+use Rattle.std.specs.{Char.{to_ascii_lowercase}, List.{starts_with}}
 use Rattle.html_text.proofs.RawEnds.{same_tests}
 use Rattle.html_page_read.proofs.Words.{begins_so, begun_so, small_front}
 use Rattle.html_page_read.proofs.markup.begins_lowered.Goals as goal

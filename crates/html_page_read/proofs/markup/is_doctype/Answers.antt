@@ -1,6 +1,5 @@
-use Rattle.std.proofs.Common.{bytes_eq, chars, codes, map, refl}
+use Rattle.std.proofs.{Common.{bytes_eq, chars, codes, map, refl}, lemmas.Slice.Eq.{bytes_eq-Decides}}
 use Rattle.std.specs.Char.{to_ascii_lowercase}
-use Rattle.std.proofs.lemmas.Slice.Eq.{bytes_eq-Decides}
 use Rattle.html_names_core.proofs.Basics.{is_ascii_is}
 use Rattle.html_text.proofs.RawEnds.{same_tests}
 use Rattle.html_page_read.proofs.Words.{lowered_down, lowered_up}

@@ -1,9 +1,6 @@
-use Rattle.std.proofs.Common.{◌≡◌, ◌+◌, ◌*◌, chars, min, sym, ap, ◌∙◌}
-use Rattle.std.specs.Char.{digit_value}
-use Rattle.std.specs.Str.Iter.{chars_rest}
-use Rattle.std.specs.Str.Parse.{digits_value_after}
-use Rattle.std.proofs.StrCases.{chars_of_empty}
-use Rattle.std.proofs.lemmas.Str.{IsUtf8-past_char, chars_past_char}
+use Rattle.std.proofs.{Common.{◌≡◌, ◌+◌, ◌*◌, chars, min, sym, ap, ◌∙◌}, StrCases.{chars_of_empty}}
+use Rattle.std.{proofs.lemmas.Str.{IsUtf8-past_char, chars_past_char}, specs.Char.{digit_value}}
+use Rattle.std.specs.Str.{Iter.{chars_rest}, Parse.{digits_value_after}}
 use native.Mathlib.Nat.{min-eq_left}
 use Rattle.html_page_read.proofs.References.{capped, at_most}
 use Rattle.html_page_read.proofs.number.number_of.Goals as goal

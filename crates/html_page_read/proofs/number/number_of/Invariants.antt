@@ -1,6 +1,5 @@
 use Rattle.std.proofs.Common.{◌≡◌, ◌≤◌, IsUtf8, chars, min}
-use Rattle.std.specs.Str.Iter.{chars_rest}
-use Rattle.std.specs.Str.Parse.{digits_value, digits_value_after}
+use Rattle.std.specs.Str.{Iter.{chars_rest}, Parse.{digits_value, digits_value_after}}
 use Rattle.html_page_read.proofs.number.number_of.Given as goal
 
 abbrev pub invariant-loop-c : goal.invariant-loop-c

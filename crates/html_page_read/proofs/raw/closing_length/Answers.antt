@@ -1,6 +1,5 @@
 use Rattle.std.proofs.Common.{◌+◌, chars, length, sym, ap, ◌∙◌}
-use Rattle.html_text.proofs.RawEnds.{closing_long}
-use Rattle.html_text.proofs.TagNames.{name_is}
+use Rattle.html_text.proofs.{RawEnds.{closing_long}, TagNames.{name_is}}
 use Rattle.html_page_read.proofs.raw.closing_length.Goals as goal
 
 pub returns : goal.returns

@@ -1,10 +1,7 @@
 use Rattle.std.proofs.Common.{◌≡◌, chars, take, sym, ap, ◌∙◌, subst}
+use Rattle.std.proofs.lemmas.{Bool.{false≢true}, Str.{IsUtf8-from_is_utf8, is_utf8-from_IsUtf8}}
 use Rattle.std.specs.Str.Lossy.{utf8_valid_len}
-use Rattle.std.proofs.lemmas.Bool.{false≢true}
-use Rattle.std.proofs.lemmas.Str.{IsUtf8-from_is_utf8, is_utf8-from_IsUtf8}
-use Rattle.html_page_read.specs.PageAnswers.{Gives}
-use Rattle.html_page_read.specs.PagePlaces.{place_at}
-use Rattle.html_page_read.specs.PageReading.{page_read}
+use Rattle.html_page_read.specs.{PageAnswers.{Gives}, PagePlaces.{place_at}, PageReading.{page_read}}
 use Rattle.html_page_read.proofs.read.read_page_bytes.Goals as goal
 
 pub returns-in-Ok : goal.returns-in-Ok

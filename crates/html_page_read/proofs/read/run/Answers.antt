@@ -1,16 +1,9 @@
-use Rattle.std.proofs.Common.{◌≡◌, ◌++◌, chars, sym, ap, ◌∙◌, subst, arith}
-use Rattle.std.specs.Str.Iter.{chars_rest}
-use Rattle.std.proofs.StrCases.{chars_of_empty}
-use Rattle.std.proofs.lemmas.Result.{err_from_is_err_and}
-use Rattle.std.proofs.lemmas.Str.{chars_past_char}
+use Rattle.std.proofs.{Common.{◌≡◌, ◌++◌, chars, sym, ap, ◌∙◌, subst, arith}, StrCases.{chars_of_empty}}
+use Rattle.std.{proofs.lemmas.Result.{err_from_is_err_and}, proofs.lemmas.Str.{chars_past_char}, specs.Str.Iter.{chars_rest}}
 use lib.Utf8.{encode}
-use Rattle.html_page_stack.specs.Endings.{IsHalt}
-use Rattle.html_page_stack.specs.Pages.{◌next◌}
-use Rattle.html_page_read.specs.PageReading.{run}
-use Rattle.html_page_read.specs.PageTokens.{step}
-use Rattle.html_page_read.specs.PageReaderViews.{reader_of}
+use Rattle.html_page_stack.specs.{Endings.{IsHalt}, Pages.{◌next◌}}
+use Rattle.html_page_read.{proofs.Halts.{halt_next}, specs.PageReaderViews.{reader_of}, specs.PageReading.{run}, specs.PageTokens.{step}}
 use Rattle.html_text.proofs.Places.{first_long}
-use Rattle.html_page_read.proofs.Halts.{halt_next}
 use Rattle.html_page_read.proofs.read.run.Goals as goal
 
 pub read_front-requires : goal.read_front-requires

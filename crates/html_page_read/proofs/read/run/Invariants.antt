@@ -1,8 +1,7 @@
 use Rattle.std.proofs.Common.{◌≡◌, ◌+◌, ◌≤◌, chars, length}
 use denote.Text.{Utf8}
 use denote.Shadow.{shadow}
-use Rattle.html_page_read.specs.PageReading.{run}
-use Rattle.html_page_read.specs.PageReaderViews.{reader_of}
+use Rattle.html_page_read.specs.{PageReaderViews.{reader_of}, PageReading.{run}}
 use Rattle.html_page_read.proofs.read.run.Given as goal
 
 abbrev pub invariant-loop-past : goal.invariant-loop-past

@@ -1,8 +1,5 @@
-use Rattle.std.proofs.Common.{◌≡◌, chars, ap, ◌∙◌, subst}
-use Rattle.std.specs.Result.{IfOk}
-use Rattle.html_page_read.specs.PageReferences.{numbered}
-use Rattle.html_page_read.specs.PageReaderViews.{resolved_of}
-use Rattle.html_page_read.proofs.References.{by_number}
+use Rattle.std.{proofs.Common.{◌≡◌, chars, ap, ◌∙◌, subst}, specs.Result.{IfOk}}
+use Rattle.html_page_read.{proofs.References.{by_number}, specs.PageReaderViews.{resolved_of}, specs.PageReferences.{numbered}}
 use Rattle.html_page_read.proofs.reference.resolve_number.Goals as goal
 
 pub returns-in-Some : goal.returns-in-Some

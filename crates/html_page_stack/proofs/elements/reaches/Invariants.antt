@@ -1,6 +1,5 @@
 use Rattle.std.proofs.Common.{◌≡◌, length}
-use Rattle.html_page_stack.specs.OpenElements.{reaches}
-use Rattle.html_page_stack.specs.PageViews.{bound_test, goal_test, list_of}
+use Rattle.html_page_stack.specs.{OpenElements.{reaches}, PageViews.{bound_test, goal_test, list_of}}
 use Rattle.html_page_stack.proofs.elements.reaches.Given as goal
 
 abbrev pub invariant-loop-element : goal.invariant-loop-element

@@ -1,7 +1,5 @@
-use Rattle.std.proofs.Common.{◌≡◌, true, false, [], ◌∷◌, ◌++◌, sym, ap, ◌∙◌}
-use Rattle.std.specs.Prelude.{if◌then◌else◌}
-use Rattle.html_page_text.specs.PlainTexts.{is_edge, before_edge}
-use Rattle.html_page_text.proofs.PlainTexts.{before_edge-push}
+use Rattle.std.{proofs.Common.{◌≡◌, true, false, [], ◌∷◌, ◌++◌, sym, ap, ◌∙◌}, specs.Prelude.{if◌then◌else◌}}
+use Rattle.html_page_text.{proofs.PlainTexts.{before_edge-push}, specs.PlainTexts.{is_edge, before_edge}}
 use Rattle.html_page_text.proofs.shown.before_edge.Goals as goal
 
 pub returns-then-is_edge : goal.returns-then-is_edge

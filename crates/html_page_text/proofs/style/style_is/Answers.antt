@@ -1,10 +1,7 @@
-use Rattle.std.proofs.Common.{◌≡◌, Some, string_bytes, bytes_eq, codes, sym, ap, ◌∙◌}
+use Rattle.std.proofs.{Common.{◌≡◌, Some, string_bytes, bytes_eq, codes, sym, ap, ◌∙◌}, lemmas.Str.{IsUtf8-string_bytes}}
 use Rattle.std.specs.Prelude.{option_map}
-use Rattle.std.proofs.lemmas.Str.{IsUtf8-string_bytes}
-use Rattle.html_names_core.specs.Tables.{known_attrs}
-use Rattle.html_names_core.proofs.Lists.{bytes_eq-ascii}
-use Rattle.html_dom_tree.specs.Attributes.{first}
-use Rattle.html_dom_tree.specs.Views.{text_view, attrs_view}
+use Rattle.html_names_core.{proofs.Lists.{bytes_eq-ascii}, specs.Tables.{known_attrs}}
+use Rattle.html_dom_tree.specs.{Attributes.{first}, Views.{text_view, attrs_view}}
 use Rattle.html_dom_shown.specs.Values.{is_text}
 use Rattle.html_page_text.proofs.style.style_is.Goals as goal
 

@@ -1,9 +1,6 @@
-use Rattle.std.proofs.Common.{◌≡◌, Some, bytes_eq, chars, sym, ap, ◌∙◌}
-use Rattle.std.specs.Prelude.{option_map}
-use Rattle.std.proofs.lemmas.Str.{chars-IsAscii}
+use Rattle.std.{proofs.Common.{◌≡◌, Some, bytes_eq, chars, sym, ap, ◌∙◌}, proofs.lemmas.Str.{chars-IsAscii}, specs.Prelude.{option_map}}
 use Rattle.html_names_core.proofs.Basics.{bytes_eq-sym, is_ascii_is}
-use Rattle.html_dom_tree.specs.Attributes.{first}
-use Rattle.html_dom_tree.specs.Views.{text_view, attrs_view}
+use Rattle.html_dom_tree.specs.{Attributes.{first}, Views.{text_view, attrs_view}}
 use Rattle.html_dom_shown.specs.Values.{is_text}
 use Rattle.html_page_names.specs.ForeignNames.{lowered}
 use Rattle.html_page_text.proofs.unseen.is_word.Goals as goal

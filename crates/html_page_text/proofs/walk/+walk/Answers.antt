@@ -1,15 +1,11 @@
 use Rattle.std.proofs.Common.{◌≡◌, ◌+◌, ◌||◌, true, false, [], drop, length-drop, ap, sym, subst, arith, ◌∙◌}
-use Rattle.std.proofs.lemmas.List.{nil_from_length}
-use Rattle.std.specs.Prelude.{OnOk}
+use Rattle.std.{proofs.lemmas.List.{nil_from_length}, specs.Prelude.{OnOk}}
 use Rattle.html_names_core.specs.Kinds.{is_line_break, is_replaced}
-use Rattle.html_dom_tree.specs.PlainTree.{nodes_normal}
-use Rattle.html_dom_tree.specs.Views.{attrs_view, element_view, node_view, nodes_view}
 use Rattle.html_dom_tree.proofs.Nodes.{nodes_view-drop}
+use Rattle.html_dom_tree.specs.{PlainTree.{nodes_normal}, Views.{attrs_view, element_view, node_view, nodes_view}}
 use Rattle.html_dom_shown.specs.Collapsing.{object, preserves, has_border, element_atoms, plains_atoms}
-use Rattle.html_page_text.specs.Gathering.{step, run, border_atoms, past_nodes}
-use Rattle.html_page_text.specs.PageViews.{seen_view}
-use Rattle.html_page_text.specs.Unseen.{seen_nodes}
 use Rattle.html_page_text.proofs.Walks.{past_node_is, past_both, past_unseen, past_seen, past_break, past_object, past_inner}
+use Rattle.html_page_text.specs.{Gathering.{step, run, border_atoms, past_nodes}, PageViews.{seen_view}, Unseen.{seen_nodes}}
 use Rattle.html_page_text.proofs.walk.+walk.Goals as goal
 use Rattle.html_page_text.proofs.walk.+walk.Goals.{add_element-then-is_replaced+in_ok-object, add_element-else-is_replaced+in_ok-add_nodes}
 

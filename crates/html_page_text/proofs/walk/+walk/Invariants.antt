@@ -1,7 +1,6 @@
 use Rattle.std.proofs.Common.{◌≡◌, drop}
 use Rattle.html_dom_tree.specs.Views.{nodes_view}
-use Rattle.html_page_text.specs.Gathering.{past_nodes}
-use Rattle.html_page_text.specs.PageViews.{seen_view}
+use Rattle.html_page_text.specs.{Gathering.{past_nodes}, PageViews.{seen_view}}
 use Rattle.html_page_text.proofs.walk.+walk.Given as goal
 
 abbrev pub invariant-add_nodes-loop-child : goal.invariant-add_nodes-loop-child

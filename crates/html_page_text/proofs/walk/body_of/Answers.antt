@@ -1,13 +1,9 @@
-use Rattle.std.proofs.Common.{◌≡◌, ◌+◌, [], Some, None, drop, length-drop, ap, sym, arith, ◌∙◌}
-use Rattle.std.proofs.lemmas.List.{nil_from_length}
+use Rattle.std.proofs.{Common.{◌≡◌, ◌+◌, [], Some, None, drop, length-drop, ap, sym, arith, ◌∙◌}, lemmas.List.{nil_from_length}}
 use Rattle.std.specs.Prelude.{option_map}
-use Rattle.html_dom_tree.specs.Attributes.{or_else}
-use Rattle.html_dom_tree.specs.Tree.{none, node}
-use Rattle.html_dom_tree.specs.Views.{element_view, node_view, nodes_view}
 use Rattle.html_dom_tree.proofs.Nodes.{nodes_view-drop}
+use Rattle.html_dom_tree.specs.{Attributes.{or_else}, Tree.{none, node}, Views.{element_view, node_view, nodes_view}}
 use Rattle.html_dom_shown.specs.Bodies.{body_children}
-use Rattle.html_page_text.specs.Unseen.{seen_nodes}
-use Rattle.html_page_text.proofs.Walks.{body_first}
+use Rattle.html_page_text.{proofs.Walks.{body_first}, specs.Unseen.{seen_nodes}}
 use Rattle.html_page_text.proofs.walk.body_of.Goals as goal
 
 pub returns-in-Some : goal.returns-in-Some

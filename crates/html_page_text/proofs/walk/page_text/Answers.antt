@@ -1,15 +1,10 @@
-use Rattle.std.proofs.Common.{◌≡◌, false, Some, None, refl, ap, sym, subst, ◌∙◌}
+use Rattle.std.proofs.{Common.{◌≡◌, false, Some, None, refl, ap, sym, subst, ◌∙◌}, lemmas.Result.{IfOk-weaker}}
 use Rattle.std.specs.Prelude.{option_map, IfOk}
-use Rattle.std.proofs.lemmas.Result.{IfOk-weaker}
 use Rattle.html_dom_tree.specs.Views.{element_view, nodes_view}
 use Rattle.html_dom_shown.specs.Bodies.{body_children}
-use Rattle.html_page_text.specs.Gathering.{nothing_seen, final, past_nodes}
-use Rattle.html_page_text.specs.PageTexts.{page_parts}
-use Rattle.html_page_text.specs.PageViews.{page_text_view, seen_view}
-use Rattle.html_page_text.specs.Parts.{stand_apart}
-use Rattle.html_page_text.specs.Unseen.{seen_element, seen_nodes}
-use Rattle.html_page_text.proofs.Apart.{parts_stand_apart}
-use Rattle.html_page_text.proofs.Walks.{body_seen, nothing_in}
+use Rattle.html_page_text.proofs.{Apart.{parts_stand_apart}, Walks.{body_seen, nothing_in}}
+use Rattle.html_page_text.specs.{Gathering.{nothing_seen, final, past_nodes}, PageTexts.{page_parts}, PageViews.{page_text_view, seen_view}}
+use Rattle.html_page_text.specs.{Parts.{stand_apart}, Unseen.{seen_element, seen_nodes}}
 use Rattle.html_page_text.proofs.walk.page_text.Goals as goal
 use Rattle.html_page_text.proofs.walk.page_text.Goals.{in-Some+in_ok-add_nodes, in_default}
 

@@ -1,5 +1,4 @@
-use Rattle.std.proofs.Common.{◌≡◌, ◌++◌, map}
-use Rattle.std.specs.Vec.Iter.{into_iter_items}
+use Rattle.std.{proofs.Common.{◌≡◌, ◌++◌, map}, specs.Vec.Iter.{into_iter_items}}
 use Rattle.html_dom_tree.specs.Views.{attrs_view, pair_view}
 use Rattle.html_page_tree.specs.PageBodies.{foreign_attrs}
 use Rattle.html_page_tree.proofs.foreign.foreign_attrs.Given as goal

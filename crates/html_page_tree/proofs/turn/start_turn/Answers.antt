@@ -1,8 +1,6 @@
 use Rattle.std.proofs.Common.{◌≡◌, true, sym, ◌∙◌, subst}
-use Rattle.html_page_stack.specs.Endings.{Turns}
-use Rattle.html_page_stack.specs.PageViews.{page_of, start_of}
-use Rattle.html_page_tree.specs.BodyStarts.{begins_in_body}
-use Rattle.html_page_tree.proofs.BodyStarts.{start_turn}
+use Rattle.html_page_stack.specs.{Endings.{Turns}, PageViews.{page_of, start_of}}
+use Rattle.html_page_tree.{proofs.BodyStarts.{start_turn}, specs.BodyStarts.{begins_in_body}}
 use Rattle.html_page_tree.proofs.turn.start_turn.Goals as goal
 
 pub returns-then-begins_in_body : goal.returns-then-begins_in_body

@@ -1,8 +1,5 @@
-use Rattle.std.proofs.Common.{◌≡◌, false, true, eqb, sym, ◌∙◌}
-use Rattle.std.specs.Char.{to_ascii_lowercase}
-use Rattle.std.proofs.lemmas.Bool.{ne_eqb, eq-eqb}
-use Rattle.std.proofs.lemmas.Str.{IsUtf8-past_char, chars_past_char}
-use Rattle.std.proofs.StrCases.{chars_of_empty}
+use Rattle.std.proofs.{Common.{◌≡◌, false, true, eqb, sym, ◌∙◌}, StrCases.{chars_of_empty}}
+use Rattle.std.{proofs.lemmas.Bool.{ne_eqb, eq-eqb}, proofs.lemmas.Str.{IsUtf8-past_char, chars_past_char}, specs.Char.{to_ascii_lowercase}}
 use Rattle.html_text.proofs.closing.begins_with_name.Goals as goal
 
 pub returns-in_default : goal.returns-in_default

@@ -1,6 +1,4 @@
-use Rattle.std.proofs.Common.{◌≡◌, ℕ, List, IsUtf8, chars, map}
-use Rattle.std.specs.Char.{to_ascii_lowercase}
-use Rattle.std.specs.Str.Iter.{chars_rest}
+use Rattle.std.{proofs.Common.{◌≡◌, ℕ, List, IsUtf8, chars, map}, specs.Char.{to_ascii_lowercase}, specs.Str.Iter.{chars_rest}}
 use Rattle.html_text.specs.ClosingTags as ending
 use Rattle.html_text.proofs.closing.begins_with_name.Given as goal
 

@@ -1,7 +1,5 @@
-use Rattle.std.proofs.Common.{◌≡◌, ◌∷◌, chars, map, sym, ap, ◌∙◌}
-use Rattle.std.specs.Char.{to_ascii_lowercase}
+use Rattle.std.{proofs.Common.{◌≡◌, ◌∷◌, chars, map, sym, ap, ◌∙◌}, proofs.lemmas.Str.{chars_past_char}, specs.Char.{to_ascii_lowercase}}
 use Rattle.std.specs.Str.Iter.{chars_rest}
-use Rattle.std.proofs.lemmas.Str.{chars_past_char}
 use Rattle.html_text.specs.ClosingTags as ending
 use Rattle.html_text.proofs.closing.closes.Goals as goal
 

@@ -1,7 +1,6 @@
 use Rattle.std.proofs.Common.{◌≡◌, refl, subst, sym}
-use Rattle.html_text.specs.Fronts.{StopsBetween, has_byte, is_name_char}
-use Rattle.html_text.specs.declared.front.TheConstants.{FRONTS}
 use Rattle.html_text.proofs.Fronts.{ascii_byte, ascii_none, ascii_stops, by_table, cuts, name_small}
+use Rattle.html_text.specs.{Fronts.{StopsBetween, has_byte, is_name_char}, declared.front.TheConstants.{FRONTS}}
 use Rattle.html_text.proofs.front.cut_name.Goals as goal
 
 by_bit : has_byte FRONTS 4 ≡ ascii_byte is_name_char

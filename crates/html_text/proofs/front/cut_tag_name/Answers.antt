@@ -1,8 +1,7 @@
 use Rattle.std.proofs.Common.{◌≡◌, refl, subst, sym}
 use Rattle.html_names_core.specs.Characters.{is_tag_char}
-use Rattle.html_text.specs.Fronts.{StopsBetween, has_byte}
+use Rattle.html_text.{proofs.Fronts.{ascii_byte, ascii_none, ascii_stops, by_table, cuts, tag_small}, specs.Fronts.{StopsBetween, has_byte}}
 use Rattle.html_text.specs.declared.front.TheConstants.{FRONTS}
-use Rattle.html_text.proofs.Fronts.{ascii_byte, ascii_none, ascii_stops, by_table, cuts, tag_small}
 use Rattle.html_text.proofs.front.cut_tag_name.Goals as goal
 
 by_bit : has_byte FRONTS 2 ≡ ascii_byte is_tag_char

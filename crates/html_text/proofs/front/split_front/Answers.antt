@@ -1,6 +1,5 @@
 use Rattle.std.proofs.Common.{◌≡◌, ◌+◌, ◌<◌, ◌≤◌, false, true, length, arith, refl, sym, ap, ◌∙◌}
-use Rattle.html_text.specs.Fronts.{has_byte}
-use Rattle.html_text.proofs.Fronts.{cut_there, four_had, one_had, split_there}
+use Rattle.html_text.{proofs.Fronts.{cut_there, four_had, one_had, split_there}, specs.Fronts.{has_byte}}
 use Rattle.html_text.proofs.front.split_front.Goals as goal
 use Rattle.html_text.proofs.front.split_front.Goals.{then-loop-at-2-test+else-has_byte, else-loop-at-2-test}
 

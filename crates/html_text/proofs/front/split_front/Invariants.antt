@@ -1,6 +1,5 @@
 use Rattle.std.proofs.Common.{◌-◌, ◌≤◌, length}
-use Rattle.html_text.specs.Fronts.{has_byte}
-use Rattle.html_text.proofs.Fronts.{Had}
+use Rattle.html_text.{proofs.Fronts.{Had}, specs.Fronts.{has_byte}}
 use Rattle.html_text.proofs.front.split_front.Given as goal
 
 abbrev pub invariant-loop-at : goal.invariant-loop-at

@@ -1,9 +1,6 @@
-use Rattle.std.proofs.Common.{◌≡◌, ◌+◌, false, true, chars, eqb, refl, sym, arith}
-use Rattle.std.specs.List.{common_prefix_len}
+use Rattle.std.proofs.{Common.{◌≡◌, ◌+◌, false, true, chars, eqb, refl, sym, arith}, StrCases.{chars_of_empty}}
+use Rattle.std.{proofs.lemmas.Bool.{ne_eqb, eq-eqb}, proofs.lemmas.Str.{IsUtf8-past_char, chars_past_char}, specs.List.{common_prefix_len}}
 use Rattle.std.specs.Str.Iter.{chars_rest}
-use Rattle.std.proofs.StrCases.{chars_of_empty}
-use Rattle.std.proofs.lemmas.Bool.{ne_eqb, eq-eqb}
-use Rattle.std.proofs.lemmas.Str.{IsUtf8-past_char, chars_past_char}
 use Rattle.html_text.proofs.Places.{first_long}
 use Rattle.html_text.proofs.place.common_length.Goals as goal
 

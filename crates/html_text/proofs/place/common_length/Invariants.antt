@@ -1,6 +1,4 @@
-use Rattle.std.proofs.Common.{◌≡◌, ◌+◌, ◌≤◌, IsUtf8, chars, eqb, length}
-use Rattle.std.specs.List.{common_prefix_len}
-use Rattle.std.specs.Str.Iter.{chars_rest}
+use Rattle.std.{proofs.Common.{◌≡◌, ◌+◌, ◌≤◌, IsUtf8, chars, eqb, length}, specs.List.{common_prefix_len}, specs.Str.Iter.{chars_rest}}
 use Rattle.html_text.proofs.place.common_length.Given as goal
 
 abbrev pub invariant-loop-expected : goal.invariant-loop-expected

@@ -1,9 +1,7 @@
-use Rattle.std.proofs.Common.{◌≡◌, ◌+◌, ◌-◌, ◌++◌, [], chars, take, sym, ap, ◌∙◌, arith}
-use Rattle.std.proofs.StrCases.{chars_of_empty}
+use Rattle.std.proofs.{Common.{◌≡◌, ◌+◌, ◌-◌, ◌++◌, [], chars, take, sym, ap, ◌∙◌, arith}, StrCases.{chars_of_empty}}
 use Rattle.std.proofs.lemmas.Str.{chars_past_char}
 use lib.Utf8.{encode}
-use Rattle.html_text.specs.Places.{beginning, place_at, place_behind}
-use Rattle.html_text.proofs.Places.{first_long, one_more, passed, none_more}
+use Rattle.html_text.{proofs.Places.{first_long, one_more, passed, none_more}, specs.Places.{beginning, place_at, place_behind}}
 use Rattle.html_text.proofs.place.place_at.Goals as goal
 
 pub loop-done-init : goal.loop-done-init

@@ -1,10 +1,7 @@
 use Rattle.std.proofs.Common.{◌≡◌, ◌-◌, ◌≤◌, false, leb, inl, inr, chars, drop, map, sym, ap, ◌∙◌, arith, length, refl}
-use Rattle.std.specs.Char.{to_ascii_lowercase}
-use Rattle.std.proofs.lemmas.Bool.{cases_Bool}
-use Rattle.std.proofs.lemmas.Bool.Decides.{nat_tests}
+use Rattle.std.{proofs.lemmas.Bool.{cases_Bool}, proofs.lemmas.Bool.Decides.{nat_tests}, specs.Char.{to_ascii_lowercase}}
 use Rattle.html_names_core.proofs.Basics.{is_ascii_is}
-use Rattle.html_text.specs.RawEnds.{ends_in}
-use Rattle.html_text.proofs.RawEnds.{end_is, same_tests, word_by_bytes, word_by_characters}
+use Rattle.html_text.{proofs.RawEnds.{end_is, same_tests, word_by_bytes, word_by_characters}, specs.RawEnds.{ends_in}}
 use Rattle.html_text.proofs.raw_end.ends_in.Goals as goal
 
 pub returns-then-word-text : goal.returns-then-word-text

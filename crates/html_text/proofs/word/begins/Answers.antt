@@ -1,5 +1,4 @@
-use Rattle.std.proofs.Common.{◌∙◌}
-use Rattle.std.proofs.lemmas.Str.Pattern.{starts_text}
+use Rattle.std.proofs.{Common.{◌∙◌}, lemmas.Str.Pattern.{starts_text}}
 use Rattle.html_names_core.proofs.Basics.{is_ascii_is}
 use Rattle.html_text.proofs.Words.{begins-chars}
 use Rattle.html_text.proofs.word.begins.Goals as goal

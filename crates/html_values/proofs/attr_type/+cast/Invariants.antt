@@ -1,9 +1,7 @@
 use Rattle.std.proofs.Common.{◌≡◌, drop}
-use Rattle.html_values.specs.Casts.{cast, first_cast, item_texts}
-use Rattle.html_names_core.specs.Texts.{texts_view}
-use Rattle.html_values.specs.Types.{inner_view, attr_types_view}
-use Rattle.html_values.specs.Values.{value_view, values_view}
 use Rattle.html_values.proofs.Joined.{after}
+use Rattle.html_values.specs.{Casts.{cast, first_cast, item_texts}, Types.{inner_view, attr_types_view}, Values.{value_view, values_view}}
+use Rattle.html_names_core.specs.Texts.{texts_view}
 use Rattle.html_values.proofs.attr_type.+cast.Given as goal
 
 abbrev pub invariant-cast_by_first-loop-kind : goal.invariant-cast_by_first-loop-kind

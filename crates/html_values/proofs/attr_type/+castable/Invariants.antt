@@ -1,7 +1,5 @@
 use Rattle.std.proofs.Common.{◌≡◌, drop}
-use Rattle.html_values.specs.Casts.{castable_by_any}
-use Rattle.html_values.specs.Types.{attr_types_view}
-use Rattle.html_values.specs.Values.{value_view}
+use Rattle.html_values.specs.{Casts.{castable_by_any}, Types.{attr_types_view}, Values.{value_view}}
 use Rattle.html_values.proofs.attr_type.+castable.Given as goal
 
 abbrev pub invariant-is_castable_by_any-loop-member : goal.invariant-is_castable_by_any-loop-member

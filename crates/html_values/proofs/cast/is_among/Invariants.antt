@@ -1,6 +1,5 @@
 use Rattle.std.proofs.Common.{◌≡◌, drop, chars}
-use Rattle.html_names_core.specs.Names.{stands_in}
-use Rattle.html_names_core.specs.Texts.{texts_view}
+use Rattle.html_names_core.specs.{Names.{stands_in}, Texts.{texts_view}}
 use Rattle.html_values.proofs.cast.is_among.Given as goal
 
 abbrev pub invariant-loop-allowed : goal.invariant-loop-allowed

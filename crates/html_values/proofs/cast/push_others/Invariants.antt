@@ -1,5 +1,4 @@
-use Rattle.std.proofs.Common.{◌≡◌, ◌++◌, drop}
-use Rattle.std.specs.List.{flat_map}
+use Rattle.std.{proofs.Common.{◌≡◌, ◌++◌, drop}, specs.List.{flat_map}}
 use Rattle.html_values.specs.Casts.{list_separator_text}
 use Rattle.html_names_core.specs.Texts.{texts_view}
 use Rattle.html_values.proofs.cast.push_others.Given as goal

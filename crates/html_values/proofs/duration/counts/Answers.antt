@@ -1,6 +1,5 @@
 use Rattle.std.proofs.Common.{◌∙◌, ◌/◌, ◌%◌, codes}
-use Rattle.html_values.specs.AttrTexts.{count_text}
-use Rattle.html_values.proofs.Spaces.{step_by_step}
+use Rattle.html_values.{proofs.Spaces.{step_by_step}, specs.AttrTexts.{count_text}}
 use Rattle.html_values.proofs.duration.counts.Goals as goal
 
 pub returns : goal.returns

@@ -1,6 +1,5 @@
 use Rattle.std.proofs.Common.{[], ap}
-use Rattle.html_values.specs.Casts.{answer_faults}
-use Rattle.html_values.proofs.IconSizes.{too_few, too_many}
+use Rattle.html_values.{proofs.IconSizes.{too_few, too_many}, specs.Casts.{answer_faults}}
 use Rattle.html_values.proofs.native_type.icon_size.Goals as goal
 
 pub returns-in_default : goal.returns-in_default

@@ -1,6 +1,5 @@
 use Rattle.std.proofs.Common.{[], sym, ap, ◌∙◌}
-use Rattle.html_values.specs.Casts.{answer_faults}
-use Rattle.html_values.proofs.OneChar.{one_is, more_are}
+use Rattle.html_values.{proofs.OneChar.{one_is, more_are}, specs.Casts.{answer_faults}}
 use Rattle.html_values.proofs.native_type.only_char.Goals as goal
 
 pub returns-in-Some-None : goal.returns-in-Some-None

@@ -1,5 +1,4 @@
-use Rattle.html_names_core.specs.Equal.{pairs_discrete}
-use Rattle.html_names_core.proofs.Equals.{same_law}
+use Rattle.html_names_core.{proofs.Equals.{same_law}, specs.Equal.{pairs_discrete}}
 use Rattle.html_values_css.proofs.laws.equal_properties.Goals as goal
 
 pub returns : goal.returns

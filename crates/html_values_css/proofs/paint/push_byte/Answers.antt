@@ -1,5 +1,4 @@
-use Rattle.std.proofs.Common.{false, rules}
-use Rattle.std.proofs.lemmas.Fmt.{hex_byte}
+use Rattle.std.proofs.{Common.{false, rules}, lemmas.Fmt.{hex_byte}}
 use Rattle.html_values_css.proofs.paint.push_byte.Goals as goal
 
 pub returns-clause-text : goal.returns-clause-text

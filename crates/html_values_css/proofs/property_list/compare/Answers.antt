@@ -1,7 +1,5 @@
-use Rattle.std.proofs.Common.{◌≡◌, rules, sym, ◌∙◌, string_bytes}
-use Rattle.std.specs.Cmp.Lexicographic.{slice_cmp}
-use Rattle.std.specs.Ordering.{nat_cmp}
-use Rattle.std.proofs.lemmas.Str.{IsUtf8-string_bytes}
+use Rattle.std.proofs.{Common.{◌≡◌, rules, sym, ◌∙◌, string_bytes}, lemmas.Str.{IsUtf8-string_bytes}}
+use Rattle.std.specs.{Cmp.Lexicographic.{slice_cmp}, Ordering.{nat_cmp}}
 use Rattle.html_values_css.proofs.Names.{by_name_bytes}
 use Rattle.html_values_css.proofs.property_list.compare.Goals as goal
 

@@ -1,9 +1,7 @@
 use Rattle.std.proofs.Common.{◌≡◌, sym, ap, chars, get_or}
 use Rattle.html_names_core.specs.Texts.{text_view}
-use Rattle.html_values_css.specs.Properties.{property_name, property_view}
+use Rattle.html_values_css.{proofs.Listing.{put_found}, proofs.Names.{by_name_total}, specs.Properties.{property_name, property_view}}
 use Rattle.html_values_css.specs.declared.property.Property.{Property}
-use Rattle.html_values_css.proofs.Listing.{put_found}
-use Rattle.html_values_css.proofs.Names.{by_name_total}
 use Rattle.html_values_css.proofs.property_list.put.Goals as goal
 
 pub returns-in-Ok-clause-ok : goal.returns-in-Ok-clause-ok

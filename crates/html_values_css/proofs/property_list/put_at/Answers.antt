@@ -1,9 +1,8 @@
 use Rattle.std.proofs.Common.{◌≡◌, ℕ, List, sym, ap, ◌∙◌, chars}
 use Rattle.html_names_core.specs.Texts.{text_view}
+use Rattle.html_values_css.proofs.{Listing.{put_gap}, Names.{by_name_total}}
 use Rattle.html_values_css.specs.Properties.{list_view, property_view, property_name, with_property}
 use Rattle.html_values_css.specs.declared.property.Property.{Property}
-use Rattle.html_values_css.proofs.Listing.{put_gap}
-use Rattle.html_values_css.proofs.Names.{by_name_total}
 use Rattle.html_values_css.proofs.property_list.put_at.Goals as goal
 
 pub returns-in-Ok-insert-clause-ok : goal.returns-in-Ok-insert-clause-ok

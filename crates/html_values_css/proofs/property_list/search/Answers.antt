@@ -1,8 +1,6 @@
-use Rattle.std.proofs.Common.{rules, chars}
-use Rattle.std.proofs.lemmas.Fn.{always_returns_same}
+use Rattle.std.proofs.{Common.{rules, chars}, lemmas.Fn.{always_returns_same}}
+use Rattle.html_values_css.proofs.{Listing.{searched}, Names.{by_name_total}}
 use Rattle.html_values_css.specs.Properties.{by_name, property_name, property_view}
-use Rattle.html_values_css.proofs.Listing.{searched}
-use Rattle.html_values_css.proofs.Names.{by_name_total}
 use Rattle.html_values_css.proofs.property_list.search.Goals as goal
 
 pub returns : goal.returns

@@ -1,7 +1,6 @@
 use Rattle.std.proofs.Common.{sym, ap, ◌∙◌, chars}
+use Rattle.html_values_css.proofs.{Listing.{drop_found, drop_gap}, Names.{by_name_total}}
 use Rattle.html_values_css.specs.Properties.{list_view, property_view}
-use Rattle.html_values_css.proofs.Listing.{drop_found, drop_gap}
-use Rattle.html_values_css.proofs.Names.{by_name_total}
 use Rattle.html_values_css.proofs.property_list.take_out.Goals as goal
 
 pub returns-in-Ok : goal.returns-in-Ok

@@ -1,6 +1,5 @@
 use Rattle.std.proofs.Common.{◌≡◌, ◌+◌, ◌∷◌, drop, get_or, Ok, inr, sym, subst, add-one, drop-cons}
-use Rattle.html_values_css.specs.Sink.{TakesWarning, Given, Interrupted}
-use Rattle.html_values_css.specs.declared.sink.Warning.TheVariants.{Gradient}
+use Rattle.html_values_css.specs.{Sink.{TakesWarning, Given, Interrupted}, declared.sink.Warning.TheVariants.{Gradient}}
 use Rattle.html_values_css.proofs.sink.pass_on.Goals as goal
 
 pub loop-warning-preserved : goal.loop-warning-preserved

@@ -1,5 +1,4 @@
-use Rattle.std.proofs.Common.{◌≡◌, not, eqb, get_or, refl, sym, ap, ◌∙◌, bit_and}
-use Rattle.std.proofs.lemmas.Bool.{agree_below_at}
+use Rattle.std.proofs.{Common.{◌≡◌, not, eqb, get_or, refl, sym, ap, ◌∙◌, bit_and}, lemmas.Bool.{agree_below_at}}
 use Rattle.typst_html_encode.specs.PlainStretches.{is_plain}
 use Rattle.typst_html_encode.specs.declared.escape.Escaping.TheVariants as escaping
 use Rattle.typst_html_encode.specs.declared.escape.TheConstants.{PLAIN}

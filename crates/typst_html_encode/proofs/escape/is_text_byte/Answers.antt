@@ -1,5 +1,4 @@
-use Rattle.std.proofs.Common.{not, eqb, get_or, refl, bit_and}
-use Rattle.std.proofs.lemmas.Bool.{agree_below_at}
+use Rattle.std.proofs.{Common.{not, eqb, get_or, refl, bit_and}, lemmas.Bool.{agree_below_at}}
 use Rattle.html_names_core.specs.Characters.{is_text_char}
 use Rattle.typst_html_encode.specs.declared.escape.TheConstants.{PLAIN}
 use Rattle.typst_html_encode.proofs.escape.is_text_byte.Goals as goal

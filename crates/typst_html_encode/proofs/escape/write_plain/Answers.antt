@@ -1,9 +1,6 @@
 use Rattle.std.proofs.Common.{◌≡◌, ◌++◌, length, chars, refl, sym, ap, subst, ◌∙◌, append_assoc, arith}
-use Rattle.std.specs.Str.{IsCharBoundary}
-use Rattle.std.proofs.lemmas.List.{length-append}
-use Rattle.std.proofs.lemmas.Str.{IsCharBoundary-at_seam, chars-append}
-use Rattle.typst_html_encode.specs.ExportFaults.{text_faults}
-use Rattle.typst_html_encode.proofs.Stretches.{escaped_plain, faults_plain}
+use Rattle.std.{proofs.lemmas.List.{length-append}, proofs.lemmas.Str.{IsCharBoundary-at_seam, chars-append}, specs.Str.{IsCharBoundary}}
+use Rattle.typst_html_encode.{proofs.Stretches.{escaped_plain, faults_plain}, specs.ExportFaults.{text_faults}}
 use Rattle.typst_html_encode.proofs.escape.write_plain.Goals as goal
 use native.Mathlib.Numerals.{unary_clauses}
 use Rattle.html_names_core.proofs.Basics.{front_length, front_taken}

@@ -1,8 +1,5 @@
-use Rattle.std.proofs.Common.{◌≡◌, ◌++◌, chars, ap, sym, ◌∙◌, append_assoc}
-use Rattle.std.proofs.lemmas.List.{append-nil}
-use Rattle.std.proofs.lemmas.Str.{chars_past_char}
-use Rattle.std.proofs.lemmas.Result.{err_from_is_err_and}
-use Rattle.std.proofs.StrCases.{chars_of_empty}
+use Rattle.std.proofs.{Common.{◌≡◌, ◌++◌, chars, ap, sym, ◌∙◌, append_assoc}, StrCases.{chars_of_empty}}
+use Rattle.std.proofs.lemmas.{List.{append-nil}, Result.{err_from_is_err_and}, Str.{chars_past_char}}
 use Rattle.typst_html_encode.proofs.Firsts.{first_of_more}
 use Rattle.typst_html_encode.proofs.escape.write_rest.Goals as goal
 use lib.Utf8.{encode}

@@ -1,8 +1,7 @@
 use Rattle.std.proofs.Common.{◌≡◌, ◌++◌, chars, length}
 use denote.Text.{Utf8}
 use denote.Shadow.{shadow}
-use Rattle.typst_html_encode.specs.Text.{escaped_text}
-use Rattle.typst_html_encode.specs.ExportFaults.{text_faults}
+use Rattle.typst_html_encode.specs.{ExportFaults.{text_faults}, Text.{escaped_text}}
 use Rattle.typst_html_encode.proofs.escape.write_rest.Given as goal
 
 abbrev pub invariant-loop-c : goal.invariant-loop-c

@@ -1,7 +1,5 @@
-use Rattle.std.proofs.Common.{◌≡◌, [], chars, sym, ◌∙◌}
-use Rattle.std.proofs.lemmas.List.{append-nil}
-use Rattle.typst_html_encode.proofs.Escapes.{value-empty}
-use Rattle.typst_html_encode.proofs.Stretches.{lone_text, lone_faults}
+use Rattle.std.proofs.{Common.{◌≡◌, [], chars, sym, ◌∙◌}, lemmas.List.{append-nil}}
+use Rattle.typst_html_encode.proofs.{Escapes.{value-empty}, Stretches.{lone_text, lone_faults}}
 use Rattle.typst_html_encode.proofs.escape.write_text.Goals as goal
 
 pub returns-then-is_empty : goal.returns-then-is_empty

@@ -1,12 +1,8 @@
-use Rattle.std.proofs.Common.{◌≡◌, ◌++◌, codes, ap, ◌∙◌, Ok, Err}
-use Rattle.std.proofs.lemmas.Result.{err_from_is_err_and}
+use Rattle.std.proofs.{Common.{◌≡◌, ◌++◌, codes, ap, ◌∙◌, Ok, Err}, lemmas.Result.{err_from_is_err_and}}
 use Rattle.html_dom_tree.specs.Views.{text_view}
 use Rattle.html_dom_flat.specs.FlatTrees.{tree_nodes}
-use Rattle.typst_html_encode.specs.Layout.{indent_where, feed_where}
-use Rattle.typst_html_encode.specs.Text.{root_margin, element_text, document_text}
-use Rattle.typst_html_encode.proofs.ReadingBack.{either_reads_back}
-use Rattle.typst_html_encode.proofs.Runs.{four_joined}
-use Rattle.typst_html_encode.proofs.Walk.{root_writes, root_named}
+use Rattle.typst_html_encode.proofs.{ReadingBack.{either_reads_back}, Runs.{four_joined}, Walk.{root_writes, root_named}}
+use Rattle.typst_html_encode.specs.{Layout.{indent_where, feed_where}, Text.{root_margin, element_text, document_text}}
 use Rattle.typst_html_encode.proofs.export.tree_html.Goals as goal
 
 pub returns : goal.returns

@@ -1,5 +1,4 @@
-use Rattle.std.proofs.Common.{◌∙◌, ◌==◌, sym}
-use Rattle.std.proofs.lemmas.Bool.Decides.{Decides-eqb}
+use Rattle.std.proofs.{Common.{◌∙◌, ◌==◌, sym}, lemmas.Bool.Decides.{Decides-eqb}}
 use Rattle.html_values_css.proofs.Equals.{lists_decide}
 use Rattle.typst_html_encode.proofs.fault.same_spans.Goals as goal
 

@@ -1,10 +1,8 @@
 use Rattle.std.proofs.Common.{◌++◌, ap, ◌∙◌, subst, Ok}
 use Rattle.html_dom_tree.specs.Views.{nodes_view}
 use Rattle.html_dom_flat.specs.FlatTrees.{tree_nodes}
-use Rattle.typst_html_encode.specs.Fragments.{fragment_text, text_in_div}
-use Rattle.typst_html_encode.specs.Reader.{read}
-use Rattle.typst_html_encode.specs.ReadingBack.{NodesAreNamed}
 use Rattle.typst_html_encode.proofs.Fragments.{fragment_writes, reads_in_div}
+use Rattle.typst_html_encode.specs.{Fragments.{fragment_text, text_in_div}, Reader.{read}, ReadingBack.{NodesAreNamed}}
 use Rattle.typst_html_encode.proofs.fragment.html_fragment.Goals as goal
 
 pub returns-clause-makes : goal.returns-clause-makes

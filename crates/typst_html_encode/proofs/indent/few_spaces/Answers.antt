@@ -1,7 +1,5 @@
-use Rattle.std.proofs.Common.{◌+◌, ◌*◌, ◌∙◌, arith}
-use Rattle.std.proofs.lemmas.Str.{IsCharBoundary-from_ascii}
-use Rattle.typst_html_encode.specs.declared.indent.TheConstants.{LINE}
-use Rattle.typst_html_encode.proofs.Indents.{line_ascii, line_length, few_levels}
+use Rattle.std.proofs.{Common.{◌+◌, ◌*◌, ◌∙◌, arith}, lemmas.Str.{IsCharBoundary-from_ascii}}
+use Rattle.typst_html_encode.{proofs.Indents.{line_ascii, line_length, few_levels}, specs.declared.indent.TheConstants.{LINE}}
 use Rattle.typst_html_encode.proofs.indent.few_spaces.Goals as goal
 
 pub range-requires-clause-end_boundary : goal.range-requires-clause-end_boundary

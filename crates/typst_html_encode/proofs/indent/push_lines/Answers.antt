@@ -1,12 +1,8 @@
 use Rattle.std.proofs.Common.{◌≡◌, ◌++◌, ◌∷◌, [], ◌||◌, List, ℕ, ap, sym, ◌∙◌, append_assoc, chars, map}
-use Rattle.std.specs.Str.Lines.{lines}
-use Rattle.std.proofs.lemmas.List.{map-append}
-use Rattle.std.proofs.lemmas.Simd.{map-map}
-use Rattle.std.proofs.lemmas.Iterator.Splits.{YieldsList-from_lines}
-use Rattle.std.proofs.lemmas.Iterator.Consumers.{YieldsList-end}
+use Rattle.std.proofs.lemmas.Iterator.{Consumers.{YieldsList-end}, Splits.{YieldsList-from_lines}}
+use Rattle.std.{proofs.lemmas.List.{map-append}, proofs.lemmas.Simd.{map-map}, specs.Str.Lines.{lines}}
+use Rattle.typst_html_encode.proofs.{Layouts.{begun, by_lines_more, begun_more}, Lines.{chars_of_lines}}
 use Rattle.typst_html_encode.specs.Layout.{indent, indent_where, by_lines}
-use Rattle.typst_html_encode.proofs.Layouts.{begun, by_lines_more, begun_more}
-use Rattle.typst_html_encode.proofs.Lines.{chars_of_lines}
 use Rattle.typst_html_encode.proofs.indent.push_lines.Goals as goal
 
 pub loop-line-preserved : goal.loop-line-preserved

@@ -1,6 +1,5 @@
 use Rattle.std.proofs.Common.{◌≡◌, ◌++◌, ◌||◌, chars, map}
-use Rattle.typst_html_encode.specs.Layout.{indent, by_lines}
-use Rattle.typst_html_encode.proofs.Layouts.{begun}
+use Rattle.typst_html_encode.{proofs.Layouts.{begun}, specs.Layout.{indent, by_lines}}
 use Rattle.typst_html_encode.proofs.indent.push_lines.Given as goal
 
 abbrev pub invariant-loop-line : goal.invariant-loop-line

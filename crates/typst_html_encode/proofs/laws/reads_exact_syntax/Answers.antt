@@ -1,7 +1,5 @@
-use Rattle.std.proofs.Common.{refl}
-use Rattle.std.specs.Fmt.{digits}
-use Rattle.html_names_core.specs.Kinds.{is_void, is_foreign_self_closing, is_raw, is_escapable_raw}
-use Rattle.html_names_core.specs.Names.{stands_in}
+use Rattle.std.{proofs.Common.{refl}, specs.Fmt.{digits}}
+use Rattle.html_names_core.specs.{Kinds.{is_void, is_foreign_self_closing, is_raw, is_escapable_raw}, Names.{stands_in}}
 use Rattle.html_text.specs.ClosingTags.{is_tag_end}
 use Rattle.typst_html_encode.specs.Reader.{drops_feed}
 use Rattle.typst_html_encode.proofs.laws.reads_exact_syntax.Goals as goal

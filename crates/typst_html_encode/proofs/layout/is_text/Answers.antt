@@ -1,5 +1,4 @@
-use Rattle.std.proofs.Common.{ap, sym, ◌∙◌, bytes_eq, string_bytes}
-use Rattle.std.proofs.lemmas.Str.{IsUtf8-string_bytes}
+use Rattle.std.proofs.{Common.{ap, sym, ◌∙◌, bytes_eq, string_bytes}, lemmas.Str.{IsUtf8-string_bytes}}
 use Rattle.html_names_core.proofs.Lists.{bytes_eq-ascii}
 use Rattle.typst_html_encode.proofs.layout.is_text.Goals as goal
 

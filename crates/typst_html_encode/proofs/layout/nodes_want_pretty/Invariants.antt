@@ -1,6 +1,5 @@
 use Rattle.std.proofs.Common.{◌≡◌}
-use Rattle.html_dom_flat.specs.Flat.{nodes_count}
-use Rattle.html_dom_flat.specs.Siblings.{siblings_view}
+use Rattle.html_dom_flat.specs.{Flat.{nodes_count}, Siblings.{siblings_view}}
 use Rattle.typst_html_encode.specs.Layout.{nodes_want_pretty}
 use Rattle.typst_html_encode.proofs.layout.nodes_want_pretty.Given as goal
 

@@ -1,5 +1,4 @@
-use Rattle.html_dom_flat.specs.Flat.{nodes_count}
-use Rattle.html_dom_flat.specs.Siblings.{siblings_view}
+use Rattle.html_dom_flat.specs.{Flat.{nodes_count}, Siblings.{siblings_view}}
 use Rattle.typst_html_encode.proofs.RawChildren.{RawLeft}
 use Rattle.typst_html_encode.proofs.raw.write_children.Given as goal
 

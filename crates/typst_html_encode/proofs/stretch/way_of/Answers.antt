@@ -1,6 +1,6 @@
 use Rattle.std.proofs.Common.{sym, subst}
-use Rattle.typst_html_encode.specs.PlainStretches.{Selects}
 use Rattle.typst_html_encode.proofs.PassedBytes.{selects_text, selects_reference, selects_value, selects_raw}
+use Rattle.typst_html_encode.specs.PlainStretches.{Selects}
 use Rattle.typst_html_encode.proofs.stretch.way_of.Goals as goal
 
 pub returns-in-Text : goal.returns-in-Text

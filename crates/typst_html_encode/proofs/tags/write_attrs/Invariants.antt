@@ -1,8 +1,6 @@
 use Rattle.std.proofs.Common.{◌≡◌, ◌++◌, map, drop}
 use Rattle.html_dom_flat.specs.FlatViews.{flat_pair}
-use Rattle.typst_html_encode.specs.Text.{attrs_text}
-use Rattle.typst_html_encode.specs.ExportFaults.{attrs_faults}
-use Rattle.typst_html_encode.specs.ReadingBack.{PairsAreNamed}
+use Rattle.typst_html_encode.specs.{ExportFaults.{attrs_faults}, ReadingBack.{PairsAreNamed}, Text.{attrs_text}}
 use Rattle.typst_html_encode.proofs.tags.write_attrs.Given as goal
 
 abbrev pub invariant-loop-number : goal.invariant-loop-number

@@ -1,10 +1,8 @@
-use Rattle.std.proofs.Common.{◌≡◌, [], ◌++◌, sym, ap, ◌∙◌}
-use Rattle.std.proofs.lemmas.List.{append-nil}
+use Rattle.std.proofs.{Common.{◌≡◌, [], ◌++◌, sym, ap, ◌∙◌}, lemmas.List.{append-nil}}
 use Rattle.html_dom_tree.specs.Views.{text_view}
 use Rattle.typst_html_encode.specs.ExportFaults.{text_faults}
 use Rattle.typst_html_encode.specs.declared.escape.Escaping.TheVariants as escaping
-use Rattle.typst_html_encode.specs.Text.{value_text}
-use Rattle.typst_html_encode.proofs.Escapes.{value-empty}
+use Rattle.typst_html_encode.{proofs.Escapes.{value-empty}, specs.Text.{value_text}}
 use Rattle.typst_html_encode.proofs.tags.write_value.Goals as goal
 
 pub returns-then-is_empty : goal.returns-then-is_empty

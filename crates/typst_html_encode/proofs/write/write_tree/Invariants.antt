@@ -1,10 +1,7 @@
 use Rattle.std.proofs.Common.{◌≡◌}
-use Rattle.html_dom_flat.specs.FlatTrees.{tree_nodes}
-use Rattle.html_dom_flat.specs.Siblings.{siblings_view}
-use Rattle.typst_html_encode.specs.OpenElements.{open_elements_view}
-use Rattle.typst_html_encode.specs.WriterWalk.{next_place}
-use Rattle.typst_html_encode.proofs.Turns.{IsAt}
-use Rattle.typst_html_encode.proofs.Walk.{rest_size}
+use Rattle.html_dom_flat.specs.{FlatTrees.{tree_nodes}, Siblings.{siblings_view}}
+use Rattle.typst_html_encode.proofs.{Turns.{IsAt}, Walk.{rest_size}}
+use Rattle.typst_html_encode.specs.{OpenElements.{open_elements_view}, WriterWalk.{next_place}}
 use Rattle.typst_html_encode.proofs.write.write_tree.Given as goal
 
 abbrev pub invariant-loop-node : goal.invariant-loop-node

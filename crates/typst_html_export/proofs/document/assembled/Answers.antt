@@ -2,10 +2,9 @@ use Rattle.std.proofs.Common.{◌≡◌, ◌∙◌, sym, ap, map}
 use Rattle.html_dom_tree.specs.Views.{node_view, nodes_view}
 use Rattle.html_dom_document.specs.Views.{info_view}
 use Rattle.html_flow_convert.specs.Views.{items_view}
+use Rattle.typst_html_export.proofs.{Assembling.{no_notes_clean}, Outlines.{own_stands}}
 use Rattle.typst_html_export.specs.Assembled.{own_html, own_body, document_outline, document_nodes, outline_faults, output_by}
 use Rattle.typst_html_export.specs.Outlines.{outline_view}
-use Rattle.typst_html_export.proofs.Assembling.{no_notes_clean}
-use Rattle.typst_html_export.proofs.Outlines.{own_stands}
 use Rattle.typst_html_export.proofs.document.assembled.Goals as goal
 
 pub new-requires : goal.new-requires

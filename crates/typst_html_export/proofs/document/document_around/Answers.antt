@@ -1,11 +1,9 @@
 use Rattle.std.proofs.Common.{◌≡◌, ◌∙◌, ap, map}
 use Rattle.html_dom_tree.specs.Views.{node_view, nodes_view}
-use Rattle.html_dom_document.specs.Documents.{new_document}
-use Rattle.html_dom_document.specs.Views.{info_view, output_view}
+use Rattle.html_dom_document.specs.{Documents.{new_document}, Views.{info_view, output_view}}
 use Rattle.html_flow_convert.specs.Views.{items_view}
-use Rattle.typst_html_export.specs.Assembled.{document_nodes, output_around}
-use Rattle.typst_html_export.specs.Roots.{styled_root}
 use Rattle.typst_html_export.proofs.Assembling.{assembled_styled}
+use Rattle.typst_html_export.specs.{Assembled.{document_nodes, output_around}, Roots.{styled_root}}
 use Rattle.typst_html_export.proofs.document.document_around.Goals as goal
 
 pub returns-clause-made : goal.returns-clause-made

@@ -2,9 +2,7 @@ use Rattle.std.proofs.Common.{◌∙◌, [], ap, Ok}
 use Rattle.html_dom_tree.specs.Views.{nodes_view}
 use Rattle.html_dom_document.specs.Views.{info_view}
 use Rattle.html_flow_convert.specs.Views.{items_view}
-use Rattle.typst_html_export.specs.Assembled.{document_around}
-use Rattle.typst_html_export.specs.Linked.{document_with_anchors}
-use Rattle.typst_html_export.proofs.FaultsInOrder.{around_both}
+use Rattle.typst_html_export.{proofs.FaultsInOrder.{around_both}, specs.Assembled.{document_around}, specs.Linked.{document_with_anchors}}
 use Rattle.typst_html_export.proofs.document.document_of_items.Goals as goal
 
 pub returns : goal.returns

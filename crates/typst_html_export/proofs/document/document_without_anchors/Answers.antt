@@ -2,8 +2,7 @@ use Rattle.std.proofs.Common.{map}
 use Rattle.html_dom_tree.specs.Views.{node_view, nodes_view}
 use Rattle.html_dom_document.specs.Views.{info_view}
 use Rattle.html_flow_convert.specs.Views.{items_view}
-use Rattle.typst_html_export.specs.Assembled.{document_around}
-use Rattle.typst_html_export.proofs.FaultsInOrder.{around_both}
+use Rattle.typst_html_export.{proofs.FaultsInOrder.{around_both}, specs.Assembled.{document_around}}
 use Rattle.typst_html_export.proofs.document.document_without_anchors.Goals as goal
 
 pub returns-clause-made : goal.returns-clause-made

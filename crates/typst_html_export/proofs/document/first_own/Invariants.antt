@@ -1,5 +1,4 @@
-use Rattle.std.proofs.Common.{◌≡◌, drop}
-use Rattle.std.specs.Prelude.{option_map}
+use Rattle.std.{proofs.Common.{◌≡◌, drop}, specs.Prelude.{option_map}}
 use Rattle.html_dom_tree.specs.Views.{nodes_view}
 use Rattle.typst_html_export.specs.Assembled.{first_own, own_after}
 use Rattle.typst_html_export.proofs.document.first_own.Given as goal

@@ -1,13 +1,9 @@
 use Rattle.std.proofs.Common.{◌++◌, ◌∙◌, ap, subst, sym}
 use Rattle.html_dom_tree.specs.Views.{nodes_view}
-use Rattle.html_flow_convert.specs.Depth.{items_too_deep}
-use Rattle.html_flow_convert.specs.Items.{no_items}
-use Rattle.html_flow_convert.specs.Views.{items_view}
-use Rattle.typst_html_export.specs.Assembled.{depth_faults, document_nodes, document_outline, outline_faults}
-use Rattle.typst_html_export.specs.Assembles.{GivesDocument}
+use Rattle.html_flow_convert.specs.{Depth.{items_too_deep}, Items.{no_items}, Views.{items_view}}
+use Rattle.typst_html_export.proofs.{Assembling.{alone_faults}, FaultsInOrder.{around_items}}
+use Rattle.typst_html_export.specs.{Assembled.{depth_faults, document_nodes, document_outline, outline_faults}, Assembles.{GivesDocument}}
 use Rattle.typst_html_export.specs.OwnRoots.{have_own_root, is_root}
-use Rattle.typst_html_export.proofs.Assembling.{alone_faults}
-use Rattle.typst_html_export.proofs.FaultsInOrder.{around_items}
 use Rattle.typst_html_export.proofs.document.has_own_root.Goals as goal
 
 pub returns : goal.returns

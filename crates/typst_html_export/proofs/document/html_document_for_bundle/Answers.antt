@@ -1,13 +1,9 @@
 use Rattle.std.proofs.Common.{◌≡◌, Result, Ok, Err, IfOk}
-use Rattle.html_dom_document.specs.Documents.{InfoView}
-use Rattle.html_dom_document.specs.Views.{document_view, info_view}
-use Rattle.html_dom_document.specs.declared.document.HtmlDocument.{HtmlDocument}
-use Rattle.html_flow_convert.specs.Items.{ItemsView}
-use Rattle.html_flow_convert.specs.Views.{items_view}
+use Rattle.html_dom_document.specs.{Documents.{InfoView}, Views.{document_view, info_view}, declared.document.HtmlDocument.{HtmlDocument}}
+use Rattle.html_flow_convert.specs.{Items.{ItemsView}, Views.{items_view}}
 use Rattle.typst_html_encode.specs.declared.fault.ExportFault.{ExportFault}
-use Rattle.typst_html_export.specs.Assembled.{assembled_document}
-use Rattle.typst_html_export.specs.SpacesInDocuments.{SpacesAreLeft}
 use Rattle.typst_html_export.proofs.SpacesInDocuments.{spaces_are_left_without_anchors}
+use Rattle.typst_html_export.specs.{Assembled.{assembled_document}, SpacesInDocuments.{SpacesAreLeft}}
 use Rattle.typst_html_export.proofs.document.html_document_for_bundle.Goals as goal
 
 pub returns-clause-made : goal.returns-clause-made

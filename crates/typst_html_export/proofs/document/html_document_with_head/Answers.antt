@@ -1,19 +1,13 @@
-use Rattle.std.proofs.Common.{◌∙◌, ap, map, sym, subst}
-use Rattle.std.proofs.lemmas.Result.{err_from_is_err_and}
+use Rattle.std.proofs.{Common.{◌∙◌, ap, map, sym, subst}, lemmas.Result.{err_from_is_err_and}}
 use Rattle.html_dom_tree.specs.Views.{node_view}
-use Rattle.html_dom_document.specs.Documents.{document_root}
-use Rattle.html_dom_document.specs.Views.{document_view, info_view}
-use Rattle.html_anchors.specs.DistinctIds.{IdsAreDistinct}
-use Rattle.html_anchors.specs.GivenLinks.{KnownAnchorsAreShown}
-use Rattle.html_anchors.specs.Serving.{KnownAnchorsServe}
+use Rattle.html_dom_document.specs.{Documents.{document_root}, Views.{document_view, info_view}}
+use Rattle.html_anchors.specs.{DistinctIds.{IdsAreDistinct}, GivenLinks.{KnownAnchorsAreShown}, Serving.{KnownAnchorsServe}}
 use Rattle.html_flow_convert.specs.Views.{items_view}
-use Rattle.typst_html_export.specs.Assembled.{items_document_faults}
-use Rattle.typst_html_export.specs.Linked.{AnchorsAreFirstIds, document_with_anchors}
-use Rattle.typst_html_export.specs.LinkedRoots.{HaveSameAtoms}
 use Rattle.typst_html_export.proofs.Anchors.{anchors_are_first_ids, anchors_are_not_seen, known_anchors_are_shown, known_anchors_serve}
-use Rattle.typst_html_export.proofs.Firsts.{memory_alone}
-use Rattle.typst_html_export.proofs.PlainRoots.{plain_documents_are_made}
+use Rattle.typst_html_export.proofs.{Firsts.{memory_alone}, PlainRoots.{plain_documents_are_made}}
 use Rattle.typst_html_export.proofs.SpacesInDocuments.{spaces_are_left_with_head, spaces_are_shown}
+use Rattle.typst_html_export.specs.{Assembled.{items_document_faults}, Linked.{AnchorsAreFirstIds, document_with_anchors}}
+use Rattle.typst_html_export.specs.LinkedRoots.{HaveSameAtoms}
 use Rattle.typst_html_export.proofs.document.html_document_with_head.Goals as goal
 
 pub returns-clause-anchors : goal.returns-clause-anchors

@@ -1,7 +1,5 @@
-use Rattle.std.proofs.Common.{ap}
-use Rattle.std.proofs.lemmas.Result.{err_from_is_err_and}
-use Rattle.typst_html_export.specs.Assembled.{depth_faults}
-use Rattle.typst_html_export.proofs.Firsts.{depth_first}
+use Rattle.std.proofs.{Common.{ap}, lemmas.Result.{err_from_is_err_and}}
+use Rattle.typst_html_export.{proofs.Firsts.{depth_first}, specs.Assembled.{depth_faults}}
 use Rattle.typst_html_export.proofs.document.moved.Goals as goal
 
 pub returns : goal.returns

@@ -1,7 +1,5 @@
 use Rattle.std.proofs.Common.{◌≡◌, ℕ, false, ap, sym, ◌∙◌, refl}
-use Rattle.html_dom_document.specs.Documents.{DocumentView}
-use Rattle.html_dom_document.specs.Views.{document_view}
-use Rattle.html_dom_document.specs.Introspectors.{IntrospectorView, location_text}
+use Rattle.html_dom_document.specs.{Documents.{DocumentView}, Introspectors.{IntrospectorView, location_text}, Views.{document_view}}
 use Rattle.typst_html_export.proofs.Untargeted.{nothing_in, no_text_in, without_targets}
 use Rattle.typst_html_export.proofs.document.with_anchors.Goals as goal
 

@@ -1,5 +1,4 @@
-use Rattle.typst_html_export.proofs.CleanRoots.{no_head_is_clean}
-use Rattle.typst_html_export.proofs.HeadNodes.{no_head_is_readable}
+use Rattle.typst_html_export.proofs.{CleanRoots.{no_head_is_clean}, HeadNodes.{no_head_is_readable}}
 use Rattle.typst_html_export.proofs.encode.export.Goals as goal
 
 pub returns-clause-makes : goal.returns-clause-makes

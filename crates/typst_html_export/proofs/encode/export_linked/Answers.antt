@@ -1,25 +1,16 @@
 use Rattle.std.proofs.Common.{ap, ◌∙◌}
-use Rattle.html_dom_document.specs.Documents.{DocumentView, document_root}
-use Rattle.html_dom_document.specs.Views.{document_view, info_view}
-use Rattle.html_anchors.specs.DistinctIds.{GivenLinksLeadToOne, IdsAreDistinct}
-use Rattle.html_anchors.specs.FoundAnchors.{LiveLinksLead}
-use Rattle.html_anchors.specs.GivenLinks.{AnchorsAreTexts, GivenLinksLead}
+use Rattle.html_dom_document.specs.{Documents.{DocumentView, document_root}, Views.{document_view, info_view}}
+use Rattle.html_anchors.proofs.{ChangedRoots.{root_has_links}, GivenLinks.{texts_in}}
+use Rattle.html_anchors.specs.{DistinctIds.{GivenLinksLeadToOne, IdsAreDistinct}, FoundAnchors.{LiveLinksLead}}
+use Rattle.html_anchors.specs.{GivenLinks.{AnchorsAreTexts, GivenLinksLead}, Links.{document_hrefs, document_with_links}}
 use Rattle.html_names_core.specs.Names.{stands_in}
 use Rattle.html_links.specs.Indicated.{element_places}
-use Rattle.html_anchors.specs.Links.{document_hrefs, document_with_links}
-use Rattle.html_anchors.proofs.ChangedRoots.{root_has_links}
-use Rattle.html_anchors.proofs.GivenLinks.{texts_in}
 use Rattle.html_flow_convert.specs.Views.{items_view}
-use Rattle.typst_html_export.specs.Assembled.{items_document_faults}
-use Rattle.typst_html_export.specs.Exported.{resolved_root, root_faults}
-use Rattle.typst_html_export.specs.Linked.{linked_document}
-use Rattle.typst_html_export.proofs.CleanRoots.{clean_linked_exports}
-use Rattle.typst_html_export.proofs.FaultsInOrder.{exported}
-use Rattle.typst_html_export.proofs.Firsts.{first_past_none, fails_by_memory_alone}
-use Rattle.typst_html_export.proofs.PlainRoots.{plain_documents_are_made}
-use Rattle.typst_html_export.proofs.ReadLinks.{holds_as, lead_when_read}
-use Rattle.typst_html_export.proofs.SpacesInDocuments.{spaces_are_left_with_links}
+use Rattle.typst_html_export.proofs.{CleanRoots.{clean_linked_exports}, FaultsInOrder.{exported}}
+use Rattle.typst_html_export.proofs.{Firsts.{first_past_none, fails_by_memory_alone}, PlainRoots.{plain_documents_are_made}}
+use Rattle.typst_html_export.proofs.{ReadLinks.{holds_as, lead_when_read}, SpacesInDocuments.{spaces_are_left_with_links}}
 use Rattle.typst_html_export.proofs.SpacesInTexts.{spaces_are_seen}
+use Rattle.typst_html_export.specs.{Assembled.{items_document_faults}, Exported.{resolved_root, root_faults}, Linked.{linked_document}}
 use Rattle.typst_html_export.proofs.encode.export_linked.Goals as goal
 
 pub returns-clause-makes : goal.returns-clause-makes

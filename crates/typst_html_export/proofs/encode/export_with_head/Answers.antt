@@ -1,28 +1,18 @@
 use Rattle.std.proofs.Common.{◌≡◌, true, false, [], Some, refl, ap, subst, map, Result, Ok, Err, IfOk, OnOk, String, Global}
 use Rattle.std.proofs.lemmas.Result.{err_from_is_err_and}
-use Rattle.html_dom_document.specs.Documents.{document_root}
-use Rattle.html_dom_document.specs.Views.{document_view, info_view}
-use Rattle.html_dom_tree.specs.FrameFree.{ElementIsFrameFree}
-use Rattle.html_dom_tree.specs.PlainTree.{element_normal}
-use Rattle.html_dom_tree.specs.Tree.{ElementView}
+use Rattle.html_dom_document.specs.{Documents.{document_root}, Views.{document_view, info_view}}
+use Rattle.html_dom_tree.specs.{FrameFree.{ElementIsFrameFree}, PlainTree.{element_normal}, Tree.{ElementView}}
 use Rattle.html_dom_tree.specs.Views.{node_view, text_view}
 use Rattle.html_flow_convert.specs.Views.{items_view}
 use Rattle.typst_html_encode.specs.ExportFaults as writing
-use Rattle.typst_html_encode.specs.FrameWriters.{Frames}
-use Rattle.typst_html_encode.specs.Indented.{element_layout, ElementEndsWell}
-use Rattle.typst_html_encode.specs.Reader.{read}
-use Rattle.typst_html_encode.specs.declared.fault.ExportFault.{ExportFault}
-use Rattle.typst_html_encode.specs.declared.options.HtmlOptions.{HtmlOptions}
-use Rattle.typst_html_export.specs.Assembled.{items_document_faults}
-use Rattle.typst_html_export.specs.Exported.{linked_root_with_head, root_faults}
-use Rattle.typst_html_export.specs.Linked.{linked_document_with_head}
-use Rattle.typst_html_export.proofs.CleanRoots.{clean_exports_with_head}
-use Rattle.typst_html_export.proofs.FaultsInOrder.{exported}
-use Rattle.typst_html_export.proofs.Firsts.{memory_first, first_past_none, fails_by_memory_alone}
-use Rattle.typst_html_export.proofs.HeadNodes.{root_can_be_read}
-use Rattle.typst_html_export.proofs.PlainRoots.{plain_documents_are_made}
-use Rattle.typst_html_export.proofs.SpacesInDocuments.{spaces_are_shown}
+use Rattle.typst_html_encode.specs.{FrameWriters.{Frames}, Indented.{element_layout, ElementEndsWell}, Reader.{read}}
+use Rattle.typst_html_encode.specs.declared.{fault.ExportFault.{ExportFault}, options.HtmlOptions.{HtmlOptions}}
+use Rattle.typst_html_export.proofs.{CleanRoots.{clean_exports_with_head}, FaultsInOrder.{exported}}
+use Rattle.typst_html_export.proofs.{Firsts.{memory_first, first_past_none, fails_by_memory_alone}, HeadNodes.{root_can_be_read}}
+use Rattle.typst_html_export.proofs.{PlainRoots.{plain_documents_are_made}, SpacesInDocuments.{spaces_are_shown}}
 use Rattle.typst_html_export.proofs.SpacesInTexts.{spaces_are_seen_if}
+use Rattle.typst_html_export.specs.{Assembled.{items_document_faults}, Exported.{linked_root_with_head, root_faults}}
+use Rattle.typst_html_export.specs.Linked.{linked_document_with_head}
 use Rattle.typst_html_export.proofs.encode.export_with_head.Goals as goal
 
 pub returns-clause-makes : goal.returns-clause-makes

@@ -1,5 +1,4 @@
-use Rattle.std.proofs.Common.{◌≡◌, ◌++◌, codes, drop}
-use Rattle.std.specs.List.{flat_map}
+use Rattle.std.{proofs.Common.{◌≡◌, ◌++◌, codes, drop}, specs.List.{flat_map}}
 use Rattle.html_names_core.specs.Texts.{texts_view}
 use Rattle.typst_html_export.proofs.head.push_others.Given as goal
 

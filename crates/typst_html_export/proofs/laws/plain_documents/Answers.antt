@@ -1,5 +1,4 @@
-use Rattle.typst_html_export.proofs.CleanRoots.{clean_documents_are_written}
-use Rattle.typst_html_export.proofs.PlainRoots.{plain_documents_are_made}
+use Rattle.typst_html_export.proofs.{CleanRoots.{clean_documents_are_written}, PlainRoots.{plain_documents_are_made}}
 use Rattle.typst_html_export.proofs.SpacesInDocuments.{plain_documents_are_seen}
 use Rattle.typst_html_export.proofs.laws.plain_documents.Goals as goal
 

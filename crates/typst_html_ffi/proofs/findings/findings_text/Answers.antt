@@ -1,15 +1,11 @@
-use Rattle.std.proofs.Common.{◌≡◌, ◌++◌, ◌∷◌, [], false, true, codes, string_bytes, ap, ◌∙◌}
-use Rattle.std.proofs.lemmas.Result.{IfOk-weaker}
+use Rattle.std.proofs.{Common.{◌≡◌, ◌++◌, ◌∷◌, [], false, true, codes, string_bytes, ap, ◌∙◌}, lemmas.Result.{IfOk-weaker}}
 use Rattle.serde_json.specs.Data.{member, no_members}
-use Rattle.html_page_findings.specs.Fragments.{dead_fragments}
-use Rattle.html_page_findings.specs.RepeatedIds.{repeated_ids}
+use Rattle.html_page_findings.specs.{Fragments.{dead_fragments}, RepeatedIds.{repeated_ids}}
 use Rattle.html_page_nesting.specs.Misnested.{misnested_nodes}
 use Rattle.html_dom_tree.specs.Views.{element_view}
 use Rattle.html_page_read.specs.PlaceViews.{text_of}
-use Rattle.typst_html_ffi.specs.FindingLists.{element_place, findings}
-use Rattle.typst_html_ffi.specs.MisnestedNodes.{misnested_data}
-use Rattle.typst_html_ffi.proofs.Pages.{no_member_yet, one_more_member}
-use Rattle.typst_html_ffi.proofs.TextPieces.{appended}
+use Rattle.typst_html_ffi.proofs.{Pages.{no_member_yet, one_more_member}, TextPieces.{appended}}
+use Rattle.typst_html_ffi.specs.{FindingLists.{element_place, findings}, MisnestedNodes.{misnested_data}}
 use Rattle.typst_html_ffi.proofs.findings.findings_text.Goals as goal
 
 pub returns : goal.returns

@@ -1,11 +1,8 @@
 use Rattle.std.proofs.Common.{◌≡◌, ◌++◌, ◌∷◌, [], false, true, codes, string_bytes, ap, ◌∙◌}
 use Rattle.serde_json.specs.Data.{member, no_members}
-use Rattle.html_page_findings.specs.PlacedTexts.{document_placed}
-use Rattle.html_page_findings.specs.WantedTexts.{hrefs, linked_ids, linked_names}
+use Rattle.html_page_findings.specs.{PlacedTexts.{document_placed}, WantedTexts.{hrefs, linked_ids, linked_names}}
 use Rattle.html_dom_tree.specs.Views.{element_view}
-use Rattle.typst_html_ffi.specs.FindingLists.{findings}
-use Rattle.typst_html_ffi.specs.PageSteps.{place_in}
-use Rattle.typst_html_ffi.proofs.Pages.{no_member_yet, one_more_member}
+use Rattle.typst_html_ffi.{proofs.Pages.{no_member_yet, one_more_member}, specs.FindingLists.{findings}, specs.PageSteps.{place_in}}
 use Rattle.typst_html_ffi.proofs.links.links_text.Goals as goal
 
 pub returns : goal.returns

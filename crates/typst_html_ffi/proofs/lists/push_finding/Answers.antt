@@ -1,7 +1,6 @@
 use Rattle.std.proofs.Common.{false, ◌∙◌}
 use Rattle.serde_json.specs.Data.{string, member}
-use Rattle.typst_html_ffi.specs.FindingLists.{where_behind}
-use Rattle.typst_html_ffi.proofs.Pages.{no_member_yet, one_more_member}
+use Rattle.typst_html_ffi.{proofs.Pages.{no_member_yet, one_more_member}, specs.FindingLists.{where_behind}}
 use Rattle.typst_html_ffi.proofs.lists.push_finding.Goals as goal
 
 pub returns : goal.returns

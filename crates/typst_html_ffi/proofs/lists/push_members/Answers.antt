@@ -1,7 +1,6 @@
 use Rattle.std.proofs.Common.{refl, true, codes, ◌∙◌}
 use Rattle.serde_json.specs.Data.{number, unsigned, member, no_members}
-use Rattle.typst_html_ffi.specs.FindingLists.{path_data, place_members}
-use Rattle.typst_html_ffi.proofs.Pages.{one_more_member}
+use Rattle.typst_html_ffi.{proofs.Pages.{one_more_member}, specs.FindingLists.{path_data, place_members}}
 use Rattle.typst_html_ffi.proofs.lists.push_members.Goals as goal
 
 pub returns : goal.returns

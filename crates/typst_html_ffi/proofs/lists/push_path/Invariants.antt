@@ -1,7 +1,5 @@
 use Rattle.std.proofs.Common.{◌≡◌, ◌++◌, string_bytes, map, drop}
-use Rattle.serde_json.specs.Data.{number, unsigned}
-use Rattle.serde_json.specs.View.{items_of}
-use Rattle.serde_json.specs.Written.{compact_text, items_text}
+use Rattle.serde_json.specs.{Data.{number, unsigned}, View.{items_of}, Written.{compact_text, items_text}}
 use Rattle.typst_html_ffi.specs.FindingLists.{path_data}
 use Rattle.typst_html_ffi.proofs.lists.push_path.Given as goal
 

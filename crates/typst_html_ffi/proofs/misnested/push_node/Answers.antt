@@ -1,10 +1,8 @@
 use Rattle.std.proofs.Common.{◌++◌, false, true, codes, string_bytes, ap, ◌∙◌}
-use Rattle.serde_json.specs.Data.{string, member}
-use Rattle.serde_json.specs.Written.{compact_text}
+use Rattle.serde_json.specs.{Data.{string, member}, Written.{compact_text}}
 use Rattle.html_page_nesting.specs.MisnestingWords.{rule_words}
-use Rattle.typst_html_ffi.specs.FindingLists.{where_behind}
-use Rattle.typst_html_ffi.specs.MisnestedNodes.{rule_name}
 use Rattle.typst_html_ffi.proofs.Pages.{no_member_yet, one_more_member}
+use Rattle.typst_html_ffi.specs.{FindingLists.{where_behind}, MisnestedNodes.{rule_name}}
 use Rattle.typst_html_ffi.proofs.misnested.push_node.Goals as goal
 
 pub returns : goal.returns

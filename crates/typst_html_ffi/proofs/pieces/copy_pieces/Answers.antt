@@ -1,8 +1,7 @@
 use Rattle.std.proofs.Common.{◌+◌, ◌++◌, [], drop, length, string_bytes, refl, sym, ap, ◌∙◌, arith, append_assoc}
 use Rattle.std.proofs.lemmas.List.{append-nil, drop_all, length-append}
 use Rattle.html_names_core.proofs.Basics.{from_place}
-use Rattle.typst_html_ffi.specs.LongTexts.{pieces_bytes}
-use Rattle.typst_html_ffi.proofs.TextPieces.{piece_copied, piece_fits}
+use Rattle.typst_html_ffi.{proofs.TextPieces.{piece_copied, piece_fits}, specs.LongTexts.{pieces_bytes}}
 use Rattle.typst_html_ffi.proofs.pieces.copy_pieces.Goals as goal
 
 pub loop-piece-init : goal.loop-piece-init

@@ -1,7 +1,5 @@
 use Rattle.std.proofs.Common.{refl, ap}
-use Rattle.typst_html_ffi.specs.LongTexts.{pieces_bytes}
-use Rattle.typst_html_ffi.specs.declared.reply.Reply.{Reply}
-use Rattle.typst_html_ffi.proofs.TextPieces.{put_not, put_whole}
+use Rattle.typst_html_ffi.{proofs.TextPieces.{put_not, put_whole}, specs.LongTexts.{pieces_bytes}, specs.declared.reply.Reply.{Reply}}
 use Rattle.typst_html_ffi.proofs.reply.put_pieces.Goals as goal
 
 pub returns-in-Some-clause-answered : goal.returns-in-Some-clause-answered

@@ -1,7 +1,6 @@
 use Rattle.std.proofs.Common.{refl, string_bytes, subst}
 use Rattle.typst_html_run.specs.Replies.{GivesAnswer}
-use Rattle.typst_html_ffi.proofs.Faults.{fault_said}
-use Rattle.typst_html_ffi.specs.CallReplies.{made}
+use Rattle.typst_html_ffi.{proofs.Faults.{fault_said}, specs.CallReplies.{made}}
 use Rattle.typst_html_ffi.proofs.reply.reply_with.Goals as goal
 
 pub returns-in-Ok-clause-answered : goal.returns-in-Ok-clause-answered

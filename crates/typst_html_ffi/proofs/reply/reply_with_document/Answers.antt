@@ -1,10 +1,7 @@
 use Rattle.std.proofs.Common.{◌≡◌, IfOk, refl, string_bytes, sym, ap, ◌∙◌, subst}
 use Rattle.html_anchors.specs.DeadLinks.{dead_links_view}
-use Rattle.typst_html_run.specs.DocumentAnswers.{text_given}
-use Rattle.typst_html_run.specs.Replies.{GivesAnswer}
-use Rattle.typst_html_ffi.proofs.DeadLinks.{fault_stays}
-use Rattle.typst_html_ffi.proofs.Faults.{fault_said}
-use Rattle.typst_html_ffi.specs.CallReplies.{made, with_dead_links}
+use Rattle.typst_html_run.specs.{DocumentAnswers.{text_given}, Replies.{GivesAnswer}}
+use Rattle.typst_html_ffi.{proofs.DeadLinks.{fault_stays}, proofs.Faults.{fault_said}, specs.CallReplies.{made, with_dead_links}}
 use Rattle.typst_html_ffi.proofs.reply.reply_with_document.Goals as goal
 
 pub returns-in-Ok-clause-answered : goal.returns-in-Ok-clause-answered

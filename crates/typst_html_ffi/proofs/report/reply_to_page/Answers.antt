@@ -1,6 +1,5 @@
 use Rattle.std.proofs.Common.{sym, ◌∙◌, subst}
-use Rattle.typst_html_ffi.specs.PageSteps.{asked_data}
-use Rattle.typst_html_ffi.specs.PageReports.{Reports, report_within}
+use Rattle.typst_html_ffi.specs.{PageReports.{Reports, report_within}, PageSteps.{asked_data}}
 use Rattle.typst_html_ffi.proofs.report.reply_to_page.Goals as goal
 
 pub returns-in-Some-clause-answered : goal.returns-in-Some-clause-answered

@@ -1,6 +1,5 @@
 use Rattle.std.proofs.Common.{refl, subst}
-use Rattle.typst_html_ffi.specs.PageSteps.{GivesReport}
-use Rattle.typst_html_ffi.proofs.Pages.{fault_replied}
+use Rattle.typst_html_ffi.{proofs.Pages.{fault_replied}, specs.PageSteps.{GivesReport}}
 use Rattle.typst_html_ffi.proofs.report.reply_with_report.Goals as goal
 
 pub returns-in-Ok-clause-answered : goal.returns-in-Ok-clause-answered

@@ -1,10 +1,8 @@
-use Rattle.std.proofs.Common.{Ok, chars, sym, ap, ◌∙◌, subst}
-use Rattle.std.proofs.lemmas.Str.{IsUtf8-from_is_utf8}
+use Rattle.std.proofs.{Common.{Ok, chars, sym, ap, ◌∙◌, subst}, lemmas.Str.{IsUtf8-from_is_utf8}}
 use Rattle.serde_json.specs.Written.{compact_text}
 use Rattle.html_dom_tree.specs.Views.{element_view}
 use Rattle.html_page_read.specs.PageAnswers.{GivesBytes}
-use Rattle.typst_html_ffi.specs.PageSteps.{asked_data}
-use Rattle.typst_html_ffi.proofs.Pages.{fault_reported, given_unless, read_is_text, read_reported}
+use Rattle.typst_html_ffi.{proofs.Pages.{fault_reported, given_unless, read_is_text, read_reported}, specs.PageSteps.{asked_data}}
 use Rattle.typst_html_ffi.proofs.report.report_of.Goals as goal
 
 pub unwrap-requires : goal.unwrap-requires

@@ -1,8 +1,7 @@
 use Rattle.std.proofs.Common.{sym}
 use Rattle.html_dom_tree.specs.Views.{nodes_view}
 use Rattle.html_flow_convert.specs.Views.{items_view}
-use Rattle.typst_html_json.specs.Spelling.{document_parts_view}
-use Rattle.typst_html_json.proofs.RefusedBodies.{refused_bodies}
+use Rattle.typst_html_json.{proofs.RefusedBodies.{refused_bodies}, specs.Spelling.{document_parts_view}}
 use Rattle.typst_html_json.proofs.documents.document_by.Goals as goal
 
 pub returns-in-Some : goal.returns-in-Some

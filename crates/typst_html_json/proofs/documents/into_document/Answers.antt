@@ -1,7 +1,6 @@
 use Rattle.std.proofs.lemmas.Result.{err_from_is_err_and}
 use Rattle.serde_json.specs.View.{view}
-use Rattle.typst_html_json.proofs.RefusedBodies.{missing_refused}
-use Rattle.typst_html_json.specs.SpelledDocuments.{spelling_from, parts_at, names_refusals}
+use Rattle.typst_html_json.{proofs.RefusedBodies.{missing_refused}, specs.SpelledDocuments.{spelling_from, parts_at, names_refusals}}
 use Rattle.typst_html_json.proofs.documents.into_document.Goals as goal
 
 pub returns-in_err-parts : goal.returns-in_err-parts

@@ -1,5 +1,4 @@
-use Rattle.std.proofs.Common.{◌≡◌, length}
-use Rattle.std.specs.Vec.Iter.{into_iter_items, into_iter_len}
+use Rattle.std.{proofs.Common.{◌≡◌, length}, specs.Vec.Iter.{into_iter_items, into_iter_len}}
 use Rattle.serde_json.specs.View.{view, items_view}
 use Rattle.html_names_core.specs.Texts.{texts_view}
 use Rattle.typst_html_json.specs.SpelledDocuments.{texts_at, with_texts}

@@ -1,20 +1,14 @@
 use Rattle.std.proofs.Common.{◌≡◌, false, get_or, chars, length, map, refl, sym, ap, ◌∙◌, subst, rules, arith}
-use Rattle.std.proofs.lemmas.List.{nil_from_length}
-use Rattle.std.proofs.lemmas.Result.{err_from_is_err_and}
+use Rattle.std.proofs.lemmas.{List.{nil_from_length}, Result.{err_from_is_err_and}}
 use Rattle.std.specs.Vec.Iter.{into_iter_items, into_iter_len}
-use Rattle.serde_json.proofs.Views.{view-Array}
-use Rattle.serde_json.specs.View.{view, items_view}
+use Rattle.serde_json.{proofs.Views.{view-Array}, specs.View.{view, items_view}}
 use Rattle.html_dom_tree.specs.Views.{attrs_view}
 use Rattle.html_flow_convert.specs.Items.{block_item, box_item, inheriting, present}
 use Rattle.html_flow_convert.specs.Views as flow
 use Rattle.typst_html_json.proofs.ItemForms.{element_form-four, element_form-five, body_form-two, role_form-three, item_view-Element, elem_view-made, item_view-Block, item_view-Box, pair_view-made, pair_view-role}
-use Rattle.typst_html_json.proofs.KindForms.{part_form-kind}
-use Rattle.typst_html_json.proofs.ItemRows.{items_row, joined-items, own_first, block_same, box_same}
-use Rattle.typst_html_json.proofs.Readings.{reads_from, read_mapped, read_element}
-use Rattle.typst_html_json.proofs.Rows.{none_read, one_read, all_read, wrong_one}
-use Rattle.typst_html_json.specs.Fields.{pairs_at}
-use Rattle.typst_html_json.specs.Marks.{Mark}
-use Rattle.typst_html_json.specs.NameRefusals.{item_refusals, items_refusals}
+use Rattle.typst_html_json.proofs.{ItemRows.{items_row, joined-items, own_first, block_same, box_same}, KindForms.{part_form-kind}}
+use Rattle.typst_html_json.proofs.{Readings.{reads_from, read_mapped, read_element}, Rows.{none_read, one_read, all_read, wrong_one}}
+use Rattle.typst_html_json.specs.{Fields.{pairs_at}, Marks.{Mark}, NameRefusals.{item_refusals, items_refusals}}
 use Rattle.typst_html_json.specs.Reading.{ReadsPart, mark, part_refusals}
 use Rattle.typst_html_json.specs.SpelledItems.{element_made, is_role, part_form, list_at, spelled_list}
 use Rattle.typst_html_json.proofs.items.+spell.Goals as goal

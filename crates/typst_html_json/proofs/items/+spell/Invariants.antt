@@ -1,12 +1,7 @@
-use Rattle.std.proofs.Common.{◌≡◌, ◌+◌, ◌*◌, length}
-use Rattle.std.specs.Vec.Iter.{into_iter_items, into_iter_len}
-use Rattle.serde_json.proofs.value.Value.TheLaws.{the_size}
-use Rattle.serde_json.specs.View.{view}
+use Rattle.std.{proofs.Common.{◌≡◌, ◌+◌, ◌*◌, length}, specs.Vec.Iter.{into_iter_items, into_iter_len}}
+use Rattle.serde_json.{proofs.value.Value.TheLaws.{the_size}, specs.View.{view}}
 use Rattle.html_flow_convert.specs.Views.{pair_view}
-use Rattle.typst_html_json.proofs.ItemRows.{items_row}
-use Rattle.typst_html_json.proofs.Rows.{IsPartRead}
-use Rattle.typst_html_json.specs.Reading.{mark}
-use Rattle.typst_html_json.specs.SpelledItems.{list_at}
+use Rattle.typst_html_json.{proofs.ItemRows.{items_row}, proofs.Rows.{IsPartRead}, specs.Reading.{mark}, specs.SpelledItems.{list_at}}
 use Rattle.typst_html_json.proofs.items.+spell.Given as goal
 
 -- the depth of what is read; a call that passes all of it on, or its deepest part, ranks above the

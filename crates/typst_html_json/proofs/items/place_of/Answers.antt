@@ -1,8 +1,6 @@
-use Rattle.std.proofs.Common.{chars, None, Some}
-use Rattle.std.proofs.lemmas.Result.{err_from_is_err_and}
+use Rattle.std.proofs.{Common.{chars, None, Some}, lemmas.Result.{err_from_is_err_and}}
 use Rattle.html_dom_tree.specs.Tree.{starts}
-use Rattle.typst_html_json.proofs.ItemForms.{item_view-Tag}
-use Rattle.typst_html_json.proofs.Tags.{named_item_read, named_item_wrong}
+use Rattle.typst_html_json.proofs.{ItemForms.{item_view-Tag}, Tags.{named_item_read, named_item_wrong}}
 use Rattle.typst_html_json.proofs.items.place_of.Goals as goal
 
 pub returns-in_err-location : goal.returns-in_err-location

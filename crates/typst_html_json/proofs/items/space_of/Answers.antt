@@ -1,9 +1,7 @@
 use Rattle.std.proofs.Common.{refl}
 use Rattle.html_flow_convert.specs.Views.{item_view}
 use Rattle.html_flow_convert.specs.declared.item.Item as Item
-use Rattle.typst_html_json.proofs.ItemForms.{item_view-Space}
-use Rattle.typst_html_json.proofs.Readings.{read_clean}
-use Rattle.typst_html_json.specs.NameRefusals.{item_refusals}
+use Rattle.typst_html_json.{proofs.ItemForms.{item_view-Space}, proofs.Readings.{read_clean}, specs.NameRefusals.{item_refusals}}
 use Rattle.typst_html_json.proofs.items.space_of.Goals as goal
 
 pub returns-in-Some : goal.returns-in-Some

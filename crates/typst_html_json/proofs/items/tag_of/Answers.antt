@@ -1,10 +1,7 @@
-use Rattle.std.proofs.Common.{option_map}
-use Rattle.std.proofs.lemmas.Result.{err_from_is_err_and}
+use Rattle.std.proofs.{Common.{option_map}, lemmas.Result.{err_from_is_err_and}}
 use Rattle.html_dom_tree.specs.FrameViews.{tag_view}
 use Rattle.html_flow_convert.specs.Items.{tag_item}
-use Rattle.typst_html_json.proofs.ItemForms.{item_view-Tag}
-use Rattle.typst_html_json.proofs.Tags.{item_tag_read, tag_wrong}
-use Rattle.typst_html_json.specs.Reading.{mark}
+use Rattle.typst_html_json.{proofs.ItemForms.{item_view-Tag}, proofs.Tags.{item_tag_read, tag_wrong}, specs.Reading.{mark}}
 use Rattle.typst_html_json.proofs.items.tag_of.Goals as goal
 
 pub returns-in_err-numbered : goal.returns-in_err-numbered

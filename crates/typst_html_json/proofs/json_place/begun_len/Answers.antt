@@ -1,5 +1,4 @@
-use Rattle.std.proofs.Common.{◌≡◌, drop, ap, arith}
-use Rattle.std.proofs.lemmas.List.{drop_all}
+use Rattle.std.proofs.{Common.{◌≡◌, drop, ap, arith}, lemmas.List.{drop_all}}
 use Rattle.typst_html_json.specs.JsonPlaces.{begun}
 use Rattle.typst_html_json.proofs.json_place.begun_len.Goals as goal
 

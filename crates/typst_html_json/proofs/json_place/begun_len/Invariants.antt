@@ -1,6 +1,5 @@
 use Rattle.std.proofs.Common.{◌≡◌, ◌+◌, [], drop}
-use Rattle.typst_html_json.specs.JsonPlaces.{begun}
-use Rattle.typst_html_json.specs.declared.json_stage.Stage.TheVariants.{Value}
+use Rattle.typst_html_json.specs.{JsonPlaces.{begun}, declared.json_stage.Stage.TheVariants.{Value}}
 use Rattle.typst_html_json.proofs.json_place.begun_len.Given as goal
 
 abbrev pub invariant-loop-index : goal.invariant-loop-index

@@ -1,5 +1,4 @@
-use Rattle.std.proofs.Common.{IsUtf8, sym, rules}
-use Rattle.std.proofs.lemmas.Str.{utf8_valid_len-IsUtf8}
+use Rattle.std.proofs.{Common.{IsUtf8, sym, rules}, lemmas.Str.{utf8_valid_len-IsUtf8}}
 use Rattle.typst_html_json.proofs.json_place.valid_len.Goals as goal
 
 pub returns-in-Ok-clause-count : goal.returns-in-Ok-clause-count

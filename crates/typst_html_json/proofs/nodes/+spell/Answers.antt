@@ -1,22 +1,14 @@
 use Rattle.std.proofs.Common.{◌≡◌, chars, length, refl, sym, ap, ◌∙◌, subst, rules, arith}
-use Rattle.std.proofs.lemmas.List.{nil_from_length}
-use Rattle.std.proofs.lemmas.Result.{err_from_is_err_and}
+use Rattle.std.proofs.lemmas.{List.{nil_from_length}, Result.{err_from_is_err_and}}
 use Rattle.std.specs.Vec.Iter.{into_iter_items, into_iter_len}
-use Rattle.serde_json.proofs.Views.{view-Array}
-use Rattle.serde_json.specs.View.{view, items_view}
+use Rattle.serde_json.{proofs.Views.{view-Array}, specs.View.{view, items_view}}
 use Rattle.html_dom_flat.specs.Flat.{node_count}
-use Rattle.html_dom_tree.specs.Tree.{element_node, plain_head}
-use Rattle.html_dom_tree.specs.Views.{attrs_view}
-use Rattle.typst_html_json.proofs.Forms.{element_form-four}
-use Rattle.typst_html_json.proofs.KindForms.{form-kind}
+use Rattle.html_dom_tree.specs.{Tree.{element_node, plain_head}, Views.{attrs_view}}
+use Rattle.typst_html_json.proofs.{Forms.{element_form-four}, KindForms.{form-kind}}
 use Rattle.typst_html_json.proofs.NodeRows.{nodes_row, own_first, added_from, element_added, itself, none_added, one_added, all_added}
-use Rattle.typst_html_json.proofs.Readings.{read_element}
-use Rattle.typst_html_json.proofs.Rows.{wrong_one}
-use Rattle.typst_html_json.specs.Fields.{pairs_at}
-use Rattle.typst_html_json.specs.Marks.{Mark}
-use Rattle.typst_html_json.specs.NameRefusals.{name_refusals, all_name_refusals}
-use Rattle.typst_html_json.specs.Reading.{AddsNode, mark}
-use Rattle.typst_html_json.specs.Spelled.{element_made, form, list_at, spelled_all}
+use Rattle.typst_html_json.proofs.{Readings.{read_element}, Rows.{wrong_one}}
+use Rattle.typst_html_json.specs.{Fields.{pairs_at}, Marks.{Mark}, NameRefusals.{name_refusals, all_name_refusals}}
+use Rattle.typst_html_json.specs.{Reading.{AddsNode, mark}, Spelled.{element_made, form, list_at, spelled_all}}
 use Rattle.typst_html_json.proofs.nodes.+spell.Goals as goal
 
 pub push_node-returns : goal.push_node-returns

@@ -1,11 +1,8 @@
-use Rattle.std.proofs.Common.{◌≡◌, ◌+◌, ◌*◌, length}
-use Rattle.std.specs.Vec.Iter.{into_iter_items, into_iter_len}
+use Rattle.std.{proofs.Common.{◌≡◌, ◌+◌, ◌*◌, length}, specs.Vec.Iter.{into_iter_items, into_iter_len}}
 use Rattle.serde_json.proofs.value.Value.TheLaws.{the_size}
 use Rattle.serde_json.specs.declared.value.Value as Value
 use Rattle.serde_json.specs.View.{view}
-use Rattle.typst_html_json.proofs.NodeRows.{ArePartAdded}
-use Rattle.typst_html_json.specs.Reading.{mark}
-use Rattle.typst_html_json.specs.Spelled.{list_at}
+use Rattle.typst_html_json.{proofs.NodeRows.{ArePartAdded}, specs.Reading.{mark}, specs.Spelled.{list_at}}
 use Rattle.typst_html_json.proofs.nodes.+spell.Given as goal
 
 -- the depth of what is read; a call that passes all of it on, or its deepest part, ranks above the

@@ -1,8 +1,6 @@
 use Rattle.std.proofs.Common.{◌≡◌, refl, ◌∙◌}
 use Rattle.html_dom_tree.specs.Views.{nodes_view}
-use Rattle.html_dom_flat.proofs.Flats.{list_spelled, list_spells}
-use Rattle.html_dom_flat.specs.Builders.{builder_view}
-use Rattle.html_dom_flat.specs.Flat.{nodes_flat}
+use Rattle.html_dom_flat.{proofs.Flats.{list_spelled, list_spells}, specs.Builders.{builder_view}, specs.Flat.{nodes_flat}}
 use Rattle.typst_html_json.proofs.nodes.list_of.Goals as goal
 
 pub into_tree-requires : goal.into_tree-requires

@@ -1,10 +1,7 @@
-use Rattle.std.proofs.Common.{option_map}
-use Rattle.std.proofs.lemmas.Result.{err_from_is_err_and}
-use Rattle.html_dom_tree.specs.FrameViews.{tag_view}
-use Rattle.html_dom_tree.specs.Tree.{tag_node}
+use Rattle.std.proofs.{Common.{option_map}, lemmas.Result.{err_from_is_err_and}}
+use Rattle.html_dom_tree.specs.{FrameViews.{tag_view}, Tree.{tag_node}}
 use Rattle.html_dom_flat.specs.Flat.{node_count, node_flat}
-use Rattle.typst_html_json.proofs.Tags.{node_tag_read, tag_wrong}
-use Rattle.typst_html_json.specs.Reading.{mark}
+use Rattle.typst_html_json.{proofs.Tags.{node_tag_read, tag_wrong}, specs.Reading.{mark}}
 use Rattle.typst_html_json.proofs.nodes.push_tag.Goals as goal
 
 pub returns-in_err-tag : goal.returns-in_err-tag

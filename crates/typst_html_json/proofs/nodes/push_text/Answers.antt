@@ -1,9 +1,7 @@
 use Rattle.std.proofs.Common.{refl}
-use Rattle.html_dom_tree.specs.Tree.{text_node}
-use Rattle.html_dom_tree.specs.Views.{text_view}
+use Rattle.html_dom_tree.specs.{Tree.{text_node}, Views.{text_view}}
 use Rattle.html_dom_flat.specs.Flat.{node_count, node_flat}
-use Rattle.typst_html_json.proofs.Readings.{read_clean}
-use Rattle.typst_html_json.specs.NameRefusals.{name_refusals}
+use Rattle.typst_html_json.{proofs.Readings.{read_clean}, specs.NameRefusals.{name_refusals}}
 use Rattle.typst_html_json.proofs.nodes.push_text.Goals as goal
 
 pub returns : goal.returns

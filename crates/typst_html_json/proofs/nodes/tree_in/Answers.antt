@@ -1,7 +1,6 @@
 use Rattle.std.proofs.Common.{◌≡◌, sym, ◌∙◌, rules}
 use Rattle.serde_json.specs.View.{view}
-use Rattle.html_dom_flat.proofs.Flats.{list_spelled, list_spells}
-use Rattle.html_dom_flat.specs.FlatTrees.{tree_nodes}
+use Rattle.html_dom_flat.{proofs.Flats.{list_spelled, list_spells}, specs.FlatTrees.{tree_nodes}}
 use Rattle.html_dom_tree.specs.Tree.{none, node}
 use Rattle.typst_html_json.proofs.NodeRows.{one_list, refused_element, tree_read, tree_left}
 use Rattle.typst_html_json.proofs.nodes.tree_in.Goals as goal

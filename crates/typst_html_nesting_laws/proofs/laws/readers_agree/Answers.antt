@@ -1,5 +1,4 @@
-use Rattle.typst_html_nesting_laws.proofs.ReadersAgree.{readers_agree}
-use Rattle.typst_html_nesting_laws.proofs.Roots.{trees_stay}
+use Rattle.typst_html_nesting_laws.proofs.{ReadersAgree.{readers_agree}, Roots.{trees_stay}}
 use Rattle.typst_html_nesting_laws.proofs.laws.readers_agree.Goals as goal
 
 pub returns : goal.returns

@@ -1,5 +1,4 @@
-use Rattle.std.proofs.Common.{chars, length, sym, ap, ◌∙◌}
-use Rattle.std.proofs.lemmas.Str.{Chars-Drains, encodes-chars}
+use Rattle.std.proofs.{Common.{chars, length, sym, ap, ◌∙◌}, lemmas.Str.{Chars-Drains, encodes-chars}}
 use Rattle.typst_html_read.proofs.read.char_count.Goals as goal
 
 pub returns : goal.returns

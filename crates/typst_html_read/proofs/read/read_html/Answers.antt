@@ -1,9 +1,7 @@
 use Rattle.std.proofs.Common.{◌≡◌, false, ◌++◌, arith, bytes_eq, chars, length, length-append, take, refl, sym, ap, ◌∙◌, subst}
 use Rattle.typst_html_encode.specs.Reader.{read}
-use Rattle.typst_html_read.specs.Endings.{Gives}
-use Rattle.typst_html_read.specs.PlainElements.{accepted}
-use Rattle.typst_html_read.specs.LimitedReading.{document_type, too_deep, unread}
 use Rattle.typst_html_read.proofs.Loops.{begins_otherwise}
+use Rattle.typst_html_read.specs.{Endings.{Gives}, LimitedReading.{document_type, too_deep, unread}, PlainElements.{accepted}}
 use Rattle.html_text.proofs.Words.{chars_after_word}
 use Rattle.html_names_core.proofs.Lists.{chars_ascii}
 use Rattle.typst_html_read.proofs.read.read_html.Goals as goal

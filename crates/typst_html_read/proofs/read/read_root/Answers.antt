@@ -1,15 +1,11 @@
 use Rattle.std.proofs.Common.{◌≡◌, ◌+◌, ◌-◌, ◌∷◌, [], false, None, Some, chars, length, length-append, refl, sym, ap, ◌∙◌, subst, arith, rules}
 use Rattle.std.proofs.lemmas.Bool.{false≢true}
 use Rattle.typst_html_encode.specs.Reader.{Outside}
-use Rattle.typst_html_read.specs.OpenViews.{open_of}
-use Rattle.typst_html_read.specs.PlainElements.{accepted}
-use Rattle.typst_html_read.specs.PlainViews.{completed}
-use Rattle.typst_html_read.specs.ReaderViews.{reader_state}
-use Rattle.typst_html_read.specs.LimitedReading.{next_state, deep_places}
-use Rattle.html_text.specs.Places.{place_at}
-use Rattle.typst_html_read.proofs.Loops.{not_stop}
-use Rattle.typst_html_read.proofs.Names.{taken, root_read, root_accepted}
+use Rattle.typst_html_read.proofs.{Loops.{not_stop}, Names.{taken, root_read, root_accepted}}
 use Rattle.typst_html_read.proofs.Stretches.{GivesReading, goes_on, goes_one, reading, whole_deep, whole_ended, whole_stopped}
+use Rattle.typst_html_read.specs.{LimitedReading.{next_state, deep_places}, OpenViews.{open_of}, PlainElements.{accepted}}
+use Rattle.typst_html_read.specs.{PlainViews.{completed}, ReaderViews.{reader_state}}
+use Rattle.html_text.specs.Places.{place_at}
 use Rattle.typst_html_read.proofs.read.read_root.Goals as goal
 
 pub loop-reader-init : goal.loop-reader-init

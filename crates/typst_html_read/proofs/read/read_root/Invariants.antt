@@ -2,8 +2,7 @@ use Rattle.std.proofs.Common.{None, chars, length}
 use denote.Text.{Utf8}
 use denote.Shadow.{shadow}
 use Rattle.typst_html_encode.specs.Reader.{Outside}
-use Rattle.typst_html_read.specs.ReaderViews.{reader_state}
-use Rattle.typst_html_read.proofs.Stretches.{Goes, reading}
+use Rattle.typst_html_read.{proofs.Stretches.{Goes, reading}, specs.ReaderViews.{reader_state}}
 use Rattle.typst_html_read.proofs.read.read_root.Given as goal
 
 abbrev pub invariant-loop-reader : goal.invariant-loop-reader

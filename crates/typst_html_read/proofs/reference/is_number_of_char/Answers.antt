@@ -1,7 +1,5 @@
-use Rattle.std.proofs.Common.{sym, ap, ◌∙◌, nat_lt}
+use Rattle.std.proofs.{Common.{sym, ap, ◌∙◌, nat_lt}, StrCases.{chars_of_empty}, lemmas.Bool.{eqb-true}}
 use Rattle.std.specs.Str.Parse.{digits_value}
-use Rattle.std.proofs.StrCases.{chars_of_empty}
-use Rattle.std.proofs.lemmas.Bool.{eqb-true}
 use Rattle.typst_html_read.proofs.BegunReferences.{digits_read, digits_high}
 use Rattle.typst_html_read.proofs.reference.is_number_of_char.Goals as goal
 

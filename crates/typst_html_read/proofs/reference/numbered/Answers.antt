@@ -1,8 +1,5 @@
-use Rattle.std.proofs.Common.{◌≡◌, Some, ap, sym, ◌∙◌, subst, arith, false}
-use Rattle.std.proofs.lemmas.Bool.{false≢true}
-use Rattle.std.proofs.lemmas.Slice.Eq.{bytes_eq-Decides}
-use Rattle.std.specs.Char.{IsScalar}
-use Rattle.std.specs.Fmt.{digits}
+use Rattle.std.proofs.{Common.{◌≡◌, Some, ap, sym, ◌∙◌, subst, arith, false}, lemmas.Bool.{false≢true}, lemmas.Slice.Eq.{bytes_eq-Decides}}
+use Rattle.std.specs.{Char.{IsScalar}, Fmt.{digits}}
 use Rattle.typst_html_read.proofs.Numbers.{none_numbered, one_numbered, is_number, is_read}
 use Rattle.typst_html_read.proofs.reference.numbered.Goals as goal
 

@@ -1,5 +1,4 @@
-use Rattle.std.proofs.Common.{◌≡◌, ℕ, List, ◌∷◌, true, chars, codes, refl, sym, ap, ◌∙◌}
-use Rattle.std.specs.Fmt.{digits}
+use Rattle.std.{proofs.Common.{◌≡◌, ℕ, List, ◌∷◌, true, chars, codes, refl, sym, ap, ◌∙◌}, specs.Fmt.{digits}}
 use Rattle.html_names_core.specs.Names.{is_ascii}
 use Rattle.typst_html_encode.specs.References as definition
 use Rattle.typst_html_read.proofs.References.{by_number, no_reference}

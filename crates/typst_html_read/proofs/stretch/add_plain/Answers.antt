@@ -1,9 +1,6 @@
-use Rattle.std.proofs.Common.{◌≡◌, ◌++◌, [], append-nil, chars, sym, ap, ◌∙◌}
-use Rattle.std.proofs.StrCases.{chars_of_empty}
-use Rattle.std.proofs.lemmas.Bool.{eqb-true}
+use Rattle.std.proofs.{Common.{◌≡◌, ◌++◌, [], append-nil, chars, sym, ap, ◌∙◌}, StrCases.{chars_of_empty}, lemmas.Bool.{eqb-true}}
 use Rattle.html_dom_tree.specs.Views.{text_view}
-use Rattle.typst_html_read.specs.Stretches.{is_plain}
-use Rattle.typst_html_read.proofs.Stretches.{all_alike}
+use Rattle.typst_html_read.{proofs.Stretches.{all_alike}, specs.Stretches.{is_plain}}
 use Rattle.typst_html_read.proofs.stretch.add_plain.Goals as goal
 
 pub returns-then-is_empty : goal.returns-then-is_empty

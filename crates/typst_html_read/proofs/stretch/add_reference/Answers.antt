@@ -1,5 +1,4 @@
-use Rattle.std.proofs.Common.{◌≡◌, eqb, length, true, [], chars, refl, string_bytes, sym, ap, ◌∙◌, append-nil}
-use Rattle.std.proofs.StrCases.{chars_of_empty}
+use Rattle.std.proofs.{Common.{◌≡◌, eqb, length, true, [], chars, refl, string_bytes, sym, ap, ◌∙◌, append-nil}, StrCases.{chars_of_empty}}
 use Rattle.std.proofs.lemmas.Bool.{eqb-true}
 use Rattle.html_dom_tree.specs.Views.{text_view}
 use Rattle.typst_html_read.specs.Stretches.{all_grow, continues}

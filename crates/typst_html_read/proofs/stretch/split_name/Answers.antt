@@ -1,9 +1,6 @@
-use Rattle.std.proofs.Common.{◌≡◌, ◌∙◌, ◌++◌, ap, chars, sym}
-use Rattle.std.specs.List.{list_all}
-use Rattle.std.proofs.lemmas.Str.{chars-IsAscii}
+use Rattle.std.{proofs.Common.{◌≡◌, ◌∙◌, ◌++◌, ap, chars, sym}, proofs.lemmas.Str.{chars-IsAscii}, specs.List.{list_all}}
 use Rattle.html_names_core.specs.Characters.{is_tag_char}
-use Rattle.html_text.proofs.Fronts.{tag_ascii}
-use Rattle.html_text.proofs.TagNames.{all_listed}
+use Rattle.html_text.proofs.{Fronts.{tag_ascii}, TagNames.{all_listed}}
 use Rattle.typst_html_read.proofs.stretch.split_name.Goals as goal
 
 pub returns : goal.returns

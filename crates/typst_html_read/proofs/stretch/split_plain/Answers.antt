@@ -1,8 +1,6 @@
-use Rattle.std.proofs.Common.{◌≡◌, ◌<◌, false, true, get_or, length, sym, ap, ◌∙◌, arith}
-use Rattle.std.proofs.lemmas.Bool.{and_from}
+use Rattle.std.proofs.{Common.{◌≡◌, ◌<◌, false, true, get_or, length, sym, ap, ◌∙◌, arith}, lemmas.Bool.{and_from}}
 use Rattle.std.proofs.lemmas.List.Folds.{list_all_more}
-use Rattle.typst_html_read.specs.Stretches.{is_plain}
-use Rattle.typst_html_read.proofs.Stretches.{plain_bytes, plain_cut, split_at}
+use Rattle.typst_html_read.{proofs.Stretches.{plain_bytes, plain_cut, split_at}, specs.Stretches.{is_plain}}
 use Rattle.typst_html_read.proofs.stretch.split_plain.Goals as goal
 use Rattle.typst_html_read.proofs.stretch.split_plain.Goals.{then-loop-at-test+else-is_plain, else-loop-at-test}
 

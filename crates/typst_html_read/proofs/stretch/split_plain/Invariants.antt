@@ -1,5 +1,4 @@
-use Rattle.std.proofs.Common.{◌≡◌, ◌-◌, ◌≤◌, true, length, take}
-use Rattle.std.specs.List.{list_all}
+use Rattle.std.{proofs.Common.{◌≡◌, ◌-◌, ◌≤◌, true, length, take}, specs.List.{list_all}}
 use Rattle.typst_html_read.specs.Stretches.{is_plain}
 use Rattle.typst_html_read.proofs.stretch.split_plain.Given as goal
 

@@ -1,9 +1,6 @@
-use Rattle.std.proofs.Common.{◌≡◌, ℕ, List, [], ◌++◌, true, chars, codes, refl, sym, ap, ◌∙◌}
-use Rattle.std.proofs.lemmas.Str.{chars-nil}
-use Rattle.html_names_core.proofs.Lists.{chars_ascii}
-use Rattle.html_names_core.specs.Names.{is_ascii}
-use Rattle.typst_html_read.specs.BegunReferences.{begins_digits, begins_reference}
-use Rattle.typst_html_read.specs.Stretches.{all_grow, continues}
+use Rattle.std.proofs.{Common.{◌≡◌, ℕ, List, [], ◌++◌, true, chars, codes, refl, sym, ap, ◌∙◌}, lemmas.Str.{chars-nil}}
+use Rattle.html_names_core.{proofs.Lists.{chars_ascii}, specs.Names.{is_ascii}}
+use Rattle.typst_html_read.specs.{BegunReferences.{begins_digits, begins_reference}, Stretches.{all_grow, continues}}
 use Rattle.html_text.proofs.Words.{chars_behind_word}
 use Rattle.typst_html_read.proofs.stretch.split_reference.Goals as goal
 

@@ -1,12 +1,9 @@
 use Rattle.std.proofs.Common.{◌≡◌, [], ap, ◌∙◌}
 use Rattle.html_dom_document.specs.Views.{document_view}
-use Rattle.html_anchors.specs.FoundAnchors.{document_dead_links}
-use Rattle.html_anchors.specs.Links.{document_with_links}
+use Rattle.html_anchors.specs.{FoundAnchors.{document_dead_links}, Links.{document_with_links}}
 use Rattle.typst_html_encode.specs.FrameWriters.{no_frames}
-use Rattle.typst_html_export.proofs.FaultsInOrder.{exported}
-use Rattle.typst_html_export.specs.Assembled.{items_document_faults}
-use Rattle.typst_html_run.proofs.Heads.{head_list}
-use Rattle.typst_html_run.specs.DocumentAnswers.{made_document}
+use Rattle.typst_html_export.{proofs.FaultsInOrder.{exported}, specs.Assembled.{items_document_faults}}
+use Rattle.typst_html_run.{proofs.Heads.{head_list}, specs.DocumentAnswers.{made_document}}
 use Rattle.typst_html_json.specs.Spelling.{spelling_view}
 use Rattle.typst_html_run.proofs.documents.linked.Goals as goal
 

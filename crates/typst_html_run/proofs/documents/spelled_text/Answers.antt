@@ -2,8 +2,7 @@ use Rattle.std.proofs.lemmas.Result.{err_from_is_err_and}
 use Rattle.serde_json.specs.View.{view}
 use Rattle.typst_html_run.proofs.Answering.{text_said, name_said}
 use Rattle.typst_html_run.specs.DocumentAnswers.{document_answer, document_refusals, spelling_text, text_given}
-use Rattle.typst_html_json.specs.SpelledDocuments.{names_refusals, spelled_document}
-use Rattle.typst_html_json.specs.Spelling.{spelling_view}
+use Rattle.typst_html_json.specs.{SpelledDocuments.{names_refusals, spelled_document}, Spelling.{spelling_view}}
 use Rattle.typst_html_run.proofs.documents.spelled_text.Goals as goal
 
 pub returns-in_err-document-clause-text : goal.returns-in_err-document-clause-text

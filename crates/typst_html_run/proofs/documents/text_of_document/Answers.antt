@@ -1,10 +1,7 @@
 use Rattle.std.proofs.lemmas.Result.{err_from_is_err_and}
-use Rattle.typst_html_run.proofs.Answering.{json_said, no_json_said}
-use Rattle.typst_html_run.specs.Answers.{answer_to}
+use Rattle.typst_html_run.{proofs.Answering.{json_said, no_json_said}, specs.Answers.{answer_to}}
 use Rattle.typst_html_run.specs.DocumentAnswers.{document_answer, document_input_answer, input_dead_links, text_given}
-use Rattle.typst_html_json.specs.Json.{json_of}
-use Rattle.typst_html_json.specs.JsonPlaces.{input_place}
-use Rattle.typst_html_json.specs.SpelledDocuments.{spelled_document}
+use Rattle.typst_html_json.specs.{Json.{json_of}, JsonPlaces.{input_place}, SpelledDocuments.{spelled_document}}
 use Rattle.serde_json.specs.View.{view}
 use Rattle.typst_html_run.proofs.documents.text_of_document.Goals as goal
 

@@ -1,13 +1,10 @@
 use Rattle.std.proofs.Common.{◌≡◌, ◌++◌, List, [], map, sym, ap, ◌∙◌, subst}
 use Rattle.html_dom_document.specs.Documents.{DocumentView, document_root}
-use Rattle.html_dom_tree.specs.Tree.{NodeView}
-use Rattle.html_dom_tree.specs.Views.{node_view, text_view}
+use Rattle.html_dom_tree.specs.{Tree.{NodeView}, Views.{node_view, text_view}}
 use Rattle.html_flow_convert.specs.LoneNode.{node_list}
 use Rattle.typst_html_encode.specs.FrameWriters.{no_frames}
 use Rattle.typst_html_encode.specs.Text as html
-use Rattle.typst_html_export.specs.Assembled.{items_document_faults}
-use Rattle.typst_html_export.specs.Assembles.{GivesDocument}
-use Rattle.typst_html_export.specs.Exported.{root_faults}
+use Rattle.typst_html_export.specs.{Assembled.{items_document_faults}, Assembles.{GivesDocument}, Exported.{root_faults}}
 use Rattle.typst_html_export.specs.Linked.{linked_document, linked_document_with_head}
 use Rattle.typst_html_run.proofs.Heads.{head_list, no_nodes}
 use Rattle.typst_html_json.specs.Spelling.{spelling_view}

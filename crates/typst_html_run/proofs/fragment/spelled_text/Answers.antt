@@ -3,8 +3,7 @@ use Rattle.serde_json.specs.View.{view}
 use Rattle.html_flow_convert.specs.Views.{items_view}
 use Rattle.typst_html_run.proofs.Answering.{text_said, name_said}
 use Rattle.typst_html_run.specs.FragmentAnswers.{fragment_answer, fragment_refusals, fragment_text}
-use Rattle.typst_html_json.specs.NameRefusals.{items_refusals}
-use Rattle.typst_html_json.specs.SpelledItems.{spelled_document_items}
+use Rattle.typst_html_json.specs.{NameRefusals.{items_refusals}, SpelledItems.{spelled_document_items}}
 use Rattle.typst_html_run.proofs.fragment.spelled_text.Goals as goal
 
 pub returns-in_err-items : goal.returns-in_err-items

@@ -1,10 +1,7 @@
 use Rattle.std.proofs.lemmas.Result.{err_from_is_err_and}
 use Rattle.typst_html_run.proofs.Answering.{json_said, no_json_said}
-use Rattle.typst_html_run.specs.Answers.{answer_to}
-use Rattle.typst_html_run.specs.FragmentAnswers.{fragment_answer, fragment_input_answer}
-use Rattle.typst_html_json.specs.Json.{json_of}
-use Rattle.typst_html_json.specs.JsonPlaces.{input_place}
-use Rattle.typst_html_json.specs.SpelledItems.{spelled_document_items}
+use Rattle.typst_html_run.specs.{Answers.{answer_to}, FragmentAnswers.{fragment_answer, fragment_input_answer}}
+use Rattle.typst_html_json.specs.{Json.{json_of}, JsonPlaces.{input_place}, SpelledItems.{spelled_document_items}}
 use Rattle.serde_json.specs.View.{view}
 use Rattle.typst_html_run.proofs.fragment.text_of_fragment.Goals as goal
 

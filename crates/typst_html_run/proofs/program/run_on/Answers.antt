@@ -1,9 +1,6 @@
-use Rattle.std.proofs.Common.{refl, inl, inr, subst}
-use Rattle.std.proofs.KnownBytes.{Keeps-refl}
-use Rattle.typst_html_run.specs.Outputs.{Output, EndsAs, bad_input_output, words_output}
-use Rattle.typst_html_run.specs.Words.{texts_of}
-use Rattle.typst_html_run.proofs.Inputs.{some_input}
-use Rattle.typst_html_run.proofs.Outputs.{bad_input_written, not_failed}
+use Rattle.std.proofs.{Common.{refl, inl, inr, subst}, KnownBytes.{Keeps-refl}}
+use Rattle.typst_html_run.proofs.{Inputs.{some_input}, Outputs.{bad_input_written, not_failed}}
+use Rattle.typst_html_run.specs.{Outputs.{Output, EndsAs, bad_input_output, words_output}, Words.{texts_of}}
 use Rattle.typst_html_run.proofs.program.run_on.Goals as goal
 
 pub returns-in-Ok-clause-answers : goal.returns-in-Ok-clause-answers

@@ -1,10 +1,8 @@
 use Rattle.std.proofs.lemmas.Result.{err_from_is_err_and}
 use Rattle.serde_json.specs.View.{view}
 use Rattle.html_flow_convert.specs.Views.{items_view}
-use Rattle.typst_html_run.proofs.Answering.{text_said, name_said}
-use Rattle.typst_html_run.specs.Answers.{doc_answer, doc_refusals, doc_text}
-use Rattle.typst_html_json.specs.NameRefusals.{items_refusals}
-use Rattle.typst_html_json.specs.SpelledItems.{spelled_items}
+use Rattle.typst_html_run.{proofs.Answering.{text_said, name_said}, specs.Answers.{doc_answer, doc_refusals, doc_text}}
+use Rattle.typst_html_json.specs.{NameRefusals.{items_refusals}, SpelledItems.{spelled_items}}
 use Rattle.typst_html_run.proofs.program.spelled_doc.Goals as goal
 
 pub returns-in_err-items : goal.returns-in_err-items

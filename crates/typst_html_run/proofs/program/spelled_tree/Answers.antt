@@ -1,9 +1,7 @@
 use Rattle.std.proofs.lemmas.Result.{err_from_is_err_and}
 use Rattle.serde_json.specs.View.{view}
-use Rattle.typst_html_run.proofs.Answering.{text_said, name_said}
-use Rattle.typst_html_run.specs.Answers.{tree_answer, tree_refusals, tree_text}
-use Rattle.typst_html_json.specs.NameRefusals.{element_refusals}
-use Rattle.typst_html_json.specs.Spelled.{spelled_element}
+use Rattle.typst_html_run.{proofs.Answering.{text_said, name_said}, specs.Answers.{tree_answer, tree_refusals, tree_text}}
+use Rattle.typst_html_json.specs.{NameRefusals.{element_refusals}, Spelled.{spelled_element}}
 use Rattle.typst_html_run.proofs.program.spelled_tree.Goals as goal
 
 pub returns-in_err-tree : goal.returns-in_err-tree

@@ -1,8 +1,6 @@
 use Rattle.std.proofs.lemmas.Result.{err_from_is_err_and}
-use Rattle.typst_html_run.proofs.Answering.{json_said, no_json_said}
-use Rattle.typst_html_run.specs.Answers.{input_answer, value_answer}
-use Rattle.typst_html_json.specs.Json.{json_of}
-use Rattle.typst_html_json.specs.JsonPlaces.{input_place}
+use Rattle.typst_html_run.{proofs.Answering.{json_said, no_json_said}, specs.Answers.{input_answer, value_answer}}
+use Rattle.typst_html_json.specs.{Json.{json_of}, JsonPlaces.{input_place}}
 use Rattle.serde_json.specs.View.{view}
 use Rattle.typst_html_run.proofs.program.text_of_input.Goals as goal
 

@@ -1,7 +1,6 @@
 use Rattle.std.proofs.Common.{map, ap}
 use Rattle.typst_html_encode.specs.FaultViews.{export_fault_view}
-use Rattle.typst_html_run.proofs.FirstFaults.{first_fault}
-use Rattle.typst_html_run.specs.Answers.{fault_refusal}
+use Rattle.typst_html_run.{proofs.FirstFaults.{first_fault}, specs.Answers.{fault_refusal}}
 use Rattle.typst_html_run.proofs.program.tree_text.Goals as goal
 
 pub returns-in-Ok : goal.returns-in-Ok

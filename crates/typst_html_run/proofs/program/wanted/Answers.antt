@@ -1,7 +1,5 @@
 use Rattle.std.proofs.Common.{◌≡◌, None, Some, rules, refl, sym, ◌∙◌}
-use Rattle.typst_html_run.specs.Words.{wanted_task, texts_of}
-use Rattle.typst_html_run.proofs.Inputs.{some_input}
-use Rattle.typst_html_run.proofs.Outputs.{answered}
+use Rattle.typst_html_run.{proofs.Inputs.{some_input}, proofs.Outputs.{answered}, specs.Words.{wanted_task, texts_of}}
 use Rattle.typst_html_run.proofs.program.wanted.Goals as goal
 
 pub returns-in_default-clause-answers : goal.returns-in_default-clause-answers

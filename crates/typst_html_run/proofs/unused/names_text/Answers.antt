@@ -1,7 +1,6 @@
 use Rattle.std.proofs.Common.{◌≡◌, ℕ, List, [], ◌∷◌, false, refl, ap, ◌∙◌}
 use Rattle.serde_json.specs.Written.{compact_text, has_float}
-use Rattle.typst_html_run.specs.UnusedInformation.{unused_data}
-use Rattle.typst_html_run.specs.Words.{texts_of}
+use Rattle.typst_html_run.specs.{UnusedInformation.{unused_data}, Words.{texts_of}}
 use Rattle.typst_html_run.proofs.unused.names_text.Goals as goal
 
 no_float : (names : List (List ℕ)) → has_float (unused_data names) ≡ false

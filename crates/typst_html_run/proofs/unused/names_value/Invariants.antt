@@ -1,6 +1,5 @@
 use Rattle.std.proofs.Common.{◌≡◌, map, take}
-use Rattle.serde_json.specs.Data.{string}
-use Rattle.serde_json.specs.View.{view}
+use Rattle.serde_json.specs.{Data.{string}, View.{view}}
 use Rattle.typst_html_run.specs.Words.{texts_of}
 use Rattle.typst_html_run.proofs.unused.names_value.Given as goal
 

@@ -1,5 +1,4 @@
-use Rattle.typst_html_seen_laws.proofs.PageLaws.{read_pages_are_seen}
-use Rattle.typst_html_seen_laws.proofs.SeenNodes.{seen_nodes_stay}
+use Rattle.typst_html_seen_laws.proofs.{PageLaws.{read_pages_are_seen}, SeenNodes.{seen_nodes_stay}}
 use Rattle.typst_html_seen_laws.proofs.laws.read_pages_are_seen.Goals as goal
 
 pub returns : goal.returns

@@ -1,5 +1,4 @@
-use Rattle.typst_html_spaces.proofs.Anchored.{anchors_keep_clean_nodes}
-use Rattle.typst_html_spaces.proofs.CleanItems.{clean_items_make_clean_nodes}
+use Rattle.typst_html_spaces.proofs.{Anchored.{anchors_keep_clean_nodes}, CleanItems.{clean_items_make_clean_nodes}}
 use Rattle.typst_html_spaces.proofs.CleanNodes.{clean_nodes_are_written}
 use Rattle.typst_html_spaces.proofs.laws.clean_items_are_written.Goals as goal
 

@@ -1,20 +1,13 @@
 use Rattle.std.proofs.Common.{refl}
 use lib.Utf8.{encode}
-use Rattle.html_names_core.specs.Characters.{is_ignorable}
-use Rattle.html_names_core.specs.Displays.{default_display}
-use Rattle.html_names_core.specs.Kinds.{is_replaced, is_raw, is_escapable_raw}
+use Rattle.html_names_core.specs.{Characters.{is_ignorable}, Displays.{default_display}, Kinds.{is_replaced, is_raw, is_escapable_raw}}
 use Rattle.html_names_core.specs.Names.{stands_in}
-use Rattle.html_dom_tree.specs.PlainTree.{nodes_normal}
-use Rattle.html_dom_tree.specs.Styled.{styled_node}
+use Rattle.html_dom_tree.specs.{PlainTree.{nodes_normal}, Styled.{styled_node}}
 use Rattle.html_dom_shown.specs.Collapsing.{preserves, has_border}
-use Rattle.html_flow_convert.specs.BareSpaces.{is_border_element, is_entered, node_things, bare_after}
-use Rattle.html_flow_convert.specs.Pieces.{pieces_after}
-use Rattle.html_flow_convert.specs.Protected.{node_by_answers}
+use Rattle.html_flow_convert.specs.{BareSpaces.{is_border_element, is_entered, node_things, bare_after}, Converted.{item_nodes}}
+use Rattle.html_flow_convert.specs.{LoneNode.{lone_node, node_list}, Pieces.{pieces_after}, Protected.{node_by_answers}}
 use Rattle.html_flow_convert.specs.Runs.{blank_front, after_front}
-use Rattle.html_flow_convert.specs.Converted.{item_nodes}
-use Rattle.html_flow_convert.specs.LoneNode.{lone_node, node_list}
-use Rattle.typst_html_spaces.specs.ItemText.{item_pieces}
-use Rattle.typst_html_spaces.specs.PlainFlow.{is_plain_name, is_plain_item}
+use Rattle.typst_html_spaces.specs.{ItemText.{item_pieces}, PlainFlow.{is_plain_name, is_plain_item}}
 use Rattle.typst_html_spaces.proofs.laws.rows_are_seen.Goals as goal
 
 pub returns : goal.returns

@@ -1,5 +1,4 @@
-use Rattle.std.proofs.Common.{map, sym, ◌∙◌, arith}
-use Rattle.std.proofs.lemmas.List.{length-map}
+use Rattle.std.proofs.{Common.{map, sym, ◌∙◌, arith}, lemmas.List.{length-map}}
 use Rattle.html_names_core.specs.Texts.{text_view}
 use Rattle.html_anchors.proofs.names.AnchorNames.are_bounded.Goals as goal
 

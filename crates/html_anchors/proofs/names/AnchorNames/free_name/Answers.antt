@@ -1,9 +1,8 @@
 use Rattle.std.proofs.Common.{◌≡◌, ◌^◌, sym, ap, ◌∙◌, subst}
 use Rattle.html_names_core.specs.Texts.{text_view}
-use Rattle.html_anchors.specs.NewNames.{name_with_number, stem_of, first_number, first_free}
-use Rattle.html_links.specs.UsedNames.{used_in}
-use Rattle.html_anchors.specs.NumberedNames.{AreUsedBelow}
 use Rattle.html_anchors.proofs.Numbers.{used_below_found, found_from}
+use Rattle.html_anchors.specs.{NewNames.{name_with_number, stem_of, first_number, first_free}, NumberedNames.{AreUsedBelow}}
+use Rattle.html_links.specs.UsedNames.{used_in}
 use Rattle.html_anchors.proofs.names.AnchorNames.free_name.Goals as goal
 
 pub invariant_of-self : goal.invariant_of-self

@@ -1,10 +1,7 @@
-use Rattle.std.proofs.Common.{sym, ap, ◌∙◌, subst, string_bytes}
-use Rattle.std.specs.Prelude.{option_copied}
-use Rattle.std.specs.BTreeMap.{get_by_text}
+use Rattle.std.{proofs.Common.{sym, ap, ◌∙◌, subst, string_bytes}, specs.BTreeMap.{get_by_text}, specs.Prelude.{option_copied}}
 use Rattle.html_names_core.specs.Texts.{text_view}
 use Rattle.html_links.specs.UsedNames.{used_in}
-use Rattle.html_anchors.specs.NumberedNames.{AreUsedBelow}
-use Rattle.html_anchors.proofs.Numbers.{none_below_first}
+use Rattle.html_anchors.{proofs.Numbers.{none_below_first}, specs.NumberedNames.{AreUsedBelow}}
 use Rattle.html_anchors.proofs.names.AnchorNames.next_number.Goals as goal
 
 pub returns-in-Some : goal.returns-in-Some

@@ -1,9 +1,5 @@
-use Rattle.std.proofs.Common.{◌≡◌, arith, length, ap}
-use Rattle.std.proofs.lemmas.Bool.Decides.{nat_tests}
-use Rattle.std.proofs.lemmas.List.{nil_from_length}
-use Rattle.html_anchors.specs.LocationMaps.{locations_in}
-use Rattle.html_anchors.specs.WalkViews.{state_view}
-use Rattle.html_anchors.proofs.Steps.{text_kept}
+use Rattle.std.proofs.{Common.{◌≡◌, arith, length, ap}, lemmas.Bool.Decides.{nat_tests}, lemmas.List.{nil_from_length}}
+use Rattle.html_anchors.{proofs.Steps.{text_kept}, specs.LocationMaps.{locations_in}, specs.WalkViews.{state_view}}
 use Rattle.html_anchors.proofs.state.AnchorState.passes.Goals as goal
 
 pub returns-in-Text : goal.returns-in-Text

@@ -1,7 +1,6 @@
 use Rattle.std.proofs.Common.{◌∙◌, ap}
-use Rattle.html_dom_document.specs.Introspectors.{introspector_view, recorded_view}
-use Rattle.html_dom_document.specs.Views.{output_view, info_view}
 use Rattle.html_dom_document.proofs.Positions.{positions_lead}
+use Rattle.html_dom_document.specs.{Introspectors.{introspector_view, recorded_view}, Views.{output_view, info_view}}
 use Rattle.html_dom_document.proofs.document.HtmlDocument.new.Goals as goal
 
 pub returns-in-Ok-clause-leads : goal.returns-in-Ok-clause-leads

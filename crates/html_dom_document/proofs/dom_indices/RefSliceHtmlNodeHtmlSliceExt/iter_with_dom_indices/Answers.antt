@@ -1,7 +1,6 @@
 use Rattle.std.proofs.Common.{ap, ◌∙◌}
 use Rattle.html_dom_tree.specs.Tree.{none}
-use Rattle.html_dom_document.specs.Cursor.{nodes_with_indices}
-use Rattle.html_dom_document.proofs.Cursors.{numbered_is, numbered-length}
+use Rattle.html_dom_document.{proofs.Cursors.{numbered_is, numbered-length}, specs.Cursor.{nodes_with_indices}}
 use Rattle.html_dom_document.proofs.dom_indices.RefSliceHtmlNodeHtmlSliceExt.iter_with_dom_indices.Goals as goal
 
 pub returns-clause-pairs : goal.returns-clause-pairs

@@ -1,7 +1,6 @@
 use Rattle.std.proofs.Common.{refl, arith}
+use Rattle.html_dom_document.proofs.{Outputs.{one_output, root_written}, Places.{within, is_element, element_seen}}
 use Rattle.html_dom_document.specs.RootPlaces.{put_stands}
-use Rattle.html_dom_document.proofs.Outputs.{one_output, root_written}
-use Rattle.html_dom_document.proofs.Places.{within, is_element, element_seen}
 use Rattle.html_dom_document.proofs.output.HtmlOutput.root_mut.Goals as goal
 
 pub index_mut-root-requires : goal.index_mut-root-requires

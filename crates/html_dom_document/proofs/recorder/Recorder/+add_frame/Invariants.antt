@@ -1,7 +1,6 @@
 use Rattle.std.proofs.Common.{◌≡◌, ◌++◌, drop}
 use Rattle.html_dom_tree.specs.FrameViews.{frame_items_view}
-use Rattle.html_dom_document.specs.Places.{items_places, items_links}
-use Rattle.html_dom_document.specs.Records.{places_view, locations_view}
+use Rattle.html_dom_document.specs.{Places.{items_places, items_links}, Records.{places_view, locations_view}}
 use Rattle.html_dom_document.proofs.recorder.Recorder.+add_frame.Given as goal
 
 abbrev pub invariant-add_frame-loop-point : goal.invariant-add_frame-loop-point

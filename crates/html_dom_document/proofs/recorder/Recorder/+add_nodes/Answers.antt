@@ -1,11 +1,8 @@
 use Rattle.std.proofs.Common.{◌≡◌, ◌+◌, ◌++◌, ◌≤◌, false, refl, sym, ap, subst, ◌∙◌, arith}
-use Rattle.html_dom_tree.specs.Tree.{none}
-use Rattle.html_dom_tree.specs.Views.{node_view, nodes_view, element_view}
-use Rattle.html_dom_document.specs.Cursor.{element_index}
-use Rattle.html_dom_document.specs.Places.{is_named_html, node_places, nodes_places, nodes_links}
-use Rattle.html_dom_document.specs.Records.{places_view, locations_view}
-use Rattle.html_dom_document.specs.declared.recorder.Recorder.{Recorder}
+use Rattle.html_dom_tree.specs.{Tree.{none}, Views.{node_view, nodes_view, element_view}}
 use Rattle.html_dom_document.proofs.Recording.{Recorded, recorded_inside, walk_places, walk_places_is, found_step, found_end, linked_step, linked_end, moves_by_one}
+use Rattle.html_dom_document.specs.{Cursor.{element_index}, Places.{is_named_html, node_places, nodes_places, nodes_links}}
+use Rattle.html_dom_document.specs.{Records.{places_view, locations_view}, declared.recorder.Recorder.{Recorder}}
 use Rattle.html_dom_document.proofs.recorder.Recorder.+add_nodes.Goals as goal
 
 pub add_element-returns : goal.add_element-returns

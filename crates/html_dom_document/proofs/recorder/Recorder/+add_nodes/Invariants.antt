@@ -1,9 +1,7 @@
 use Rattle.std.proofs.Common.{◌≡◌, ◌++◌, ◌≤◌, drop}
 use Rattle.html_dom_tree.specs.Views.{nodes_view}
-use Rattle.html_dom_document.specs.Cursor.{element_index}
-use Rattle.html_dom_document.specs.Places.{nodes_links}
-use Rattle.html_dom_document.specs.Records.{places_view, locations_view}
 use Rattle.html_dom_document.proofs.Recording.{walk_places}
+use Rattle.html_dom_document.specs.{Cursor.{element_index}, Places.{nodes_links}, Records.{places_view, locations_view}}
 use Rattle.html_dom_document.proofs.recorder.Recorder.+add_nodes.Given as goal
 
 abbrev pub invariant-add_nodes-loop-node : goal.invariant-add_nodes-loop-node

@@ -1,7 +1,6 @@
 use Rattle.std.proofs.Common.{refl}
 use Rattle.html_dom_tree.specs.FrameViews.{frame_view}
-use Rattle.html_dom_document.specs.Places.{frame_places, frame_links}
-use Rattle.html_dom_document.proofs.Recording.{recorded_inside}
+use Rattle.html_dom_document.{proofs.Recording.{recorded_inside}, specs.Places.{frame_places, frame_links}}
 use Rattle.html_dom_document.proofs.recorder.Recorder.add_frame_at.Goals as goal
 
 pub returns : goal.returns

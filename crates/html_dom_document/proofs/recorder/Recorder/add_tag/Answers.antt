@@ -1,5 +1,4 @@
-use Rattle.std.proofs.Common.{refl, sym, ap, ◌∙◌, append-nil}
-use Rattle.std.proofs.lemmas.List.{map-append}
+use Rattle.std.proofs.{Common.{refl, sym, ap, ◌∙◌, append-nil}, lemmas.List.{map-append}}
 use Rattle.html_dom_document.specs.Records.{place_view, places_view, locations_view}
 use Rattle.html_dom_document.proofs.recorder.Recorder.add_tag.Goals as goal
 

@@ -1,7 +1,6 @@
 use Rattle.std.proofs.Common.{refl, None, []}
 use Rattle.html_dom_tree.specs.FrameViews.{tag_view}
-use Rattle.html_dom_document.specs.Places.{tag_places}
-use Rattle.html_dom_document.proofs.Recording.{recorded_inside}
+use Rattle.html_dom_document.{proofs.Recording.{recorded_inside}, specs.Places.{tag_places}}
 use Rattle.html_dom_document.proofs.recorder.Recorder.add_tag_at.Goals as goal
 
 pub returns : goal.returns

@@ -1,15 +1,11 @@
 use Rattle.std.proofs.Common.{◌≡◌, ◌+◌, [], ◌∷◌, ◌++◌, refl, sym, ap, ◌∙◌, arith, append_assoc, reverse, vec_len}
-use Rattle.std.proofs.lemmas.Grind.{common_steps}
-use Rattle.std.proofs.lemmas.List.{length-map, reverse-reverse}
+use Rattle.std.proofs.lemmas.{Grind.{common_steps}, List.{length-map, reverse-reverse}}
 use denote.Param.Weighed.{most, most-append}
-use Rattle.html_dom_tree.proofs.node.HtmlNode.TheLaws.{the_size}
+use Rattle.html_dom_tree.proofs.{Reversed.{most_reversed, next_reversed}, node.HtmlNode.TheLaws.{the_size}}
 use Rattle.html_dom_tree.specs.Views.{element_view}
-use Rattle.html_dom_flat.specs.Flat.{nodes_count, nodes_flat}
-use Rattle.html_dom_flat.specs.FlatViews.{flat_node_view}
-use Rattle.html_dom_flat.specs.Builders.{builder_view}
-use Rattle.html_dom_flat.specs.ClosedElements.{closed_at}
 use Rattle.html_dom_flat.proofs.Closings.{closed_element}
-use Rattle.html_dom_tree.proofs.Reversed.{most_reversed, next_reversed}
+use Rattle.html_dom_flat.specs.{Builders.{builder_view}, ClosedElements.{closed_at}, Flat.{nodes_count, nodes_flat}}
+use Rattle.html_dom_flat.specs.FlatViews.{flat_node_view}
 use Rattle.html_dom_flat.proofs.builder.Builder.+flatten.Goals as goal
 
 pub move_element-returns-clause-list : goal.move_element-returns-clause-list

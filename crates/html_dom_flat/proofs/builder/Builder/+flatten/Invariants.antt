@@ -1,10 +1,7 @@
-use Rattle.std.proofs.Common.{◌≡◌, ◌+◌, ◌≤◌, ◌++◌, reverse, vec_len}
-use Rattle.std.specs.Vec.Iter.{into_iter_items}
+use Rattle.std.{proofs.Common.{◌≡◌, ◌+◌, ◌≤◌, ◌++◌, reverse, vec_len}, specs.Vec.Iter.{into_iter_items}}
 use denote.Param.Weighed.{most}
-use Rattle.html_dom_tree.proofs.node.HtmlNode.TheLaws.{the_size}
-use Rattle.html_dom_tree.specs.Views.{nodes_view}
-use Rattle.html_dom_flat.specs.Flat.{nodes_count, nodes_flat}
-use Rattle.html_dom_flat.specs.Builders.{builder_view}
+use Rattle.html_dom_tree.{proofs.node.HtmlNode.TheLaws.{the_size}, specs.Views.{nodes_view}}
+use Rattle.html_dom_flat.specs.{Builders.{builder_view}, Flat.{nodes_count, nodes_flat}}
 use Rattle.html_dom_flat.proofs.builder.Builder.+flatten.Given as goal
 
 abbrev pub invariant-move_few-loop-node : goal.invariant-move_few-loop-node

@@ -1,6 +1,5 @@
 use Rattle.std.proofs.Common.{rules, ◌≡◌, ◌<◌, ap, ◌∙◌, vec_len, length, get_or}
-use Rattle.html_dom_flat.specs.Numbering.{node_with_past}
-use Rattle.html_dom_flat.proofs.Closings.{given_closed, closed}
+use Rattle.html_dom_flat.{proofs.Closings.{given_closed, closed}, specs.Numbering.{node_with_past}}
 use Rattle.html_dom_flat.proofs.builder.Builder.close_element.Goals as goal
 
 pub invariant_of-self : goal.invariant_of-self

@@ -1,7 +1,6 @@
 use Rattle.std.proofs.Common.{◌≡◌, ◌+◌, ◌++◌, drop, vec_len}
 use Rattle.html_dom_tree.specs.Views.{nodes_view}
-use Rattle.html_dom_flat.specs.Flat.{nodes_count, nodes_flat}
-use Rattle.html_dom_flat.specs.Builders.{builder_view}
+use Rattle.html_dom_flat.specs.{Builders.{builder_view}, Flat.{nodes_count, nodes_flat}}
 use Rattle.html_dom_flat.proofs.builder.Builder.push_nodes.Given as goal
 
 abbrev pub invariant-loop-node : goal.invariant-loop-node

@@ -1,8 +1,6 @@
 use Rattle.std.proofs.Common.{◌≡◌, refl, ◌∙◌}
 use Rattle.html_dom_tree.specs.Views.{nodes_view}
-use Rattle.html_dom_flat.specs.Flat.{nodes_flat}
-use Rattle.html_dom_flat.specs.Builders.{builder_view}
-use Rattle.html_dom_flat.proofs.Flats.{list_spells, list_spelled}
+use Rattle.html_dom_flat.{proofs.Flats.{list_spells, list_spelled}, specs.Builders.{builder_view}, specs.Flat.{nodes_flat}}
 use Rattle.html_dom_flat.proofs.flat_tree.FlatTree.from_nodes.Goals as goal
 
 pub into_tree-requires : goal.into_tree-requires

@@ -1,8 +1,5 @@
-use Rattle.std.proofs.Common.{ap, sym, ◌∙◌, length}
-use Rattle.std.proofs.lemmas.List.{length-map}
-use Rattle.html_dom_flat.specs.FlatViews.{flat_node_view}
-use Rattle.html_dom_flat.specs.FlatTrees.{tree_nodes}
-use Rattle.html_dom_flat.proofs.Flats.{length_all}
+use Rattle.std.proofs.{Common.{ap, sym, ◌∙◌, length}, lemmas.List.{length-map}}
+use Rattle.html_dom_flat.{proofs.Flats.{length_all}, specs.FlatTrees.{tree_nodes}, specs.FlatViews.{flat_node_view}}
 use Rattle.html_dom_flat.proofs.flat_tree.FlatTree.nodes.Goals as goal
 
 pub returns : goal.returns

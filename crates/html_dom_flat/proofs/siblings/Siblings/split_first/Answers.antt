@@ -1,7 +1,7 @@
 use Rattle.std.proofs.Common.{◌≡◌, ◌+◌, ◌-◌, sym, ap, arith, length, subst, true}
-use Rattle.html_dom_flat.specs.FlatViews.{are_given}
 use Rattle.html_dom_flat.proofs.Elements.{given_take, given_drop}
 use Rattle.html_dom_flat.proofs.FirstSiblings.{none_spelled, is_later, is_within, inside_spells, after_spells, splits, first_given, rest_given}
+use Rattle.html_dom_flat.specs.FlatViews.{are_given}
 use Rattle.html_dom_flat.proofs.siblings.Siblings.split_first.Goals as goal
 
 pub returns-in_default : goal.returns-in_default

@@ -1,8 +1,5 @@
-use Rattle.std.proofs.Common.{◌≡◌, ◌+◌, ◌≤◌, map, length, vec_len}
-use Rattle.std.specs.Vec.{vec_capacity}
-use Rattle.std.specs.Vec.Iter.{into_iter_items}
-use Rattle.html_dom_tree.specs.Attributes.{union}
-use Rattle.html_dom_tree.specs.Views.{attrs_view, pair_view}
+use Rattle.std.{proofs.Common.{◌≡◌, ◌+◌, ◌≤◌, map, length, vec_len}, specs.Vec.{vec_capacity}, specs.Vec.Iter.{into_iter_items}}
+use Rattle.html_dom_tree.specs.{Attributes.{union}, Views.{attrs_view, pair_view}}
 use Rattle.html_dom_tree.proofs.attrs.HtmlAttrs.fold.Given as goal
 
 abbrev pub invariant-loop-attr : goal.invariant-loop-attr

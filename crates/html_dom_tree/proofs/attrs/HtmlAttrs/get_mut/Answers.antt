@@ -1,8 +1,6 @@
 use Rattle.std.proofs.Common.{◌≡◌, ◌≤◌, ◌<◌, ap, sym, ◌∙◌, refl, [], Some, length, get_or, arith}
-use Rattle.html_dom_tree.specs.Views.{attrs_view, text_view}
-use Rattle.html_dom_tree.specs.Attributes.{place}
-use Rattle.html_dom_tree.specs.Lending.{with_text_at}
 use Rattle.html_dom_tree.proofs.Attributes.{put, first_at, first_past}
+use Rattle.html_dom_tree.specs.{Attributes.{place}, Lending.{with_text_at}, Views.{attrs_view, text_view}}
 use Rattle.html_dom_tree.proofs.attrs.HtmlAttrs.get_mut.Goals as goal
 
 pub returns-then-place-len : goal.returns-then-place-len

@@ -1,6 +1,5 @@
 use Rattle.std.proofs.Common.{◌≡◌, ◌+◌, map, drop}
-use Rattle.html_dom_tree.specs.Attributes.{place}
-use Rattle.html_dom_tree.specs.Views.{pair_view}
+use Rattle.html_dom_tree.specs.{Attributes.{place}, Views.{pair_view}}
 use Rattle.html_dom_tree.proofs.attrs.HtmlAttrs.place.Given as goal
 
 abbrev pub invariant-loop-pair : goal.invariant-loop-pair

@@ -1,7 +1,5 @@
 use Rattle.std.proofs.Common.{◌≡◌, Some, sym, ◌∙◌}
-use Rattle.html_dom_tree.specs.Attributes.{first}
-use Rattle.html_dom_tree.specs.Views.{text_view, attrs_view}
-use Rattle.html_dom_tree.proofs.Attributes.{set_there}
+use Rattle.html_dom_tree.{proofs.Attributes.{set_there}, specs.Attributes.{first}, specs.Views.{text_view, attrs_view}}
 use Rattle.html_dom_tree.proofs.attrs.HtmlAttrs.set.Goals as goal
 
 pub returns-in-Some-clause-ok : goal.returns-in-Some-clause-ok

@@ -1,8 +1,6 @@
-use Rattle.std.proofs.Common.{◌≡◌, ap, ◌∙◌, refl, [], get_or, String, Global, arith}
+use Rattle.std.proofs.{Common.{◌≡◌, ap, ◌∙◌, refl, [], get_or, String, Global, arith}, lemmas.List.{get_or_default}}
 use Rattle.std.specs.Vec.{with_item}
-use Rattle.std.proofs.lemmas.List.{get_or_default}
-use Rattle.html_dom_tree.specs.declared.attrs.HtmlAttrs.{HtmlAttrs}
-use Rattle.html_dom_tree.proofs.Attributes.{Item}
+use Rattle.html_dom_tree.{proofs.Attributes.{Item}, specs.declared.attrs.HtmlAttrs.{HtmlAttrs}}
 use Rattle.html_dom_tree.proofs.attrs.HtmlAttrs.value_mut.Goals as goal
 
 pub returns : goal.returns

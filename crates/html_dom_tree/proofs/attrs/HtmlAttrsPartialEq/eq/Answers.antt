@@ -1,5 +1,4 @@
-use Rattle.html_dom_tree.specs.NodeEqual.{pairs_discrete}
-use Rattle.html_dom_tree.specs.Views.{attrs_view}
+use Rattle.html_dom_tree.specs.{NodeEqual.{pairs_discrete}, Views.{attrs_view}}
 use Rattle.html_names_core.proofs.Equals.{same_result}
 use Rattle.html_dom_tree.proofs.attrs.HtmlAttrsPartialEq.eq.Goals as goal
 

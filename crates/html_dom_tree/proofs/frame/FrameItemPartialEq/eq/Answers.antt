@@ -1,5 +1,4 @@
-use Rattle.html_dom_tree.specs.FrameEqual.{frame_item_discrete}
-use Rattle.html_dom_tree.specs.FrameViews.{frame_item_view}
+use Rattle.html_dom_tree.specs.{FrameEqual.{frame_item_discrete}, FrameViews.{frame_item_view}}
 use Rattle.html_names_core.proofs.Equals.{same_result}
 use Rattle.html_dom_tree.proofs.frame.FrameItemPartialEq.eq.Goals as goal
 

@@ -1,5 +1,4 @@
-use Rattle.html_dom_tree.specs.FrameEqual.{frame_discrete}
-use Rattle.html_dom_tree.specs.FrameViews.{frame_view}
+use Rattle.html_dom_tree.specs.{FrameEqual.{frame_discrete}, FrameViews.{frame_view}}
 use Rattle.html_names_core.proofs.Equals.{same_result}
 use Rattle.html_dom_tree.proofs.frame.FramePartialEq.eq.Goals as goal
 

@@ -1,5 +1,4 @@
-use Rattle.html_dom_tree.specs.FrameEqual.{html_frame_discrete}
-use Rattle.html_dom_tree.specs.FrameViews.{html_frame_view}
+use Rattle.html_dom_tree.specs.{FrameEqual.{html_frame_discrete}, FrameViews.{html_frame_view}}
 use Rattle.html_names_core.proofs.Equals.{same_result}
 use Rattle.html_dom_tree.proofs.frame.HtmlFramePartialEq.eq.Goals as goal
 

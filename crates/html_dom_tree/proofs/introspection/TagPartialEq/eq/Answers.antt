@@ -1,5 +1,4 @@
-use Rattle.html_dom_tree.specs.NodeEqual.{tag_discrete}
-use Rattle.html_dom_tree.specs.Views.{tag_view}
+use Rattle.html_dom_tree.specs.{NodeEqual.{tag_discrete}, Views.{tag_view}}
 use Rattle.html_names_core.proofs.Equals.{same_result}
 use Rattle.html_dom_tree.proofs.introspection.TagPartialEq.eq.Goals as goal
 

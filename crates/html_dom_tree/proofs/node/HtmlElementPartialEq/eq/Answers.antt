@@ -1,5 +1,4 @@
-use Rattle.html_dom_tree.specs.NodeEqual.{element_discrete}
-use Rattle.html_dom_tree.specs.Views.{element_view}
+use Rattle.html_dom_tree.specs.{NodeEqual.{element_discrete}, Views.{element_view}}
 use Rattle.html_names_core.proofs.Equals.{same_result}
 use Rattle.html_dom_tree.proofs.node.HtmlElementPartialEq.eq.Goals as goal
 

@@ -1,5 +1,4 @@
-use Rattle.html_dom_tree.specs.NodeEqual.{node_discrete}
-use Rattle.html_dom_tree.specs.Views.{node_view}
+use Rattle.html_dom_tree.specs.{NodeEqual.{node_discrete}, Views.{node_view}}
 use Rattle.html_names_core.proofs.Equals.{same_result}
 use Rattle.html_dom_tree.proofs.node.HtmlNodePartialEq.eq.Goals as goal
 

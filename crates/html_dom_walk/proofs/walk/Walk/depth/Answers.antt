@@ -1,6 +1,5 @@
 use Rattle.std.proofs.Common.{sym, ◌∙◌}
-use Rattle.html_dom_walk.specs.Walks.{above_view, level_view}
-use Rattle.html_dom_walk.proofs.Skipping.{ends_are}
+use Rattle.html_dom_walk.{proofs.Skipping.{ends_are}, specs.Walks.{above_view, level_view}}
 use Rattle.html_dom_walk.proofs.walk.Walk.depth.Goals as goal
 
 pub returns : goal.returns

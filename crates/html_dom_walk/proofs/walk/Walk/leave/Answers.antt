@@ -1,7 +1,5 @@
 use Rattle.std.proofs.Common.{ap, ◌∙◌}
-use Rattle.html_dom_walk.specs.Events.{events_of}
-use Rattle.html_dom_walk.specs.Walks.{above_view, events_after, level_view, path_in}
-use Rattle.html_dom_walk.proofs.Events.{none_next}
+use Rattle.html_dom_walk.{proofs.Events.{none_next}, specs.Events.{events_of}, specs.Walks.{above_view, events_after, level_view, path_in}}
 use Rattle.html_dom_walk.proofs.walk.Walk.leave.Goals as goal
 
 pub returns-in-Some : goal.returns-in-Some

@@ -1,8 +1,7 @@
 use Rattle.std.proofs.Common.{◌≡◌, ◌+◌, [], ◌∷◌, ap, sym, ◌∙◌, arith}
 use Rattle.html_dom_tree.specs.Views.{head_of, nodes_view}
-use Rattle.html_dom_walk.specs.Events.{enter, events_of}
-use Rattle.html_dom_walk.specs.Walks.{above_view, events_after, path_in}
 use Rattle.html_dom_walk.proofs.Events.{element_next, frame_next, tag_next, text_next}
+use Rattle.html_dom_walk.specs.{Events.{enter, events_of}, Walks.{above_view, events_after, path_in}}
 use Rattle.html_dom_walk.proofs.walk.Walk.next.Goals as goal
 
 pub returns-in-Tag-clause-comes : goal.returns-in-Tag-clause-comes

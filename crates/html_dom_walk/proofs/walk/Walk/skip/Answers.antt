@@ -1,11 +1,8 @@
-use Rattle.std.proofs.Common.{◌≡◌, [], ap, sym, ◌∙◌, arith, drop, length}
-use Rattle.std.proofs.Math.Seq.{drop-nil}
+use Rattle.std.proofs.{Common.{◌≡◌, [], ap, sym, ◌∙◌, arith, drop, length}, Math.Seq.{drop-nil}}
 use Rattle.html_dom_tree.specs.Views.{nodes_view}
-use Rattle.html_dom_walk.specs.Events.{events_of, from_end}
-use Rattle.html_dom_walk.specs.Walks.{above_view, events_after, events_left, level_view, path_in}
+use Rattle.html_dom_walk.proofs.{Events.{none_next}, Skipping.{no_more, past_nodes, skipped_to}}
+use Rattle.html_dom_walk.specs.{Events.{events_of, from_end}, Walks.{above_view, events_after, events_left, level_view, path_in}}
 use Rattle.html_dom_walk.specs.declared.walk.Walk.{Walk}
-use Rattle.html_dom_walk.proofs.Events.{none_next}
-use Rattle.html_dom_walk.proofs.Skipping.{no_more, past_nodes, skipped_to}
 use Rattle.html_dom_walk.proofs.walk.Walk.skip.Goals as goal
 
 left_is : (w : Walk) →

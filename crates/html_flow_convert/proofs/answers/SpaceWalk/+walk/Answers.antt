@@ -1,10 +1,7 @@
-use Rattle.std.proofs.Common.{◌≡◌, ap, ◌∙◌, sym, subst}
-use Rattle.std.specs.Prelude.{OnOk}
+use Rattle.std.{proofs.Common.{◌≡◌, ap, ◌∙◌, sym, subst}, specs.Prelude.{OnOk}}
 use Rattle.html_dom_tree.specs.Views.{head_of, nodes_view}
-use Rattle.html_flow_convert.specs.BareSpaces.{nodes_things}
-use Rattle.html_flow_convert.specs.Walks.{walk_on, walk_view}
-use Rattle.html_flow_convert.proofs.Looks.{inside_seen, other_seen}
-use Rattle.html_flow_convert.proofs.Walking.{walk_step, walk_end}
+use Rattle.html_flow_convert.proofs.{Looks.{inside_seen, other_seen}, Walking.{walk_step, walk_end}}
+use Rattle.html_flow_convert.specs.{BareSpaces.{nodes_things}, Walks.{walk_on, walk_view}}
 use Rattle.html_flow_convert.proofs.answers.SpaceWalk.+walk.Goals as goal
 
 pub see_element-returns-then-is_inside : goal.see_element-returns-then-is_inside

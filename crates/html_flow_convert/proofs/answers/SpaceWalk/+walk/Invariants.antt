@@ -1,7 +1,6 @@
 use Rattle.std.proofs.Common.{◌≡◌, drop}
 use Rattle.html_dom_tree.specs.Views.{nodes_view}
-use Rattle.html_flow_convert.specs.BareSpaces.{nodes_things}
-use Rattle.html_flow_convert.specs.Walks.{walk_on, walk_view}
+use Rattle.html_flow_convert.specs.{BareSpaces.{nodes_things}, Walks.{walk_on, walk_view}}
 use Rattle.html_flow_convert.proofs.answers.SpaceWalk.+walk.Given as goal
 
 abbrev pub invariant-see_nodes-loop-node : goal.invariant-see_nodes-loop-node

@@ -1,8 +1,5 @@
 use Rattle.std.proofs.Common.{◌∙◌, List, Bool, ap}
-use Rattle.html_flow_convert.specs.Lines.{last_after}
-use Rattle.html_flow_convert.specs.Walks.{walk_view}
-use Rattle.html_flow_convert.specs.declared.line.Last.{Last}
-use Rattle.html_flow_convert.proofs.Walking.{one_seen}
+use Rattle.html_flow_convert.{proofs.Walking.{one_seen}, specs.Lines.{last_after}, specs.Walks.{walk_view}, specs.declared.line.Last.{Last}}
 use Rattle.html_flow_convert.proofs.answers.SpaceWalk.see.Goals as goal
 
 pub returns : goal.returns

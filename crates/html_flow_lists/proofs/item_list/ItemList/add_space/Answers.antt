@@ -1,8 +1,6 @@
-use Rattle.std.proofs.Common.{[], ◌∷◌, ap, refl, ◌∙◌}
-use Rattle.std.proofs.lemmas.Result.{on_ok_weaker}
+use Rattle.std.proofs.{Common.{[], ◌∷◌, ap, refl, ◌∙◌}, lemmas.Result.{on_ok_weaker}}
 use Rattle.html_names_core.proofs.Lists.{chars_ascii}
-use Rattle.html_flow_lists.specs.ItemLists.{with_text}
-use Rattle.html_flow_lists.specs.ListViews.{list_view}
+use Rattle.html_flow_lists.specs.{ItemLists.{with_text}, ListViews.{list_view}}
 use Rattle.html_flow_lists.proofs.item_list.ItemList.add_space.Goals as goal
 
 pub returns-clause-ok : goal.returns-clause-ok

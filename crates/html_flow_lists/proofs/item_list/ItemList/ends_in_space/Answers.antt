@@ -1,7 +1,6 @@
 use Rattle.std.proofs.Common.{ap, refl, sym, ◌∙◌}
 use Rattle.html_flow_convert.specs.Views.{pairs_view}
-use Rattle.html_flow_lists.specs.ItemLists.{item_ends_in_space, last_passes}
-use Rattle.html_flow_lists.proofs.LastItems.{last_passes_is}
+use Rattle.html_flow_lists.{proofs.LastItems.{last_passes_is}, specs.ItemLists.{item_ends_in_space, last_passes}}
 use Rattle.html_flow_lists.proofs.item_list.ItemList.ends_in_space.Goals as goal
 
 pub returns-in-Some : goal.returns-in-Some

@@ -1,5 +1,4 @@
-use Rattle.std.proofs.Common.{ap, sym, ◌∙◌, ◌==◌}
-use Rattle.std.proofs.lemmas.List.{length-map}
+use Rattle.std.proofs.{Common.{ap, sym, ◌∙◌, ◌==◌}, lemmas.List.{length-map}}
 use Rattle.html_flow_convert.specs.Views.{pair_view}
 use Rattle.html_flow_lists.proofs.item_list.ItemList.has_none.Goals as goal
 

@@ -1,7 +1,5 @@
-use Rattle.std.proofs.Common.{chars}
-use Rattle.std.proofs.lemmas.Result.{on_err_weaker, on_ok_weaker}
-use Rattle.html_flow_lists.specs.ItemLists.{with_longer_text}
-use Rattle.html_flow_lists.proofs.LastItems.{changed_is, kept_is}
+use Rattle.std.proofs.{Common.{chars}, lemmas.Result.{on_err_weaker, on_ok_weaker}}
+use Rattle.html_flow_lists.{proofs.LastItems.{changed_is, kept_is}, specs.ItemLists.{with_longer_text}}
 use Rattle.html_flow_lists.proofs.item_list.ItemList.lengthen_text.Goals as goal
 
 pub returns-in-Some-clause-ok : goal.returns-in-Some-clause-ok

@@ -1,5 +1,4 @@
-use Rattle.html_flow_lists.specs.ListViews.{list_view}
-use Rattle.html_flow_lists.proofs.Cuts.{spaced}
+use Rattle.html_flow_lists.{proofs.Cuts.{spaced}, specs.ListViews.{list_view}}
 use Rattle.html_flow_lists.proofs.item_list.ItemList.space.Goals as goal
 
 pub returns-clause-ok : goal.returns-clause-ok

@@ -1,7 +1,6 @@
 use Rattle.std.proofs.Common.{ap, refl, sym, ◌∙◌}
 use Rattle.html_flow_convert.specs.Views.{pairs_view}
-use Rattle.html_flow_lists.specs.ItemLists.{last_passes, takes_text}
-use Rattle.html_flow_lists.proofs.LastItems.{last_passes_is}
+use Rattle.html_flow_lists.{proofs.LastItems.{last_passes_is}, specs.ItemLists.{last_passes, takes_text}}
 use Rattle.html_flow_lists.proofs.item_list.ItemList.takes_text.Goals as goal
 
 pub returns-in-Some : goal.returns-in-Some

@@ -1,9 +1,7 @@
-use Rattle.std.proofs.Common.{◌==◌, ◌∷◌, [], ◌++◌, ap, sym, ◌∙◌}
-use Rattle.std.proofs.lemmas.List.{length-map}
+use Rattle.std.proofs.{Common.{◌==◌, ◌∷◌, [], ◌++◌, ap, sym, ◌∙◌}, lemmas.List.{length-map}}
 use Rattle.html_names_core.specs.Tables.{known_tags}
 use Rattle.html_flow_convert.specs.Views.{pairs_view}
-use Rattle.html_flow_lists.specs.ListViews.{note_view, notes_view}
-use Rattle.html_flow_lists.proofs.NoteParts.{section_seen}
+use Rattle.html_flow_lists.{proofs.NoteParts.{section_seen}, specs.ListViews.{note_view, notes_view}}
 use Rattle.html_flow_lists.proofs.notes.Notes.into_section.Goals as goal
 
 pub returns : goal.returns

@@ -1,9 +1,6 @@
-use Rattle.std.proofs.Common.{◌≡◌, ◌≤◌, arith, chars, length}
-use Rattle.std.proofs.lemmas.List.{length-map}
+use Rattle.std.proofs.{Common.{◌≡◌, ◌≤◌, arith, chars, length}, lemmas.List.{length-map}}
 use Rattle.html_flow_convert.specs.Views.{pairs_view}
-use Rattle.html_flow_lists.specs.ListViews.{note_view, notes_view}
-use Rattle.html_flow_lists.specs.Notes.{place_of_key}
-use Rattle.html_flow_lists.proofs.NoteKeys.{none_there}
+use Rattle.html_flow_lists.{proofs.NoteKeys.{none_there}, specs.ListViews.{note_view, notes_view}, specs.Notes.{place_of_key}}
 use Rattle.html_flow_lists.proofs.notes.Notes.set.Goals as goal
 
 pub returns-else-place-len-clause-notes : goal.returns-else-place-len-clause-notes

@@ -1,9 +1,7 @@
-use Rattle.std.proofs.Common.{refl, sym, ◌∙◌, rules}
-use Rattle.std.proofs.lemmas.List.{length-map}
+use Rattle.std.proofs.{Common.{refl, sym, ◌∙◌, rules}, lemmas.List.{length-map}}
 use Rattle.html_names_core.specs.Texts.{texts_view}
 use Rattle.html_names_table.proofs.NameTables.{with_name-new}
-use Rattle.html_flow_places.proofs.NamedLocations.{added_names, last_location}
-use Rattle.html_flow_places.proofs.HeldLocations.{next}
+use Rattle.html_flow_places.proofs.{HeldLocations.{next}, NamedLocations.{added_names, last_location}}
 use Rattle.html_flow_places.proofs.named_places.NamedPlaces.add.Goals as goal
 
 pub invariant_of-self-in_default : goal.invariant_of-self-in_default

@@ -1,6 +1,5 @@
-use Rattle.html_names_core.specs.Characters.{is_attr_char}
-use Rattle.html_names_core.specs.Tables.{known_attrs, attr_count}
 use Rattle.html_names_core.proofs.Held.{made, unknown, on_err, attr_long}
+use Rattle.html_names_core.specs.{Characters.{is_attr_char}, Tables.{known_attrs, attr_count}}
 use Rattle.html_names_core.proofs.html_attr.HtmlAttr.make.Goals as goal
 
 pub returns-in_err-make-clause-memory : goal.returns-in_err-make-clause-memory

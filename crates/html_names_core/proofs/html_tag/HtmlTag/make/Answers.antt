@@ -1,6 +1,5 @@
-use Rattle.html_names_core.specs.Characters.{is_tag_char}
-use Rattle.html_names_core.specs.Tables.{known_tags, tag_count}
 use Rattle.html_names_core.proofs.Held.{made, unknown, on_err, tag_long}
+use Rattle.html_names_core.specs.{Characters.{is_tag_char}, Tables.{known_tags, tag_count}}
 use Rattle.html_names_core.proofs.html_tag.HtmlTag.make.Goals as goal
 
 pub returns-in_err-make-clause-memory : goal.returns-in_err-make-clause-memory

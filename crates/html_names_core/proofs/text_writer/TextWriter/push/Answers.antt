@@ -1,5 +1,4 @@
-use Rattle.std.proofs.Common.{ap, ◌∙◌, ◌++◌, ◌∷◌, []}
-use Rattle.std.proofs.lemmas.Str.{IsUtf8-string_bytes}
+use Rattle.std.proofs.{Common.{ap, ◌∙◌, ◌++◌, ◌∷◌, []}, lemmas.Str.{IsUtf8-string_bytes}}
 use Rattle.html_names_core.proofs.Texts.{chars_push}
 use Rattle.html_names_core.proofs.text_writer.TextWriter.push.Goals as goal
 

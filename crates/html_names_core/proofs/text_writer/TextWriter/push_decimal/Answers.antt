@@ -1,7 +1,5 @@
-use Rattle.std.proofs.Common.{ap, ◌∙◌, ◌++◌, chars}
+use Rattle.std.proofs.{Common.{ap, ◌∙◌, ◌++◌, chars}, lemmas.Fmt.{IsAscii-decimal}, lemmas.Str.{IsUtf8-string_bytes, chars-IsAscii}}
 use Rattle.std.specs.Fmt.{decimal}
-use Rattle.std.proofs.lemmas.Fmt.{IsAscii-decimal}
-use Rattle.std.proofs.lemmas.Str.{IsUtf8-string_bytes, chars-IsAscii}
 use Rattle.html_names_core.proofs.Texts.{chars_add}
 use Rattle.html_names_core.proofs.text_writer.TextWriter.push_decimal.Goals as goal
 

@@ -1,8 +1,5 @@
-use Rattle.std.proofs.Common.{ap, ◌∙◌, ◌++◌, chars, false}
-use Rattle.std.specs.Fmt.{digits}
-use Rattle.std.proofs.lemmas.Str.{IsUtf8-string_bytes}
-use Rattle.html_names_core.proofs.Texts.{chars_add}
-use Rattle.html_names_core.proofs.Digits.{chars-digits}
+use Rattle.std.{proofs.Common.{ap, ◌∙◌, ◌++◌, chars, false}, proofs.lemmas.Str.{IsUtf8-string_bytes}, specs.Fmt.{digits}}
+use Rattle.html_names_core.proofs.{Digits.{chars-digits}, Texts.{chars_add}}
 use Rattle.html_names_core.proofs.text_writer.TextWriter.push_hex.Goals as goal
 
 pub returns : goal.returns

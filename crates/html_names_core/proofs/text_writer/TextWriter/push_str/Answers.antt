@@ -1,5 +1,4 @@
-use Rattle.std.proofs.Common.{ap, ◌∙◌, ◌++◌, chars}
-use Rattle.std.proofs.lemmas.Str.{IsUtf8-string_bytes}
+use Rattle.std.proofs.{Common.{ap, ◌∙◌, ◌++◌, chars}, lemmas.Str.{IsUtf8-string_bytes}}
 use Rattle.html_names_core.proofs.Texts.{chars_add}
 use Rattle.html_names_core.proofs.text_writer.TextWriter.push_str.Goals as goal
 

@@ -1,7 +1,5 @@
-use Rattle.std.proofs.Common.{◌∷◌, [], ap, ◌∙◌, ◌++◌, arith}
-use Rattle.std.proofs.lemmas.Str.{IsUtf8-string_bytes}
-use Rattle.html_names_core.specs.Texts.{two_digits}
-use Rattle.html_names_core.proofs.Digits.{chars_two}
+use Rattle.std.proofs.{Common.{◌∷◌, [], ap, ◌∙◌, ◌++◌, arith}, lemmas.Str.{IsUtf8-string_bytes}}
+use Rattle.html_names_core.{proofs.Digits.{chars_two}, specs.Texts.{two_digits}}
 use Rattle.html_names_core.proofs.text_writer.TextWriter.push_two_digits.Goals as goal
 
 pub returns-clause-added : goal.returns-clause-added

@@ -1,6 +1,5 @@
 use Rattle.std.proofs.Common.{ap, ◌∙◌}
-use Rattle.html_names_core.specs.Tables.{known_tags, tag_count}
-use Rattle.html_names_core.proofs.Held.{tag_long}
+use Rattle.html_names_core.{proofs.Held.{tag_long}, specs.Tables.{known_tags, tag_count}}
 use Rattle.html_names_table.proofs.Numberings.{known_where}
 use Rattle.html_names_table.proofs.name_table.NameTable.number_of_tag.Goals as goal
 

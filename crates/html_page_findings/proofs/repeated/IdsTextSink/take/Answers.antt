@@ -1,9 +1,7 @@
 use Rattle.std.proofs.Common.{◌≡◌, true, false, ap, ◌∙◌, rules}
 use Rattle.html_names_core.specs.Texts.{text_view}
 use Rattle.html_links.specs.UsedNames.{used_in}
-use Rattle.html_page_findings.specs.PlacedTexts.{Placed}
-use Rattle.html_page_findings.specs.RepeatedIds.{repeated}
-use Rattle.html_page_findings.proofs.Finds.{passed_again, passed_first}
+use Rattle.html_page_findings.{proofs.Finds.{passed_again, passed_first}, specs.PlacedTexts.{Placed}, specs.RepeatedIds.{repeated}}
 use Rattle.html_page_findings.proofs.repeated.IdsTextSink.take.Goals as goal
 
 pub returns-in_ok-take : goal.returns-in_ok-take

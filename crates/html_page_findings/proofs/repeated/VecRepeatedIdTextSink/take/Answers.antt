@@ -1,8 +1,6 @@
-use Rattle.std.proofs.Common.{ℕ, List, ◌∷◌, ◌++◌, ap, append_assoc}
-use Rattle.std.proofs.lemmas.List.{map-append}
+use Rattle.std.proofs.{Common.{ℕ, List, ◌∷◌, ◌++◌, ap, append_assoc}, lemmas.List.{map-append}}
 use Rattle.html_names_core.specs.Texts.{text_view}
-use Rattle.html_page_findings.specs.Findings.{repeated_view}
-use Rattle.html_page_findings.specs.PlacedTexts.{Placed}
+use Rattle.html_page_findings.specs.{Findings.{repeated_view}, PlacedTexts.{Placed}}
 use Rattle.html_page_findings.proofs.repeated.VecRepeatedIdTextSink.take.Goals as goal
 
 pub returns : goal.returns

@@ -1,7 +1,5 @@
-use Rattle.std.proofs.Common.{ℕ, List, ◌∷◌, ◌++◌, ap, append_assoc}
-use Rattle.std.proofs.lemmas.List.{map-append}
-use Rattle.html_page_nesting.specs.Misnested.{Finding}
-use Rattle.html_page_nesting.specs.MisnestedViews.{findings_view}
+use Rattle.std.proofs.{Common.{ℕ, List, ◌∷◌, ◌++◌, ap, append_assoc}, lemmas.List.{map-append}}
+use Rattle.html_page_nesting.specs.{Misnested.{Finding}, MisnestedViews.{findings_view}}
 use Rattle.html_page_nesting.proofs.finding.VecMisnestedMisnestedSink.take.Goals as goal
 
 pub returns : goal.returns

@@ -1,9 +1,6 @@
-use Rattle.std.proofs.Common.{◌≡◌, ◌++◌, chars, eqb, sym, ap, ◌∙◌, arith}
-use Rattle.std.proofs.StrCases.{chars_of_empty}
-use Rattle.std.proofs.lemmas.Str.{chars_past_char}
+use Rattle.std.proofs.{Common.{◌≡◌, ◌++◌, chars, eqb, sym, ap, ◌∙◌, arith}, StrCases.{chars_of_empty}, lemmas.Str.{chars_past_char}}
 use lib.Utf8.{encode}
-use Rattle.html_page_read.specs.PagePlaces.{place_from}
-use Rattle.html_page_read.proofs.PlaceSteps.{next_reached, none_more, one_more}
+use Rattle.html_page_read.{proofs.PlaceSteps.{next_reached, none_more, one_more}, specs.PagePlaces.{place_from}}
 use Rattle.html_page_read.proofs.place.Places.moved_to.Goals as goal
 
 pub loop-place-preserved : goal.loop-place-preserved

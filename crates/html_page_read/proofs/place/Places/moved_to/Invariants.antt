@@ -1,8 +1,7 @@
 use Rattle.std.proofs.Common.{◌≡◌, chars, length}
 use denote.Text.{Utf8}
 use denote.Shadow.{shadow}
-use Rattle.html_page_read.specs.PagePlaces.{place_at, place_from}
-use Rattle.html_page_read.specs.ReachedPlaces.{IsReached}
+use Rattle.html_page_read.specs.{PagePlaces.{place_at, place_from}, ReachedPlaces.{IsReached}}
 use Rattle.html_page_read.proofs.place.Places.moved_to.Given as goal
 
 abbrev pub invariant-loop-place : goal.invariant-loop-place

@@ -1,10 +1,7 @@
-use Rattle.std.proofs.Common.{◌≡◌, ◌++◌, false, eqb, length, sym, ap, ◌∙◌}
-use Rattle.std.proofs.lemmas.Str.{chars-IsAscii}
+use Rattle.std.proofs.{Common.{◌≡◌, ◌++◌, false, eqb, length, sym, ap, ◌∙◌}, lemmas.Str.{chars-IsAscii}}
 use Rattle.html_dom_tree.specs.Views.{text_view}
 use Rattle.html_text.proofs.Fronts.{common_ascii}
-use Rattle.html_page_read.specs.PageStretches.{in_quotes}
-use Rattle.html_page_read.specs.PageReaderViews.{draft_of, reading_of}
-use Rattle.html_page_read.proofs.PageStretches.{chars_some}
+use Rattle.html_page_read.{proofs.PageStretches.{chars_some}, specs.PageReaderViews.{draft_of, reading_of}, specs.PageStretches.{in_quotes}}
 use Rattle.html_page_read.proofs.reader.Reader.add_value.Goals as goal
 
 pub returns-clause-added : goal.returns-clause-added

@@ -1,10 +1,7 @@
-use Rattle.std.proofs.Common.{◌≡◌, [], chars, sym, ap, ◌∙◌}
-use Rattle.std.proofs.lemmas.Str.{chars-IsAscii}
-use Rattle.html_page_read.specs.PageReaderViews.{reading_of}
-use Rattle.html_page_read.specs.PageTokens.{TagName}
+use Rattle.std.proofs.{Common.{◌≡◌, [], chars, sym, ap, ◌∙◌}, lemmas.Str.{chars-IsAscii}}
+use Rattle.html_page_read.proofs.{Fronts.{small_some}, PageStretches.{chars_some}}
+use Rattle.html_page_read.specs.{PageReaderViews.{reading_of}, PageTokens.{TagName}}
 use Rattle.html_text.proofs.Fronts.{name_ascii}
-use Rattle.html_page_read.proofs.Fronts.{small_some}
-use Rattle.html_page_read.proofs.PageStretches.{chars_some}
 use Rattle.html_page_read.proofs.reader.Reader.begin_tag.Goals as goal
 
 pub returns : goal.returns

@@ -1,7 +1,5 @@
 use Rattle.std.proofs.Common.{◌≡◌, Some, chars, sym, ap, ◌∙◌}
-use Rattle.std.proofs.lemmas.Bool.{not-false}
-use Rattle.std.proofs.lemmas.Option.{IfSome_then}
-use Rattle.std.proofs.lemmas.Str.{chars-IsAscii}
+use Rattle.std.proofs.lemmas.{Bool.{not-false}, Option.{IfSome_then}, Str.{chars-IsAscii}}
 use Rattle.html_names_core.proofs.Basics.{bytes_eq-same}
 use Rattle.html_text.proofs.Fronts.{name_ascii}
 use Rattle.html_page_read.proofs.Fronts.{begins_on}

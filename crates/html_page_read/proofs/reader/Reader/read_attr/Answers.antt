@@ -1,6 +1,5 @@
 use Rattle.std.proofs.Common.{◌≡◌, false, eqb, length, sym, ap, ◌∙◌, arith}
-use Rattle.html_page_read.specs.PageReaderViews.{draft_of, reader_of, state_at}
-use Rattle.html_page_read.proofs.TagFronts.{attr_read}
+use Rattle.html_page_read.{proofs.TagFronts.{attr_read}, specs.PageReaderViews.{draft_of, reader_of, state_at}}
 use Rattle.html_page_read.proofs.reader.Reader.read_attr.Goals as goal
 
 pub begin_value-requires : goal.begin_value-requires

@@ -1,5 +1,4 @@
-use Rattle.html_page_read.specs.PageReaderViews.{reader_of}
-use Rattle.html_page_read.proofs.TagFronts.{own_end_read}
+use Rattle.html_page_read.{proofs.TagFronts.{own_end_read}, specs.PageReaderViews.{reader_of}}
 use Rattle.html_page_read.proofs.reader.Reader.read_end.Goals as goal
 
 pub returns-in_ok-close_own-in-Some-clause-read : goal.returns-in_ok-close_own-in-Some-clause-read

@@ -1,6 +1,5 @@
 use Rattle.std.proofs.Common.{sym, ◌∙◌}
-use Rattle.html_page_read.specs.PageReaderViews.{reader_of}
-use Rattle.html_page_read.proofs.TagFronts.{name_read}
+use Rattle.html_page_read.{proofs.TagFronts.{name_read}, specs.PageReaderViews.{reader_of}}
 use Rattle.html_page_read.proofs.reader.Reader.read_name.Goals as goal
 
 pub returns-clause-read : goal.returns-clause-read

@@ -1,7 +1,6 @@
 use Rattle.std.proofs.Common.{ap, ◌∙◌}
-use Rattle.html_page_read.specs.PageReaderViews.{reader_of, reading_of}
-use Rattle.html_page_read.specs.PageStretches.{in_data}
 use Rattle.html_page_read.proofs.PageStretches.{state_kept, stretch_read}
+use Rattle.html_page_read.specs.{PageReaderViews.{reader_of, reading_of}, PageStretches.{in_data}}
 use Rattle.html_page_read.proofs.reader.Reader.read_stretch.Goals as goal
 
 pub returns-clause-read : goal.returns-clause-read

@@ -1,7 +1,6 @@
 use Rattle.std.proofs.Common.{refl}
 use Rattle.html_dom_tree.specs.Views.{text_view}
-use Rattle.html_page_read.specs.PageReaderViews.{draft_of, reader_of, reading_of}
-use Rattle.html_page_read.proofs.PageStretches.{value_read}
+use Rattle.html_page_read.{proofs.PageStretches.{value_read}, specs.PageReaderViews.{draft_of, reader_of, reading_of}}
 use Rattle.html_page_read.proofs.reader.Reader.read_value.Goals as goal
 
 pub returns-clause-read : goal.returns-clause-read

@@ -1,10 +1,8 @@
-use Rattle.std.proofs.Common.{◌≡◌, Ok, chars, sym, ap, ◌∙◌, subst}
-use Rattle.std.specs.Prelude.{if◌then◌else◌}
+use Rattle.std.{proofs.Common.{◌≡◌, Ok, chars, sym, ap, ◌∙◌, subst}, specs.Prelude.{if◌then◌else◌}}
 use Rattle.html_dom_tree.specs.Views.{text_view}
 use Rattle.html_page_stack.specs.Pages.{◌next◌}
-use Rattle.html_page_read.specs.Endings.{Moves}
+use Rattle.html_page_read.specs.{Endings.{Moves}, PageReaderViews.{holder_at, reader_of, reading_of, resolved_of}}
 use Rattle.html_page_read.specs.PageTokens.{erring_some, reference_erring, reference_read, resolved_read, text_read}
-use Rattle.html_page_read.specs.PageReaderViews.{holder_at, reader_of, reading_of, resolved_of}
 use Rattle.html_page_read.proofs.reader.Reader.take_reference.Goals as goal
 
 pub returns : goal.returns

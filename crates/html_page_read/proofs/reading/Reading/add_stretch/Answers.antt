@@ -1,8 +1,6 @@
-use Rattle.std.proofs.Common.{◌≡◌, ◌+◌, ◌-◌, ◌++◌, false, eqb, length, sym, ap, ◌∙◌}
-use Rattle.std.proofs.lemmas.Str.{chars-IsAscii}
+use Rattle.std.proofs.{Common.{◌≡◌, ◌+◌, ◌-◌, ◌++◌, false, eqb, length, sym, ap, ◌∙◌}, lemmas.Str.{chars-IsAscii}}
 use Rattle.html_text.proofs.Fronts.{common_ascii}
-use Rattle.html_page_read.specs.PageReaderViews.{reading_of}
-use Rattle.html_page_read.proofs.PageStretches.{grown, stretch_some}
+use Rattle.html_page_read.{proofs.PageStretches.{grown, stretch_some}, specs.PageReaderViews.{reading_of}}
 use Rattle.html_page_read.proofs.reading.Reading.add_stretch.Goals as goal
 
 pub returns-clause-added : goal.returns-clause-added

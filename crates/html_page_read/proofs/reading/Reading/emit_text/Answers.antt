@@ -1,13 +1,8 @@
-use Rattle.std.proofs.Common.{chars, sym, ap, ◌∙◌, subst}
+use Rattle.std.proofs.{Common.{chars, sym, ap, ◌∙◌, subst}, StrCases.{chars_of_empty}}
+use Rattle.std.proofs.lemmas.{Result.{err_from_is_err_and}, Str.{IsUtf8-past_char, chars_past_char}}
 use Rattle.std.specs.Str.Iter.{chars_rest}
-use Rattle.std.proofs.StrCases.{chars_of_empty}
-use Rattle.std.proofs.lemmas.Result.{err_from_is_err_and}
-use Rattle.std.proofs.lemmas.Str.{IsUtf8-past_char, chars_past_char}
-use Rattle.html_page_stack.specs.Endings.{IsHalt}
-use Rattle.html_page_stack.specs.Pages.{◌next◌}
-use Rattle.html_page_read.specs.PageTokens.{char_emitted, chars_emitted}
-use Rattle.html_page_read.specs.PageReaderViews.{reading_of}
-use Rattle.html_page_read.proofs.Halts.{halt_next}
+use Rattle.html_page_stack.specs.{Endings.{IsHalt}, Pages.{◌next◌}}
+use Rattle.html_page_read.{proofs.Halts.{halt_next}, specs.PageReaderViews.{reading_of}, specs.PageTokens.{char_emitted, chars_emitted}}
 use Rattle.html_page_read.proofs.reading.Reading.emit_text.Goals as goal
 
 pub returns-in_err-emit_char : goal.returns-in_err-emit_char

@@ -1,7 +1,5 @@
-use Rattle.std.proofs.Common.{◌≡◌, IsUtf8, chars}
-use Rattle.std.specs.Str.Iter.{chars_rest}
-use Rattle.html_page_read.specs.PageTokens.{chars_emitted}
-use Rattle.html_page_read.specs.PageReaderViews.{reading_of}
+use Rattle.std.{proofs.Common.{◌≡◌, IsUtf8, chars}, specs.Str.Iter.{chars_rest}}
+use Rattle.html_page_read.specs.{PageReaderViews.{reading_of}, PageTokens.{chars_emitted}}
 use Rattle.html_page_read.proofs.reading.Reading.emit_text.Given as goal
 
 abbrev pub invariant-loop-c : goal.invariant-loop-c

@@ -1,12 +1,7 @@
-use Rattle.std.proofs.Common.{◌≡◌, false, true, eqb, length, [], sym, ap, ◌∙◌, string_bytes}
-use Rattle.std.proofs.StrCases.{chars_of_empty}
-use Rattle.std.proofs.lemmas.Bool.{eqb-true}
-use Rattle.std.proofs.lemmas.Str.{IsUtf8-string_bytes}
-use Rattle.html_dom_tree.specs.Tree.{with_node}
-use Rattle.html_dom_tree.specs.Views.{element_view, text_view}
-use Rattle.html_page_stack.specs.OpenElements.{with_text}
-use Rattle.html_page_stack.specs.PageViews.{element_of}
-use Rattle.html_page_stack.proofs.Children.{some_text}
+use Rattle.std.proofs.{Common.{◌≡◌, false, true, eqb, length, [], sym, ap, ◌∙◌, string_bytes}, StrCases.{chars_of_empty}}
+use Rattle.std.proofs.lemmas.{Bool.{eqb-true}, Str.{IsUtf8-string_bytes}}
+use Rattle.html_dom_tree.specs.{Tree.{with_node}, Views.{element_view, text_view}}
+use Rattle.html_page_stack.{proofs.Children.{some_text}, specs.OpenElements.{with_text}, specs.PageViews.{element_of}}
 use Rattle.html_page_stack.proofs.element.PageElement.with_text.Goals as goal
 
 pub returns-then-is_empty-clause-grown : goal.returns-then-is_empty-clause-grown

@@ -1,6 +1,5 @@
 use Rattle.std.proofs.Common.{◌≡◌, ◌-◌}
-use Rattle.html_page_stack.specs.PageViews.{page_of, while_test}
-use Rattle.html_page_stack.specs.Pages.{closed_while}
+use Rattle.html_page_stack.specs.{PageViews.{page_of, while_test}, Pages.{closed_while}}
 use Rattle.html_page_stack.proofs.page.Page.close_while.Given as goal
 
 abbrev pub invariant-loop-count : goal.invariant-loop-count

@@ -1,9 +1,6 @@
-use Rattle.std.proofs.Common.{◌≡◌, true, eqb, length, [], sym, ◌∙◌, string_bytes}
-use Rattle.std.proofs.StrCases.{chars_of_empty}
-use Rattle.std.proofs.lemmas.Bool.{eqb-true}
+use Rattle.std.proofs.{Common.{◌≡◌, true, eqb, length, [], sym, ◌∙◌, string_bytes}, StrCases.{chars_of_empty}, lemmas.Bool.{eqb-true}}
 use Rattle.html_dom_tree.specs.Views.{text_view}
-use Rattle.html_page_stack.specs.PageViews.{page_of}
-use Rattle.html_page_stack.proofs.Stacks.{settled_none}
+use Rattle.html_page_stack.{proofs.Stacks.{settled_none}, specs.PageViews.{page_of}}
 use Rattle.html_page_stack.proofs.page.Page.settle.Goals as goal
 
 pub returns-then-is_empty : goal.returns-then-is_empty

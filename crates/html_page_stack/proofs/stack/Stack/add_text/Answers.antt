@@ -1,8 +1,7 @@
 use Rattle.std.proofs.Common.{◌∷◌, sym, ap, ◌∙◌, subst}
 use Rattle.html_dom_tree.specs.Views.{text_view}
-use Rattle.html_page_stack.specs.Contexts.{AreKnown, context}
-use Rattle.html_page_stack.specs.ElementViews.{element_of, list_of}
 use Rattle.html_page_stack.proofs.Contexts.{last_known, text_keeps}
+use Rattle.html_page_stack.specs.{Contexts.{AreKnown, context}, ElementViews.{element_of, list_of}}
 use Rattle.html_page_stack.proofs.stack.Stack.add_text.Goals as goal
 
 pub put-requires : goal.put-requires

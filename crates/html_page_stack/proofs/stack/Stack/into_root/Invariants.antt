@@ -1,6 +1,5 @@
 use Rattle.std.proofs.Common.{◌≡◌, ◌∷◌, vec_len}
-use Rattle.html_page_stack.specs.OpenElements.{root_of}
-use Rattle.html_page_stack.specs.PageViews.{element_of, list_of, stack_of}
+use Rattle.html_page_stack.specs.{OpenElements.{root_of}, PageViews.{element_of, list_of, stack_of}}
 use Rattle.html_page_stack.proofs.stack.Stack.into_root.Given as goal
 
 abbrev pub invariant-loop-parent : goal.invariant-loop-parent

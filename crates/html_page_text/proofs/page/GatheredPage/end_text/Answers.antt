@@ -1,9 +1,6 @@
-use Rattle.std.proofs.Common.{◌≡◌, [], true, false, ◌++◌, eqb, length, refl, sym, ap, ◌∙◌}
-use Rattle.std.proofs.StrCases.{chars_of_empty}
+use Rattle.std.proofs.{Common.{◌≡◌, [], true, false, ◌++◌, eqb, length, refl, sym, ap, ◌∙◌}, StrCases.{chars_of_empty}}
 use Rattle.std.proofs.lemmas.Bool.{eqb-true}
-use Rattle.html_page_text.specs.PageViews.{parts_view}
-use Rattle.html_page_text.specs.Parts.{text_part}
-use Rattle.html_page_text.proofs.Parts.{one_part, no_text, one_text}
+use Rattle.html_page_text.{proofs.Parts.{one_part, no_text, one_text}, specs.PageViews.{parts_view}, specs.Parts.{text_part}}
 use Rattle.html_page_text.proofs.page.GatheredPage.end_text.Goals as goal
 
 pub returns-then-is_empty : goal.returns-then-is_empty

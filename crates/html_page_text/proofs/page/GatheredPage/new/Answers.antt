@@ -1,6 +1,5 @@
 use Rattle.std.proofs.Common.{false, refl, ap}
-use Rattle.html_page_text.specs.PageViews.{parts_view}
-use Rattle.html_page_text.proofs.Gathering.{page_is}
+use Rattle.html_page_text.{proofs.Gathering.{page_is}, specs.PageViews.{parts_view}}
 use Rattle.html_page_text.proofs.page.GatheredPage.new.Goals as goal
 
 pub returns : goal.returns

@@ -1,7 +1,5 @@
 use Rattle.std.proofs.Common.{[], ◌∷◌, ◌++◌, refl, ap, ◌∙◌}
-use Rattle.html_page_text.specs.PageViews.{part_view}
-use Rattle.html_page_text.proofs.Gathering.{page_is}
-use Rattle.html_page_text.proofs.Parts.{one_part}
+use Rattle.html_page_text.{proofs.Gathering.{page_is}, proofs.Parts.{one_part}, specs.PageViews.{part_view}}
 use Rattle.html_page_text.proofs.page.GatheredPage.push_part.Goals as goal
 
 pub returns : goal.returns

@@ -1,10 +1,7 @@
-use Rattle.std.proofs.Common.{◌≡◌, [], false, true, eqb, length, ◌++◌, map, sym, ap, ◌∙◌}
-use Rattle.std.proofs.StrCases.{chars_of_empty}
+use Rattle.std.proofs.{Common.{◌≡◌, [], false, true, eqb, length, ◌++◌, map, sym, ap, ◌∙◌}, StrCases.{chars_of_empty}}
 use Rattle.std.proofs.lemmas.Bool.{eqb-true}
 use Rattle.html_dom_shown.specs.Collapsing.{char}
-use Rattle.html_page_text.specs.Gathering.{with_pieces}
-use Rattle.html_page_text.specs.PageViews.{page_view}
-use Rattle.html_page_text.proofs.Gathering.{page_of, text_added}
+use Rattle.html_page_text.{proofs.Gathering.{page_of, text_added}, specs.Gathering.{with_pieces}, specs.PageViews.{page_view}}
 use Rattle.html_page_text.proofs.page.GatheredPage.push_text.Goals as goal
 
 pub returns-then-is_empty : goal.returns-then-is_empty

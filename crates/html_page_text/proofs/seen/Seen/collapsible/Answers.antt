@@ -1,10 +1,8 @@
 use Rattle.std.proofs.Common.{◌≡◌, sym, ap, ◌∙◌}
 use Rattle.html_dom_shown.specs.Collapsing.{collapsible}
-use Rattle.html_page_text.specs.Gathering.{with_pieces, blank, step}
-use Rattle.html_page_text.specs.PageViews.{before_view, page_view}
+use Rattle.html_page_text.proofs.{Gathering.{seen_of}, Held.{none_held}}
+use Rattle.html_page_text.specs.{Gathering.{with_pieces, blank, step}, PageViews.{before_view, page_view}}
 use Rattle.html_page_text.specs.declared.seen.Before.TheVariants.{Support}
-use Rattle.html_page_text.proofs.Gathering.{seen_of}
-use Rattle.html_page_text.proofs.Held.{none_held}
 use Rattle.html_page_text.proofs.seen.Seen.collapsible.Goals as goal
 
 pub returns-in-Support : goal.returns-in-Support

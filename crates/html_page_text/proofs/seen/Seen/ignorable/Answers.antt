@@ -1,10 +1,8 @@
 use Rattle.std.proofs.Common.{◌≡◌, sym, ap, ◌∙◌}
 use Rattle.html_dom_shown.specs.Collapsing.{ignorable}
-use Rattle.html_page_text.specs.Gathering.{with_pieces, blank, step}
-use Rattle.html_page_text.specs.PageViews.{before_view, page_view}
+use Rattle.html_page_text.proofs.{Gathering.{seen_of}, Held.{ignorable_seen}}
+use Rattle.html_page_text.specs.{Gathering.{with_pieces, blank, step}, PageViews.{before_view, page_view}}
 use Rattle.html_page_text.specs.declared.seen.Before.TheVariants.{Blank}
-use Rattle.html_page_text.proofs.Gathering.{seen_of}
-use Rattle.html_page_text.proofs.Held.{ignorable_seen}
 use Rattle.html_page_text.proofs.seen.Seen.ignorable.Goals as goal
 
 pub returns-in-Blank : goal.returns-in-Blank

@@ -1,8 +1,6 @@
 use Rattle.std.proofs.Common.{true}
 use Rattle.html_dom_shown.specs.Collapsing.{thing}
-use Rattle.html_page_text.specs.Gathering.{released}
-use Rattle.html_page_text.specs.PageViews.{before_view, page_view}
-use Rattle.html_page_text.proofs.Gathering.{one_behind, seen_is}
+use Rattle.html_page_text.{proofs.Gathering.{one_behind, seen_is}, specs.Gathering.{released}, specs.PageViews.{before_view, page_view}}
 use Rattle.html_page_text.proofs.seen.Seen.object.Goals as goal
 
 pub returns : goal.returns

@@ -1,9 +1,7 @@
 use Rattle.std.proofs.Common.{◌≡◌, true, map, sym, ap, ◌∙◌}
 use Rattle.html_dom_shown.specs.Collapsing.{char}
-use Rattle.html_page_text.specs.Gathering.{with_pieces, released}
-use Rattle.html_page_text.specs.PageViews.{before_view, page_view}
+use Rattle.html_page_text.{proofs.Held.{none_released}, specs.Gathering.{with_pieces, released}, specs.PageViews.{before_view, page_view}}
 use Rattle.html_page_text.specs.declared.seen.Before.TheVariants.{Blank}
-use Rattle.html_page_text.proofs.Held.{none_released}
 use Rattle.html_page_text.proofs.seen.Seen.supported.Goals as goal
 
 pub returns-in_ok-push_text-clause-page : goal.returns-in_ok-push_text-clause-page

@@ -1,11 +1,8 @@
-use Rattle.std.proofs.Common.{◌≡◌, ◌++◌, chars, sym, ap, ◌∙◌}
+use Rattle.std.proofs.{Common.{◌≡◌, ◌++◌, chars, sym, ap, ◌∙◌}, StrCases.{chars_of_empty}, lemmas.Str.{chars_past_char, IsUtf8-past_char}}
 use Rattle.std.specs.Str.Iter.{chars_rest}
-use Rattle.std.proofs.StrCases.{chars_of_empty}
-use Rattle.std.proofs.lemmas.Str.{chars_past_char, IsUtf8-past_char}
 use lib.Utf8.{encode}
 use Rattle.html_dom_shown.specs.Collapsing.{text_atoms}
-use Rattle.html_page_text.specs.Gathering.{run}
-use Rattle.html_page_text.specs.PageViews.{seen_view}
+use Rattle.html_page_text.specs.{Gathering.{run}, PageViews.{seen_view}}
 use Rattle.html_page_text.proofs.seen.Seen.text.Goals as goal
 
 pub loop-c-preserved : goal.loop-c-preserved

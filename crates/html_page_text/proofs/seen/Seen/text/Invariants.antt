@@ -1,8 +1,6 @@
-use Rattle.std.proofs.Common.{◌≡◌, chars, IsUtf8}
-use Rattle.std.specs.Str.Iter.{chars_rest}
+use Rattle.std.{proofs.Common.{◌≡◌, chars, IsUtf8}, specs.Str.Iter.{chars_rest}}
 use Rattle.html_dom_shown.specs.Collapsing.{text_atoms}
-use Rattle.html_page_text.specs.Gathering.{run}
-use Rattle.html_page_text.specs.PageViews.{seen_view}
+use Rattle.html_page_text.specs.{Gathering.{run}, PageViews.{seen_view}}
 use Rattle.html_page_text.proofs.seen.Seen.text.Given as goal
 
 abbrev pub invariant-loop-c : goal.invariant-loop-c

@@ -1,7 +1,5 @@
 use Rattle.std.proofs.Common.{false, sym, ap, ◌∙◌}
-use Rattle.html_page_text.specs.Gathering.{with_pieces}
-use Rattle.html_page_text.specs.PageViews.{before_view, page_view}
-use Rattle.html_page_text.proofs.Held.{none_released}
+use Rattle.html_page_text.{proofs.Held.{none_released}, specs.Gathering.{with_pieces}, specs.PageViews.{before_view, page_view}}
 use Rattle.html_page_text.proofs.seen.Seen.unsupported.Goals as goal
 
 pub returns-in_default : goal.returns-in_default

@@ -1,6 +1,4 @@
-use Rattle.std.proofs.Common.{take}
-use Rattle.std.specs.Fmt.{HasWritten, IsPlainFormatter}
-use Rattle.std.specs.List.{flat_map}
+use Rattle.std.{proofs.Common.{take}, specs.Fmt.{HasWritten, IsPlainFormatter}, specs.List.{flat_map}}
 use Rattle.html_page_text.specs.PlainTexts.{part_bytes}
 use Rattle.html_page_text.proofs.shown.PageTextDisplay.fmt.Given as goal
 

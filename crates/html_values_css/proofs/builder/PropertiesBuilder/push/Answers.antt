@@ -1,7 +1,5 @@
-use Rattle.std.proofs.Common.{ap}
-use Rattle.std.proofs.lemmas.Result.{err_from_is_err_and}
-use Rattle.html_values_css.specs.Sink.{TakesWarning}
-use Rattle.html_values_css.proofs.Giving.{given_on, refused_on, given_empty}
+use Rattle.std.proofs.{Common.{ap}, lemmas.Result.{err_from_is_err_and}}
+use Rattle.html_values_css.{proofs.Giving.{given_on, refused_on, given_empty}, specs.Sink.{TakesWarning}}
 use Rattle.html_values_css.proofs.builder.PropertiesBuilder.push.Goals as goal
 
 pub returns-in_err-pass_on-clause-given : goal.returns-in_err-pass_on-clause-given

@@ -1,8 +1,5 @@
-use Rattle.std.proofs.Common.{string_bytes, []}
-use Rattle.std.proofs.lemmas.Str.{IsUtf8-had, IsUtf8-string_bytes}
-use Rattle.html_values_css.specs.Sums.{sum_end}
-use Rattle.html_values_css.specs.Writer.{writer_state}
-use Rattle.html_values_css.proofs.Places.{kept_front, kept_within, emits_whole}
+use Rattle.std.proofs.{Common.{string_bytes, []}, lemmas.Str.{IsUtf8-had, IsUtf8-string_bytes}}
+use Rattle.html_values_css.{proofs.Places.{kept_front, kept_within, emits_whole}, specs.Sums.{sum_end}, specs.Writer.{writer_state}}
 use Rattle.html_values_css.proofs.calc.Calc.finish.Goals as goal
 
 pub invariant_of-self : goal.invariant_of-self

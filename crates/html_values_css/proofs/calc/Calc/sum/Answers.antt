@@ -1,5 +1,4 @@
-use Rattle.std.proofs.Common.{string_bytes}
-use Rattle.std.proofs.lemmas.Str.{IsUtf8-had}
+use Rattle.std.proofs.{Common.{string_bytes}, lemmas.Str.{IsUtf8-had}}
 use Rattle.html_values_css.proofs.Places.{begins_before}
 use Rattle.html_values_css.proofs.calc.Calc.sum.Goals as goal
 

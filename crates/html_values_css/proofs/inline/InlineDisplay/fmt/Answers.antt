@@ -1,6 +1,5 @@
 use Rattle.std.proofs.Common.{◌≡◌, ◌++◌, codes, take, string_bytes, refl, ◌∙◌, sym, append_assoc, arith}
-use Rattle.std.proofs.lemmas.List.{take_all}
-use Rattle.std.proofs.lemmas.Grind.{put_four}
+use Rattle.std.proofs.lemmas.{Grind.{put_four}, List.{take_all}}
 use Rattle.html_values_css.proofs.Styles.{following_bytes, inline_is}
 use Rattle.html_values_css.proofs.inline.InlineDisplay.fmt.Goals as goal
 

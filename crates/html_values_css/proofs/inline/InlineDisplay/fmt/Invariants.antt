@@ -1,5 +1,4 @@
-use Rattle.std.proofs.Common.{take}
-use Rattle.std.specs.Fmt.{HasWritten, IsPlainFormatter}
+use Rattle.std.{proofs.Common.{take}, specs.Fmt.{HasWritten, IsPlainFormatter}}
 use Rattle.html_values_css.proofs.Styles.{following_bytes}
 use Rattle.html_values_css.proofs.inline.InlineDisplay.fmt.Given as goal
 

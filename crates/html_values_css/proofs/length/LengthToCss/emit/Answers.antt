@@ -1,8 +1,6 @@
 use Rattle.std.proofs.Common.{rules, [], ◌∷◌}
-use Rattle.html_values_css.specs.Quantities.{em_text, abs_text}
-use Rattle.html_values_css.specs.Sums.{quantity_part}
-use Rattle.html_values_css.specs.Writer.{writer_state}
 use Rattle.html_values_css.proofs.Summing.{begun, going, done, never_warns}
+use Rattle.html_values_css.specs.{Quantities.{em_text, abs_text}, Sums.{quantity_part}, Writer.{writer_state}}
 use Rattle.html_values_css.proofs.length.LengthToCss.emit.Goals as goal
 
 pub returns : goal.returns

@@ -1,9 +1,7 @@
-use Rattle.std.proofs.Common.{rules, [], ◌∷◌}
-use Rattle.std.proofs.lemmas.Result.{err_from_is_err_and}
-use Rattle.html_values_css.specs.Quantities.{ratio_text, em_text, abs_text}
-use Rattle.html_values_css.specs.Sums.{quantity_part, rel_text}
-use Rattle.html_values_css.specs.Writer.{writer_state, text_of}
+use Rattle.std.proofs.{Common.{rules, [], ◌∷◌}, lemmas.Result.{err_from_is_err_and}}
 use Rattle.html_values_css.proofs.Summing.{begun, going, done, broken, never_warns}
+use Rattle.html_values_css.specs.{Quantities.{ratio_text, em_text, abs_text}, Sums.{quantity_part, rel_text}}
+use Rattle.html_values_css.specs.Writer.{writer_state, text_of}
 use Rattle.html_values_css.proofs.length.RelToCss.emit.Goals as goal
 
 pub returns-in_err-sum-3 : goal.returns-in_err-sum-3

@@ -1,6 +1,5 @@
 use Rattle.std.proofs.Common.{◌≡◌, ap, ◌∙◌, chars, string_bytes, rules}
-use Rattle.html_values_css.specs.Colors.{color_text}
-use Rattle.html_values_css.proofs.Colors.{color_chars}
+use Rattle.html_values_css.{proofs.Colors.{color_chars}, specs.Colors.{color_text}}
 use Rattle.html_values_css.proofs.paint.Rgba.hex.Goals as goal
 
 pub returns : goal.returns

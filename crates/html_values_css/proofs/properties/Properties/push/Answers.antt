@@ -1,7 +1,6 @@
 use Rattle.std.proofs.Common.{chars}
 use Rattle.html_names_core.specs.Texts.{text_view}
-use Rattle.html_values_css.specs.Properties.{items_of, list_view}
-use Rattle.html_values_css.proofs.Names.{put_listed}
+use Rattle.html_values_css.{proofs.Names.{put_listed}, specs.Properties.{items_of, list_view}}
 use Rattle.html_values_css.proofs.properties.Properties.push.Goals as goal
 
 pub invariant_of-self : goal.invariant_of-self

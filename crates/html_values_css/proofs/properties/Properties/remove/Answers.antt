@@ -1,6 +1,5 @@
 use Rattle.std.proofs.Common.{chars}
-use Rattle.html_values_css.specs.Properties.{items_of, list_view}
-use Rattle.html_values_css.proofs.Names.{out_listed}
+use Rattle.html_values_css.{proofs.Names.{out_listed}, specs.Properties.{items_of, list_view}}
 use Rattle.html_values_css.proofs.properties.Properties.remove.Goals as goal
 
 pub invariant_of-self : goal.invariant_of-self

@@ -1,5 +1,4 @@
-use Rattle.std.proofs.Common.{ap, ◌∙◌}
-use Rattle.std.specs.Hash.{fed_along}
+use Rattle.std.{proofs.Common.{ap, ◌∙◌}, specs.Hash.{fed_along}}
 use Rattle.html_names_core.specs.Hashes.{pairs_writes}
 use Rattle.html_values_css.proofs.Equals.{list_hashed}
 use Rattle.html_values_css.proofs.properties.PropertiesHash.hash.Goals as goal

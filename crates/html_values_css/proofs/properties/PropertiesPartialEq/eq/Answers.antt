@@ -1,5 +1,4 @@
-use Rattle.html_names_core.specs.Equal.{pairs_discrete}
-use Rattle.html_names_core.proofs.Equals.{same_result}
+use Rattle.html_names_core.{proofs.Equals.{same_result}, specs.Equal.{pairs_discrete}}
 use Rattle.html_values_css.proofs.properties.PropertiesPartialEq.eq.Goals as goal
 
 pub returns : goal.returns

@@ -1,9 +1,6 @@
 use Rattle.std.proofs.Common.{ℕ, List, subst}
-use Rattle.html_values_css.specs.Calc.{written_from, part_of, with_opening}
-use Rattle.html_values_css.specs.Sink.{TakesWarning}
-use Rattle.html_values_css.specs.Sums.{part_warnings}
-use Rattle.html_values_css.specs.Writer.{SumsUp}
 use Rattle.html_values_css.proofs.Places.{Adds-then, with_appended}
+use Rattle.html_values_css.specs.{Calc.{written_from, part_of, with_opening}, Sink.{TakesWarning}, Sums.{part_warnings}, Writer.{SumsUp}}
 use Rattle.html_values_css.proofs.writer.CssWriter.add_part.Goals as goal
 
 pub open_sum-requires-clause-seam : goal.open_sum-requires-clause-seam

@@ -1,7 +1,5 @@
-use Rattle.std.proofs.Common.{string_bytes}
-use Rattle.std.proofs.lemmas.Str.{IsUtf8-string_bytes, IsUtf8-had}
-use Rattle.html_values_css.specs.Writer.{writer_state}
-use Rattle.html_values_css.proofs.Places.{kept_front, kept_within, emits_from}
+use Rattle.std.proofs.{Common.{string_bytes}, lemmas.Str.{IsUtf8-string_bytes, IsUtf8-had}}
+use Rattle.html_values_css.{proofs.Places.{kept_front, kept_within, emits_from}, specs.Writer.{writer_state}}
 use Rattle.html_values_css.proofs.writer.CssWriter.append_from.Goals as goal
 
 pub returns-clause-keeps : goal.returns-clause-keeps

@@ -1,6 +1,5 @@
 use Rattle.std.proofs.Common.{ap, ℕ, List, length, string_bytes}
-use Rattle.html_values_css.specs.Writer.{writer_state}
-use Rattle.html_values_css.proofs.Places.{nothing_after}
+use Rattle.html_values_css.{proofs.Places.{nothing_after}, specs.Writer.{writer_state}}
 use Rattle.html_values_css.proofs.writer.CssWriter.calc.Goals as goal
 
 pub returns-clause-nothing : goal.returns-clause-nothing

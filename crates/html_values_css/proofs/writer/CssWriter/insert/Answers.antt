@@ -1,5 +1,4 @@
-use Rattle.std.proofs.Common.{string_bytes}
-use Rattle.std.proofs.lemmas.Str.{IsCharBoundary-from_take, IsUtf8-had}
+use Rattle.std.proofs.{Common.{string_bytes}, lemmas.Str.{IsCharBoundary-from_take, IsUtf8-had}}
 use Rattle.html_values_css.proofs.writer.CssWriter.insert.Goals as goal
 
 pub insert_str-requires : goal.insert_str-requires

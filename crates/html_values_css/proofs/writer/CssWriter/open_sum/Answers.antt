@@ -1,7 +1,5 @@
 use Rattle.std.proofs.Common.{◌≡◌, string_bytes, rules}
-use Rattle.html_values_css.specs.Calc.{written_from}
-use Rattle.html_values_css.specs.Sums.{One}
-use Rattle.html_values_css.proofs.Places.{after_opening, opens}
+use Rattle.html_values_css.{proofs.Places.{after_opening, opens}, specs.Calc.{written_from}, specs.Sums.{One}}
 use Rattle.html_values_css.proofs.writer.CssWriter.open_sum.Goals as goal
 
 pub returns-in_ok-insert-clause-adds : goal.returns-in_ok-insert-clause-adds

@@ -1,7 +1,5 @@
-use Rattle.std.proofs.Common.{refl, string_bytes}
-use Rattle.std.proofs.lemmas.Str.{IsUtf8-string_bytes}
-use Rattle.html_values_css.specs.Writer.{writer_state}
-use Rattle.html_values_css.proofs.Emitting.{pushed}
+use Rattle.std.proofs.{Common.{refl, string_bytes}, lemmas.Str.{IsUtf8-string_bytes}}
+use Rattle.html_values_css.{proofs.Emitting.{pushed}, specs.Writer.{writer_state}}
 use Rattle.html_values_css.proofs.writer.CssWriter.write.Goals as goal
 
 pub returns : goal.returns

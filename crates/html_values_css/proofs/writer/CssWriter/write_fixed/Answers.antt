@@ -1,6 +1,5 @@
 use Rattle.std.proofs.Common.{◌≡◌, rules, ap, ◌∙◌, chars, string_bytes}
-use Rattle.html_values_css.specs.Quantities.{fixed_text}
-use Rattle.html_values_css.proofs.Digits.{fixed_chars}
+use Rattle.html_values_css.{proofs.Digits.{fixed_chars}, specs.Quantities.{fixed_text}}
 use Rattle.html_values_css.proofs.writer.CssWriter.write_fixed.Goals as goal
 
 pub returns : goal.returns

@@ -1,11 +1,9 @@
 use Rattle.std.proofs.Common.{◌≡◌, ◌++◌, ◌∷◌, true, ap, ◌∙◌, refl, string_bytes}
-use Rattle.serde_json.specs.View.{items_of}
-use Rattle.serde_json.specs.Written.{compact_text, items_text}
+use Rattle.serde_json.specs.{View.{items_of}, Written.{compact_text, items_text}}
 use Rattle.html_page_findings.specs.PlacedTexts.{Placed}
 use Rattle.html_dom_tree.specs.Views.{text_view}
-use Rattle.typst_html_ffi.specs.FindingLists.{finding, finding_data, findings_behind, where_behind}
-use Rattle.typst_html_ffi.specs.PageSteps.{place_in, text_with}
 use Rattle.typst_html_ffi.proofs.Pages.{one_more_item, text_written}
+use Rattle.typst_html_ffi.specs.{FindingLists.{finding, finding_data, findings_behind, where_behind}, PageSteps.{place_in, text_with}}
 use Rattle.typst_html_ffi.proofs.lists.FindingListTextSink.take.Goals as goal
 
 pub returns : goal.returns

@@ -1,13 +1,10 @@
 use Rattle.std.proofs.Common.{◌≡◌, ◌++◌, ◌∷◌, true, ap, ◌∙◌, refl, string_bytes}
-use Rattle.serde_json.specs.View.{items_of}
-use Rattle.serde_json.specs.Written.{compact_text, items_text}
+use Rattle.serde_json.specs.{View.{items_of}, Written.{compact_text, items_text}}
 use Rattle.html_page_nesting.specs.Misnested.{Finding}
 use Rattle.html_page_read.specs.PlaceViews.{text_of}
-use Rattle.typst_html_ffi.specs.MisnestedNodes.{misnested_behind, misnested_node, node_data}
+use Rattle.typst_html_ffi.proofs.{Pages.{one_more_item}, TextPieces.{appended}}
+use Rattle.typst_html_ffi.specs.{LongTexts.{text_bytes}, MisnestedNodes.{misnested_behind, misnested_node, node_data}}
 use Rattle.typst_html_ffi.specs.PageSteps.{text_with_nodes}
-use Rattle.typst_html_ffi.specs.LongTexts.{text_bytes}
-use Rattle.typst_html_ffi.proofs.Pages.{one_more_item}
-use Rattle.typst_html_ffi.proofs.TextPieces.{appended}
 use Rattle.typst_html_ffi.proofs.misnested.NodeListMisnestedSink.take.Goals as goal
 
 pub returns : goal.returns

@@ -1,6 +1,5 @@
 use Rattle.std.proofs.Common.{ap, ◌∙◌}
-use Rattle.typst_html_ffi.proofs.TextPieces.{with_last_piece}
-use Rattle.typst_html_ffi.specs.LongTexts.{pieces_bytes}
+use Rattle.typst_html_ffi.{proofs.TextPieces.{with_last_piece}, specs.LongTexts.{pieces_bytes}}
 use Rattle.typst_html_ffi.proofs.pieces.LongText.into_pieces.Goals as goal
 
 pub returns : goal.returns

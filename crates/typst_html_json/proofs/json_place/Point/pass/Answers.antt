@@ -1,8 +1,7 @@
 use Rattle.std.proofs.Common.{◌≡◌, ◌∷◌, [], ◌++◌, ◌-◌, suc, take, Some, None, sym, ap, ◌∙◌, rules}
-use Rattle.typst_html_json.specs.JsonPlaces.{begun, innermost_of, move_at}
-use Rattle.typst_html_json.specs.declared.json_stage.Move.TheVariants.{GoOn, Open, Close}
-use Rattle.typst_html_json.specs.declared.json_stage.Stage.TheVariants.{Behind}
 use Rattle.typst_html_json.proofs.JsonPlaces.{closes, goes_not, goes_on, opens, opens_not}
+use Rattle.typst_html_json.specs.{JsonPlaces.{begun, innermost_of, move_at}, declared.json_stage.Move.TheVariants.{GoOn, Open, Close}}
+use Rattle.typst_html_json.specs.declared.json_stage.Stage.TheVariants.{Behind}
 use Rattle.typst_html_json.proofs.json_place.Point.pass.Goals as goal
 
 pub returns-in-None : goal.returns-in-None

@@ -1,5 +1,4 @@
-use Rattle.std.proofs.Common.{◌≡◌}
-use Rattle.std.specs.Vec.Iter.{into_iter_items}
+use Rattle.std.{proofs.Common.{◌≡◌}, specs.Vec.Iter.{into_iter_items}}
 use Rattle.serde_json.specs.View.{view, items_view}
 use Rattle.typst_html_json.specs.SpelledItems.{css_at, with_css}
 use Rattle.typst_html_json.proofs.reader.Reader.css.Given as goal

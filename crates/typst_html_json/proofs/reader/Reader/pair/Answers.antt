@@ -1,8 +1,7 @@
 use Rattle.std.proofs.Common.{refl}
 use Rattle.html_dom_tree.specs.Views.{text_view}
 use Rattle.html_names_core.specs.Names.{attr_fault}
-use Rattle.typst_html_json.proofs.Readings.{read_mapped}
-use Rattle.typst_html_json.specs.NameRefusals.{refusals}
+use Rattle.typst_html_json.{proofs.Readings.{read_mapped}, specs.NameRefusals.{refusals}}
 use Rattle.typst_html_json.proofs.reader.Reader.pair.Goals as goal
 
 pub returns-in_ok-attr-in-Some : goal.returns-in_ok-attr-in-Some

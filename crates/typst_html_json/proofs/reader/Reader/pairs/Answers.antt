@@ -1,14 +1,10 @@
 use Rattle.std.proofs.Common.{◌≡◌, length, map, refl, sym, ap, ◌∙◌, rules, arith}
-use Rattle.std.proofs.lemmas.List.{nil_from_length}
-use Rattle.std.proofs.lemmas.Result.{err_from_is_err_and}
+use Rattle.std.proofs.lemmas.{List.{nil_from_length}, Result.{err_from_is_err_and}}
 use Rattle.std.specs.Vec.Iter.{into_iter_items, into_iter_len}
-use Rattle.serde_json.proofs.Views.{view-Array}
-use Rattle.serde_json.specs.View.{view, items_view}
+use Rattle.serde_json.{proofs.Views.{view-Array}, specs.View.{view, items_view}}
 use Rattle.html_dom_tree.specs.Views.{pair_view}
-use Rattle.typst_html_json.proofs.PairRows.{pairs_row, joined-pairs}
-use Rattle.typst_html_json.proofs.Rows.{none_read, one_read, all_read, wrong_one}
-use Rattle.typst_html_json.specs.Fields.{pairs_at, pairs_of}
-use Rattle.typst_html_json.specs.Reading.{mark, marked}
+use Rattle.typst_html_json.proofs.{PairRows.{pairs_row, joined-pairs}, Rows.{none_read, one_read, all_read, wrong_one}}
+use Rattle.typst_html_json.specs.{Fields.{pairs_at, pairs_of}, Reading.{mark, marked}}
 use Rattle.typst_html_json.proofs.reader.Reader.pairs.Goals as goal
 
 pub loop-value-init : goal.loop-value-init

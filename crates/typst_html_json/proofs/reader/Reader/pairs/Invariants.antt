@@ -1,11 +1,7 @@
-use Rattle.std.proofs.Common.{◌≡◌, length}
-use Rattle.std.specs.Vec.Iter.{into_iter_items, into_iter_len}
+use Rattle.std.{proofs.Common.{◌≡◌, length}, specs.Vec.Iter.{into_iter_items, into_iter_len}}
 use Rattle.serde_json.specs.View.{view}
 use Rattle.html_dom_tree.specs.Views.{pair_view}
-use Rattle.typst_html_json.specs.Fields.{pairs_at}
-use Rattle.typst_html_json.specs.Reading.{mark, marked}
-use Rattle.typst_html_json.proofs.PairRows.{pairs_row}
-use Rattle.typst_html_json.proofs.Rows.{IsPartRead}
+use Rattle.typst_html_json.{proofs.PairRows.{pairs_row}, proofs.Rows.{IsPartRead}, specs.Fields.{pairs_at}, specs.Reading.{mark, marked}}
 use Rattle.typst_html_json.proofs.reader.Reader.pairs.Given as goal
 
 abbrev pub invariant-loop-value : goal.invariant-loop-value

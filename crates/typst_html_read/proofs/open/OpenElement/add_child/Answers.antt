@@ -1,7 +1,5 @@
-use Rattle.std.proofs.Common.{◌≡◌, ap, ◌∙◌}
-use Rattle.std.proofs.lemmas.Result.{on_ok_weaker}
-use Rattle.html_dom_tree.specs.Tree.{with_node}
-use Rattle.html_dom_tree.specs.Views.{element_view, node_view}
+use Rattle.std.proofs.{Common.{◌≡◌, ap, ◌∙◌}, lemmas.Result.{on_ok_weaker}}
+use Rattle.html_dom_tree.specs.{Tree.{with_node}, Views.{element_view, node_view}}
 use Rattle.typst_html_read.proofs.Plain.{element_plain, element_open, plain_added}
 use Rattle.typst_html_read.proofs.open.OpenElement.add_child.Goals as goal
 

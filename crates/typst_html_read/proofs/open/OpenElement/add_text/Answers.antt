@@ -1,13 +1,8 @@
-use Rattle.std.proofs.Common.{◌≡◌, false, true, eqb, length, [], sym, ap, ◌∙◌, string_bytes}
-use Rattle.std.proofs.StrCases.{chars_of_empty}
-use Rattle.std.proofs.lemmas.Bool.{eqb-true}
-use Rattle.std.proofs.lemmas.Result.{on_ok_weaker}
-use Rattle.std.proofs.lemmas.Str.{IsUtf8-string_bytes}
-use Rattle.html_dom_tree.specs.Tree.{with_node}
-use Rattle.html_dom_tree.specs.Views.{element_view, node_view, text_view}
+use Rattle.std.proofs.{Common.{◌≡◌, false, true, eqb, length, [], sym, ap, ◌∙◌, string_bytes}, StrCases.{chars_of_empty}}
+use Rattle.std.proofs.lemmas.{Bool.{eqb-true}, Result.{on_ok_weaker}, Str.{IsUtf8-string_bytes}}
+use Rattle.html_dom_tree.specs.{Tree.{with_node}, Views.{element_view, node_view, text_view}}
 use Rattle.typst_html_encode.specs.Reader.{with_text}
-use Rattle.typst_html_read.specs.OpenViews.{open_of}
-use Rattle.typst_html_read.proofs.Plain.{plain_added, text_plain, text_open, some_text}
+use Rattle.typst_html_read.{proofs.Plain.{plain_added, text_plain, text_open, some_text}, specs.OpenViews.{open_of}}
 use Rattle.typst_html_read.proofs.open.OpenElement.add_text.Goals as goal
 
 pub invariant_of-self : goal.invariant_of-self

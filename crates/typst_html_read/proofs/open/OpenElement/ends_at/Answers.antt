@@ -1,5 +1,4 @@
-use Rattle.std.proofs.Common.{◌≡◌, ◌≤◌, eqb, get_or, length, sym, ap, ◌∙◌, subst, arith}
-use Rattle.std.proofs.lemmas.List.{get_or_default, get_or_past}
+use Rattle.std.proofs.{Common.{◌≡◌, ◌≤◌, eqb, get_or, length, sym, ap, ◌∙◌, subst, arith}, lemmas.List.{get_or_default, get_or_past}}
 use Rattle.html_names_core.specs.Characters.{IsOf, is_tag_char}
 use Rattle.html_text.proofs.TagNames.{name_is}
 use Rattle.typst_html_read.proofs.open.OpenElement.ends_at.Goals as goal

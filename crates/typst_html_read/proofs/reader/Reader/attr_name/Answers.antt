@@ -1,13 +1,9 @@
-use Rattle.std.proofs.Common.{◌≡◌, ◌++◌, ◌∷◌, [], chars, sym, ap, ◌∙◌, subst}
-use Rattle.std.specs.Result.{OnOk}
-use Rattle.std.proofs.lemmas.Str.{chars-nil}
+use Rattle.std.{proofs.Common.{◌≡◌, ◌++◌, ◌∷◌, [], chars, sym, ap, ◌∙◌, subst}, proofs.lemmas.Str.{chars-nil}, specs.Result.{OnOk}}
 use Rattle.html_names_core.specs.Names.{attr_fault}
 use Rattle.html_dom_tree.specs.Views.{attrs_view, text_view}
 use Rattle.typst_html_encode.specs.Reader.{after}
-use Rattle.typst_html_read.specs.OpenViews.{stack_of}
-use Rattle.typst_html_read.specs.LimitedReading.{next_state}
-use Rattle.typst_html_read.specs.ReaderViews.{reader_state, state_at}
 use Rattle.typst_html_read.proofs.Steps.{attr_step}
+use Rattle.typst_html_read.specs.{LimitedReading.{next_state}, OpenViews.{stack_of}, ReaderViews.{reader_state, state_at}}
 use Rattle.typst_html_read.proofs.reader.Reader.attr_name.Goals as goal
 
 pub returns-in_ok-push-in-Some-2 : goal.returns-in_ok-push-in-Some-2

@@ -1,10 +1,7 @@
-use Rattle.std.proofs.Common.{◌≡◌, sym, ap, ◌∙◌, subst}
-use Rattle.std.specs.Result.{OnOk}
+use Rattle.std.{proofs.Common.{◌≡◌, sym, ap, ◌∙◌, subst}, specs.Result.{OnOk}}
 use Rattle.typst_html_encode.specs.Reader.{EndName}
-use Rattle.typst_html_read.specs.OpenViews.{stack_of}
-use Rattle.typst_html_read.specs.LimitedReading.{next_state}
-use Rattle.typst_html_read.specs.ReaderViews.{reader_state, state_at}
 use Rattle.typst_html_read.proofs.Steps.{end_stops, end_more, end_closes}
+use Rattle.typst_html_read.specs.{LimitedReading.{next_state}, OpenViews.{stack_of}, ReaderViews.{reader_state, state_at}}
 use Rattle.typst_html_read.proofs.reader.Reader.end_name.Goals as goal
 
 pub returns-then-not-ends_at : goal.returns-then-not-ends_at

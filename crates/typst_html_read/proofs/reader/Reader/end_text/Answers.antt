@@ -1,11 +1,8 @@
-use Rattle.std.proofs.Common.{◌≡◌, true, eqb, length, [], sym, ap, ◌∙◌, string_bytes}
-use Rattle.std.proofs.StrCases.{chars_of_empty}
-use Rattle.std.proofs.lemmas.Bool.{eqb-true}
-use Rattle.std.proofs.lemmas.Result.{on_ok_weaker}
+use Rattle.std.proofs.{Common.{◌≡◌, true, eqb, length, [], sym, ap, ◌∙◌, string_bytes}, StrCases.{chars_of_empty}}
+use Rattle.std.proofs.lemmas.{Bool.{eqb-true}, Result.{on_ok_weaker}}
 use Rattle.html_dom_tree.specs.Views.{text_view}
 use Rattle.typst_html_encode.specs.Reader.{add_text}
-use Rattle.typst_html_read.specs.OpenViews.{stack_of}
-use Rattle.typst_html_read.proofs.EndTags.{no_text}
+use Rattle.typst_html_read.{proofs.EndTags.{no_text}, specs.OpenViews.{stack_of}}
 use Rattle.typst_html_read.proofs.reader.Reader.end_text.Goals as goal
 
 pub returns-then-is_empty : goal.returns-then-is_empty

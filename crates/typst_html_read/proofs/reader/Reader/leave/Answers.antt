@@ -1,8 +1,6 @@
 use Rattle.std.proofs.lemmas.Result.{on_ok_weaker}
 use Rattle.html_dom_tree.specs.Views.{text_view}
-use Rattle.typst_html_read.specs.OpenViews.{open_of, stack_of}
-use Rattle.typst_html_read.specs.ReaderViews.{reader_state}
-use Rattle.typst_html_read.proofs.EndTags.{left, left_none}
+use Rattle.typst_html_read.{proofs.EndTags.{left, left_none}, specs.OpenViews.{open_of, stack_of}, specs.ReaderViews.{reader_state}}
 use Rattle.typst_html_read.proofs.reader.Reader.leave.Goals as goal
 
 pub returns-in-Some : goal.returns-in-Some

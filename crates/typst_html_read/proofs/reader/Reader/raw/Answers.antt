@@ -1,17 +1,12 @@
 use Rattle.std.proofs.Common.{◌≡◌, ℕ, Bool, chars, take, sym, ap, ◌∙◌, subst, string_bytes}
-use Rattle.std.specs.Result.{OnOk}
-use Rattle.std.specs.Str.{IsCharBoundary}
+use Rattle.std.specs.{Result.{OnOk}, Str.{IsCharBoundary}}
 use Rattle.html_names_core.proofs.Texts.{text_views}
-use Rattle.html_dom_tree.specs.PlainTree.{no_plains}
-use Rattle.html_dom_tree.specs.Views.{attrs_view, text_view}
-use Rattle.html_text.specs.ClosingTags.{before_closing}
+use Rattle.html_dom_tree.specs.{PlainTree.{no_plains}, Views.{attrs_view, text_view}}
+use Rattle.html_text.specs.{ClosingTags.{before_closing}, RawEnds.{EndsAt}}
 use Rattle.typst_html_encode.specs.Reader.{Open, with_text, complete}
-use Rattle.typst_html_read.specs.OpenViews.{open_of, stack_of}
-use Rattle.html_text.specs.RawEnds.{EndsAt}
-use Rattle.typst_html_read.specs.LimitedReading.{next_state}
-use Rattle.typst_html_read.specs.ReaderViews.{reader_state, state_at}
-use Rattle.typst_html_read.specs.declared.stack.Stack.{Stack}
 use Rattle.typst_html_read.proofs.Steps.{raw_step}
+use Rattle.typst_html_read.specs.{LimitedReading.{next_state}, OpenViews.{open_of, stack_of}, ReaderViews.{reader_state, state_at}}
+use Rattle.typst_html_read.specs.declared.stack.Stack.{Stack}
 use Rattle.typst_html_read.proofs.reader.Reader.raw.Goals as goal
 
 pub truncate-requires : goal.truncate-requires

@@ -1,11 +1,8 @@
 use Rattle.std.proofs.Common.{chars, sym, ap, ◌∙◌, subst}
 use Rattle.html_dom_tree.specs.Views.{text_view}
 use Rattle.typst_html_encode.specs.Reader.{Content}
-use Rattle.typst_html_read.specs.EndTags.{Leaves}
-use Rattle.typst_html_read.specs.OpenViews.{stack_of}
-use Rattle.typst_html_read.specs.ReaderViews.{reader_state, state_at}
-use Rattle.typst_html_read.specs.Stretches.{ReadsOn}
 use Rattle.typst_html_read.proofs.EndTags.{end_tag_fewer, end_tag_read}
+use Rattle.typst_html_read.specs.{EndTags.{Leaves}, OpenViews.{stack_of}, ReaderViews.{reader_state, state_at}, Stretches.{ReadsOn}}
 use Rattle.typst_html_read.proofs.reader.Reader.read_end_tag.Goals as goal
 
 pub returns : goal.returns

@@ -1,8 +1,7 @@
 use Rattle.std.proofs.Common.{chars, refl}
 use Rattle.html_dom_tree.specs.Views.{attrs_view, text_view}
-use Rattle.typst_html_read.specs.OpenViews.{stack_of}
-use Rattle.typst_html_read.specs.ReaderViews.{reader_state, state_at}
 use Rattle.typst_html_read.proofs.Stretches.{in_attr_name, in_reference, in_start_name, in_text, in_value, in_value_reference, read_at, reads_none}
+use Rattle.typst_html_read.specs.{OpenViews.{stack_of}, ReaderViews.{reader_state, state_at}}
 use Rattle.typst_html_read.proofs.reader.Reader.read_stretch.Goals as goal
 
 pub returns-in-Content : goal.returns-in-Content

@@ -1,7 +1,5 @@
-use Rattle.std.proofs.Common.{refl}
-use Rattle.std.proofs.lemmas.Result.{on_ok_weaker}
-use Rattle.typst_html_read.specs.OpenViews.{add_child, open_of, with_child}
-use Rattle.typst_html_read.proofs.Stacks.{top_changed}
+use Rattle.std.proofs.{Common.{refl}, lemmas.Result.{on_ok_weaker}}
+use Rattle.typst_html_read.{proofs.Stacks.{top_changed}, specs.OpenViews.{add_child, open_of, with_child}}
 use Rattle.typst_html_read.proofs.stack.Stack.add_child.Goals as goal
 
 pub returns-in-Some : goal.returns-in-Some

@@ -1,5 +1,4 @@
-use Rattle.std.proofs.Common.{refl}
-use Rattle.std.proofs.lemmas.Result.{on_ok_weaker}
+use Rattle.std.proofs.{Common.{refl}, lemmas.Result.{on_ok_weaker}}
 use Rattle.html_dom_tree.specs.Views.{text_view}
 use Rattle.typst_html_encode.specs.Reader.{Open, add_text, with_text}
 use Rattle.typst_html_read.proofs.Stacks.{top_changed}

@@ -1,11 +1,8 @@
 use Rattle.std.proofs.Common.{◌≡◌, ◌∷◌, ◌++◌, ◌-◌, arith, length, refl, sym, ap, ◌∙◌, subst, take}
 use Rattle.html_names_core.specs.Characters.{IsOf, is_tag_char}
+use Rattle.typst_html_read.proofs.{EndTags.{some_weaker}, Stacks.{top_is}, Stretches.{names_ascii}}
 use Rattle.typst_html_read.specs.OpenViews.{list_of, open_of}
-use Rattle.html_text.proofs.TagNames.{name_is, name_listed}
-use Rattle.typst_html_read.proofs.EndTags.{some_weaker}
-use Rattle.typst_html_read.proofs.Stacks.{top_is}
-use Rattle.typst_html_read.proofs.Stretches.{names_ascii}
-use Rattle.html_text.proofs.Words.{chars_after_ascii, chars_after_char}
+use Rattle.html_text.proofs.{TagNames.{name_is, name_listed}, Words.{chars_after_ascii, chars_after_char}}
 use Rattle.typst_html_read.proofs.stack.Stack.past_end_tag.Goals as goal
 
 pub returns : goal.returns

@@ -1,7 +1,6 @@
 use Rattle.std.proofs.Common.{◌≡◌, ◌≤◌, refl, ap, ◌∙◌, inl, inr, length, arith, rules}
+use Rattle.html_names_table.{proofs.OwnNumbers.{takes, joins, read_taken, read_outside}, specs.OwnNumbers.{slot_of, slot_number}}
 use Rattle.html_names_table.specs.declared.name_table.own_numbers.OwnNumbers.{OwnNumbers}
-use Rattle.html_names_table.specs.OwnNumbers.{slot_of, slot_number}
-use Rattle.html_names_table.proofs.OwnNumbers.{takes, joins, read_taken, read_outside}
 use Rattle.html_names_table.proofs.name_table.own_numbers.OwnNumbers.put.Goals as goal
 use Rattle.html_names_table.proofs.name_table.own_numbers.OwnNumbers.put.Goals.{else-slot-len-via-then-slot-len+else-index-number, else-slot-len-via-else-slot-len}
 
