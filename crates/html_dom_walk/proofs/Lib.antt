@@ -1,4 +1,5 @@
 pub mod Events
 pub mod Gathering
 pub mod Levels
+pub mod Passing
 pub mod Skipping

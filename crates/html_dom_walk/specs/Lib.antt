@@ -1,4 +1,5 @@
 pub mod Events
 pub mod Gathered
+pub mod Passing
 pub mod Walks
 pub mod WalkLaws

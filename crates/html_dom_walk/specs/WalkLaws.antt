@@ -1,7 +1,8 @@
 -- Laws of walks.
-use Rattle.std.specs.Prelude.{◌≡◌, ℕ, List, ◌∷◌, ◌++◌}
-use Rattle.html_dom_tree.specs.Tree.{NodesView}
+use Rattle.std.specs.Prelude.{◌≡◌, ℕ, Bool, List, ◌∷◌, ◌++◌}
+use Rattle.html_dom_tree.specs.Tree.{Head, NodesView}
 use Rattle.html_dom_walk.specs.{Events.{Event, Placed, leave, events_of, from_end}, Gathered.{gathered, nodes_found, nodes_gathered}}
+use Rattle.html_dom_walk.specs.Passing.{Goes, past}
 
 -- what is gathered of the events of nodes, and then of others, is what the recursion gathers of the
 -- nodes, and what is gathered of the others
@@ -21,3 +22,17 @@ abbrev pub SkipsBelow : Type 0
 SkipsBelow = (parent : List ℕ) (index : ℕ) (ns : NodesView) (path : List ℕ)
     (later : List Placed) →
     from_end 0 (events_of parent index ns ((path, leave) ∷ later)) ≡ (path, leave) ∷ later
+
+-- a loop that steps over the events of nodes, and then over others, comes to what it comes to over
+-- the others from where a recursion over the nodes ends
+abbrev pub PastIs : Type 0 → Type 0
+PastIs S = (step : S → Placed → S) (skips : S → Head → Bool)
+    (nodes_past : (parent : List ℕ) (index : ℕ) → S → NodesView → S) →
+    Goes step skips nodes_past → (parent : List ℕ) (index : ℕ) (s : S) (ns : NodesView)
+    (later : List Placed) → past step skips 0 s (events_of parent index ns later)
+    ≡ past step skips 0 (nodes_past parent index s ns) later
+
+-- what is below an element is left out if the walk skips it
+abbrev pub SkippedIs : Type 0 → Type 0
+SkippedIs S = (step : S → Placed → S) (skips : S → Head → Bool) (s : S) (events : List Placed) →
+    past step skips 1 s events ≡ past step skips 0 s (from_end 0 events)
