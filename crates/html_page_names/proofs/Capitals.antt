@@ -1,9 +1,9 @@
 -- A name in small letters gets its capitals back by a table.
-use Rattle.std.proofs.Common.{◌≡◌, ℕ, zero, suc, ◌<◌, Bool, true, false, List, [], ◌∷◌, refl, sym, ap, ◌∙◌, length, get_or, arith, map, bytes_eq, Some, None, unwrap_or}
+use Rattle.std.proofs.Common.{◌≡◌, ℕ, zero, suc, ◌<◌, Bool, true, false, not, ◌||◌, List, [], ◌∷◌, refl, sym, ap, ◌∙◌, length, get_or, arith, map, bytes_eq, Some, None, unwrap_or}
 use Rattle.std.proofs.lemmas.{Bool.{and_parts}, List.{get_or-map, length-map}, Slice.Eq.{bytes_eq-Decides}}
-use Rattle.std.specs.{Borrow.{Bor}, List.{find}}
-use Rattle.html_names_core.{proofs.Ascending.{places_differ}, specs.Names.{stands_in, texts, rises, IsPlace}}
-use Rattle.html_page_names.specs.{Capitals.{is_name, are_names, IsWithCapitals}, ForeignNames.{lowered}}
+use Rattle.std.specs.{Borrow.{Bor}, List.{find, list_any}}
+use Rattle.html_names_core.{proofs.Ascending.{places_differ, stands}, specs.Characters.{is_capital}, specs.Names.{stands_in, texts, rises, IsPlace}}
+use Rattle.html_page_names.specs.{Capitals.{is_name, are_names, IsWithCapitals}, ForeignNames.{keeps_case, lowered}}
 
 abbrev is_that : (text name : List ℕ) → Bool
 is_that text name = bytes_eq (lowered name) text
@@ -54,3 +54,23 @@ pub without_capitals : (names small : List (List ℕ)) (text : List ℕ) → sma
     stands_in small text ≡ false → IsWithCapitals names text None
 without_capitals names small text s absent =
     ap (λ found. unwrap_or found text) (find_none names text (rw (sym s) absent))
+
+any_lowered : (names : List (List ℕ)) (text : List ℕ) →
+    list_any (is_that text) names ≡ stands_in (map lowered names) text
+unfolding stands_in
+any_lowered [] text = refl
+any_lowered (n ∷ ns) text = ap (λ b. bytes_eq (lowered n) text || b) (any_lowered ns text)
+
+-- a name without capitals stays as it is where it is none of these in small letters
+module _ (names small : List (List ℕ)) (text : List ℕ) (s : small ≡ map lowered names)
+    (low : list_any is_capital text ≡ false) where
+  by_small : keeps_case names text ≡ not (stands_in small text)
+  unfolding keeps_case
+  by_small = rw low (ap not (any_lowered names text) ∙ ap (λ t. not (stands_in t text)) (sym s))
+
+  pub loses_case : (n : ℕ) → IsPlace small text n → keeps_case names text ≡ false
+  loses_case n at =
+      by_small ∙ ap not (sym (ap (stands_in small) at.1) ∙ stands small n at.0)
+
+  pub keeps_small_case : stands_in small text ≡ false → keeps_case names text ≡ true
+  keeps_small_case absent = by_small ∙ ap not absent

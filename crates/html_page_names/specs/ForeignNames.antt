@@ -1,7 +1,7 @@
 -- Names in SVG and MathML that get their capitals back after all letters were made lowercase (HTML
 -- Standard 13.2.6.1 and 13.2.6.5).
-use Rattle.std.specs.{Char.{to_ascii_lowercase}, List.{find}, Prelude.{ℕ, Bool, List, ◌++◌, codes, bytes_eq, map, unwrap_or}}
-use Rattle.html_names_core.specs.Names.{listed_names, stands_in}
+use Rattle.std.specs.{Char.{to_ascii_lowercase}, List.{find, list_any}, Prelude.{ℕ, Bool, not, if◌then◌else◌, List, ◌++◌, codes, bytes_eq, map, unwrap_or}}
+use Rattle.html_names_core.specs.{Characters.{is_capital}, Names.{listed_names, stands_in}}
 
 -- a text in lowercase
 abbrev pub lowered : List ℕ → List ℕ
@@ -38,6 +38,13 @@ math_attrs = listed_names (codes "definitionURL")
 -- the name of the list that is this one in lowercase, if there is one
 abbrev pub with_capitals : List (List ℕ) → List ℕ → List ℕ
 with_capitals names name = unwrap_or (find (λ n. bytes_eq (lowered n) name) names) name
+
+-- whether a parser leaves a name as it is: it makes all letters lowercase, and then gives these
+-- names their capitals. So a name with capitals must be one of them, and one without must be none
+-- of them in lowercase
+unfoldable pub keeps_case : (capital_names : List (List ℕ)) → (name : List ℕ) → Bool
+keeps_case capital_names name = if list_any is_capital name then stands_in capital_names name
+    else not (list_any (λ n. bytes_eq (lowered n) name) capital_names)
 
 -- whether a `font` with an attribute of that name closes SVG and MathML (13.2.6.5)
 unfoldable pub is_font_attr : List ℕ → Bool

@@ -1,10 +1,10 @@
 //! Names in SVG and MathML that get their capitals back after all letters were made lowercase (HTML
 //! Standard 13.2.6.1 and 13.2.6.5).
 
-ghost use Rattle.std.specs.Prelude.{◌≡◌, bytes_eq, chars, map, IfOk, IsTrue};
-ghost use Rattle.html_names_core.specs.{Names.{texts, are_ascii, rises}, Starts.{are_starts}};
+ghost use Rattle.std.specs.{List.{list_any}, Prelude.{◌≡◌, [], bytes_eq, chars, map, IfOk, IsTrue}};
+ghost use Rattle.html_names_core.specs.{Characters.{is_capital}, Names.{texts, are_ascii, rises}, Starts.{are_starts}};
 ghost use Rattle.html_page_names.specs.Capitals.{IsWithCapitals, are_names};
-ghost use Rattle.html_page_names.specs.ForeignNames.{lowered, svg_names, svg_attrs, math_attrs, with_capitals, is_encoding, is_font_attr, is_html_encoding};
+ghost use Rattle.html_page_names.specs.ForeignNames.{keeps_case, lowered, svg_names, svg_attrs, math_attrs, with_capitals, is_encoding, is_font_attr, is_html_encoding};
 
 use crate::foreign_table::{
     MATH_ATTR_STARTS, MATH_ATTRS, SMALL_MATH_ATTRS, SMALL_SVG_ATTRS, SMALL_SVG_TAGS,
@@ -48,6 +48,65 @@ fn math_attr_name(name: &str) -> Option<&'static str>
     ensures { IsWithCapitals math_attrs (chars name.now) result }
 {
     name_in(&SMALL_MATH_ATTRS, &MATH_ATTR_STARTS, &MATH_ATTRS, name)
+}
+
+fn has_capital(name: &str) -> bool
+    ensures { result ≡ list_any is_capital (chars name.now) }
+{
+    name.chars().any(|c| c.is_ascii_uppercase())
+}
+
+/// Returns whether a parser leaves the name as it is, if it gives these names their capitals.
+#[tactic(auto, unfolding(crate::specs::ForeignNames::keeps_case), using(crate::proofs::Capitals::loses_case, crate::proofs::Capitals::keeps_small_case))]
+fn keeps_case_in(
+    small: &[&'static str],
+    starts: &[u8; 27],
+    names: &[&'static str],
+    name: &str,
+) -> bool
+    requires ascii { IsTrue (are_ascii (texts small.now)) }
+    requires starts { IsTrue (are_starts starts.now (texts small.now)) }
+    requires names { IsTrue (are_ascii (texts names.now)) }
+    requires small { texts small.now ≡ map lowered (texts names.now) }
+    ensures { result ≡ keeps_case (texts names.now) (chars name.now) }
+{
+    if has_capital(name) {
+        return is_one_of(names, name);
+    }
+    match place_in(small, starts, name) {
+        Some(_) => false,
+        None => true,
+    }
+}
+
+/// Returns whether the tokenizer leaves the name of an element or attribute of HTML as it is.
+#[tactic(auto, unfolding(crate::specs::ForeignNames::keeps_case, html_names_core::specs::Names::stands_in))]
+pub fn keeps_case(name: &str) -> bool
+    ensures { result ≡ keeps_case [] (chars name.now) }
+{
+    !has_capital(name)
+}
+
+/// Returns whether a parser leaves the name of an element of SVG as it is: a name with capitals is
+/// one of SVG's, and one without is none of these in lowercase.
+pub fn svg_tag_keeps_case(name: &str) -> bool
+    ensures { result ≡ keeps_case svg_names (chars name.now) }
+{
+    keeps_case_in(&SMALL_SVG_TAGS, &SVG_TAG_STARTS, &SVG_TAGS, name)
+}
+
+/// Returns whether a parser leaves the name of an attribute of SVG as it is.
+pub fn svg_attr_keeps_case(name: &str) -> bool
+    ensures { result ≡ keeps_case svg_attrs (chars name.now) }
+{
+    keeps_case_in(&SMALL_SVG_ATTRS, &SVG_ATTR_STARTS, &SVG_ATTRS, name)
+}
+
+/// Returns whether a parser leaves the name of an attribute of MathML as it is.
+pub fn math_attr_keeps_case(name: &str) -> bool
+    ensures { result ≡ keeps_case math_attrs (chars name.now) }
+{
+    keeps_case_in(&SMALL_MATH_ATTRS, &MATH_ATTR_STARTS, &MATH_ATTRS, name)
 }
 
 /// Returns the tag of SVG that is this one in lowercase, or the tag itself if there is none.

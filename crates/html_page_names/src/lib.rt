@@ -11,7 +11,8 @@ mod reference_rows;
 mod references;
 
 pub use foreign_names::{
-    is_encoding, is_font_attr, is_html_encoding, is_same_lowered, math_attr, svg_attr, svg_tag,
+    is_encoding, is_font_attr, is_html_encoding, is_same_lowered, keeps_case, math_attr,
+    math_attr_keeps_case, svg_attr, svg_attr_keeps_case, svg_tag, svg_tag_keeps_case,
 };
 pub use html_names_core::lookup::is_one_of;
 pub use kind::Kind;

@@ -1,2 +1,1 @@
-pub mod SmallNames
 pub mod Walks

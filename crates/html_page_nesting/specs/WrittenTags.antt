@@ -1,10 +1,10 @@
 -- Names and values of a start tag that the tokenizer reads as they are (HTML Standard 13.2.3.5,
 -- 13.2.5.6 to 13.2.5.8, 13.2.5.33; 13.2.6.1, adjusted names).
 use Rattle.std.specs.List.{list_all, list_any}
-use Rattle.std.specs.Prelude.{ℕ, Bool, false, not, ◌&&◌, ◌||◌, List, [], ◌∷◌, bytes_eq, if◌then◌else◌, Option, Some, None}
-use Rattle.html_names_core.specs.{Characters.{is_capital, is_lower}, Names.{stands_in}}
+use Rattle.std.specs.Prelude.{ℕ, Bool, false, not, ◌&&◌, ◌||◌, List, [], ◌∷◌, if◌then◌else◌, Option, Some, None}
+use Rattle.html_names_core.specs.Characters.{is_capital, is_lower}
 use Rattle.html_dom_tree.specs.{Attributes.{names_differ}, Tree.{TextPair, Head}}
-use Rattle.html_page_names.specs.ForeignNames.{lowered, math_attrs, svg_attrs, svg_names}
+use Rattle.html_page_names.specs.ForeignNames.{keeps_case, math_attrs, svg_attrs, svg_names}
 use Rattle.html_page_nesting.specs.{WrittenTexts.{has_return}, declared.misnesting.Misnesting.{Misnesting}}
 use Rattle.html_page_nesting.specs.declared.misnesting.Misnesting.TheVariants as why
 use Rattle.html_page_nesting.specs.declared.reading.{Space.{Space}, Space.TheVariants.{Html, Svg, MathMl}}
@@ -18,13 +18,6 @@ abbrev pub capital_attrs : Space → List (List ℕ)
 capital_attrs Html = []
 capital_attrs Svg = svg_attrs
 capital_attrs MathMl = math_attrs
-
--- whether a parser leaves a name as it is: it makes all letters lowercase, and then gives these
--- names their capitals. So a name with capitals must be one of them, and one without must be none
--- of them in lowercase
-unfoldable pub keeps_case : (capital_names : List (List ℕ)) → (name : List ℕ) → Bool
-keeps_case capital_names name = if list_any is_capital name then stands_in capital_names name
-    else not (list_any (λ n. bytes_eq (lowered n) name) capital_names)
 
 -- whether a name begins with a letter; otherwise the `<` before it is text
 abbrev pub begins_with_letter : (name : List ℕ) → Bool

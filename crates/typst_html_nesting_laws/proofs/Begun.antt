@@ -5,10 +5,10 @@ use Rattle.html_names_core.specs.Kinds.{is_void}
 use Rattle.html_dom_tree.specs.Tree.{Head, NodesView}
 use Rattle.html_page_nesting.specs.Ancestors.{Ancestor, begun_space, foreign_space, is_read_as_html, place_of, reading_of, space_of}
 use Rattle.html_page_nesting.specs.{Contents.{has_unread_end}, NestingRules.{element_misnesting, has_place, named_misnesting}}
-use Rattle.html_page_nesting.specs.{Surroundings.{surroundings_of}, WrittenTags.{capital_tags, keeps_case}, declared.reading.Place.{Place}}
+use Rattle.html_page_nesting.specs.{Surroundings.{surroundings_of}, WrittenTags.{capital_tags}, declared.reading.Place.{Place}}
 use Rattle.html_page_nesting.specs.declared.reading.Place.TheVariants as place
 use Rattle.html_page_nesting.specs.declared.surroundings.Surroundings.{Surroundings}
-use Rattle.html_page_names.specs.{ForeignNames.{lowered}, PageNames.{of}}
+use Rattle.html_page_names.specs.{ForeignNames.{keeps_case, lowered}, PageNames.{of}}
 use Rattle.html_page_names.specs.declared.kind.Kind.TheVariants as kind
 use Rattle.html_page_stack.specs.{OpenElements.{mode}, Pages.{Page, Reads, Start, StartTag, Turn, closed, taken}}
 use Rattle.html_page_stack.specs.declared.modes.Mode.{Mode}

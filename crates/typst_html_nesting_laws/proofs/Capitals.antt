@@ -5,9 +5,9 @@ use Rattle.std.proofs.lemmas.Slice.Eq.{bytes_eq-Decides}
 use Rattle.std.specs.{Char.{to_ascii_lowercase}, List.{list_any}, Prelude.{if◌then◌else◌}}
 use Rattle.html_names_core.{proofs.Basics.{bytes_eq-same}, specs.Characters.{is_capital}, specs.Names.{stands_in}}
 use Rattle.html_dom_tree.specs.{Attributes.{first, has_name, names_differ}, Tree.{TextPair}}
-use Rattle.html_page_nesting.specs.{WrittenTags.{capital_attrs, keep_case, keeps_case}, declared.reading.Space.{Space}}
+use Rattle.html_page_nesting.specs.{WrittenTags.{capital_attrs, keep_case}, declared.reading.Space.{Space}}
 use Rattle.html_page_nesting.specs.declared.reading.Space.TheVariants.{Html}
-use Rattle.html_page_names.specs.ForeignNames.{lowered, with_capitals}
+use Rattle.html_page_names.specs.ForeignNames.{keeps_case, lowered, with_capitals}
 use Rattle.typst_html_nesting_laws.proofs.{Branches.{absent_parts}, KindFacts.{AllFail, agree_in}, Readers.{lowered_attrs}}
 
 -- a name without capitals is itself in small letters

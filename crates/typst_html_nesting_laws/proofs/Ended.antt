@@ -6,10 +6,10 @@ use Rattle.html_names_core.specs.Kinds.{is_foreign_self_closing, is_void}
 use Rattle.html_dom_tree.specs.Tree.{Head, NodesView}
 use Rattle.html_page_nesting.specs.Ancestors as nest
 use Rattle.html_page_nesting.specs.{Ancestors.{Ancestor, ancestor, place_of, reading_of, space_of}, NestingRules.{element_misnesting}}
-use Rattle.html_page_nesting.specs.{Surroundings.{surroundings_of}, WrittenTags.{capital_tags, keeps_case}, declared.reading.Place.{Place}}
+use Rattle.html_page_nesting.specs.{Surroundings.{surroundings_of}, WrittenTags.{capital_tags}, declared.reading.Place.{Place}}
 use Rattle.html_page_nesting.specs.declared.reading.Place.TheVariants as place
 use Rattle.html_page_nesting.specs.declared.reading.{Space.{Space}, Space.TheVariants.{Html}}
-use Rattle.html_page_names.specs.{ForeignNames.{lowered}, PageNames.{is, kind_names, of}, declared.kind.Kind.{Kind}}
+use Rattle.html_page_names.specs.{ForeignNames.{keeps_case, lowered}, PageNames.{is, kind_names, of}, declared.kind.Kind.{Kind}}
 use Rattle.html_page_names.specs.declared.kind.Kind.TheVariants as kind
 use Rattle.html_page_stack.specs.OpenElements.{OpenElement, at, bounds, in_scope, is_at, is_foreign_of, is_html, mode, named_mode}
 use Rattle.html_page_stack.specs.Pages.{Page, End, ◌next◌, closed, closed_in, closed_to, closed_to_goal, closed_while, implied_closed, loses_some, no_name, noted, noted_if, refused, taken}

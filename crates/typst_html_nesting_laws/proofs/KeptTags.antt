@@ -4,10 +4,10 @@ use Rattle.std.{proofs.lemmas.Bool.{cases_Bool, false≢true}, specs.Prelude.{if
 use Rattle.html_names_core.specs.Kinds.{is_foreign_self_closing}
 use Rattle.html_dom_tree.specs.{Attributes.{names_differ}, Tree.{TextPair, Head}}
 use Rattle.html_page_nesting.specs.Ancestors.{begun_space, is_html, is_read_as_html, space_of}
-use Rattle.html_page_nesting.specs.{WrittenTags.{capital_attrs, capital_tags, keep_case, keeps_case}, declared.reading.Reading.{Reading}}
+use Rattle.html_page_nesting.specs.{WrittenTags.{capital_attrs, capital_tags, keep_case}, declared.reading.Reading.{Reading}}
 use Rattle.html_page_nesting.specs.declared.reading.Reading.TheVariants as reading
 use Rattle.html_page_nesting.specs.declared.reading.{Space.{Space}, Space.TheVariants.{Html, Svg, MathMl}}
-use Rattle.html_page_names.specs.{ForeignNames.{lowered, svg_attrs, svg_names, math_attrs}, PageNames.{of}}
+use Rattle.html_page_names.specs.{ForeignNames.{keeps_case, lowered, svg_attrs, svg_names, math_attrs}, PageNames.{of}}
 use Rattle.html_page_names.specs.declared.kind.Kind.TheVariants as kind
 use Rattle.html_page_stack.specs.Pages.{Page, StartTag, ◌next◌, opened}
 use Rattle.html_page_stack.specs.declared.modes.Space.TheVariants as spaces

@@ -9,7 +9,7 @@ use Rattle.html_page_nesting.specs.Contents.{are_plain, begin_with_feed, content
 use Rattle.html_page_nesting.specs.Misnested.{found}
 use Rattle.html_page_nesting.specs.NestingRules.{breaks_out, element_misnesting, foreign_misnesting, has_place, html_misnesting, is_never_read, named_misnesting, read_misnesting}
 use Rattle.html_page_nesting.specs.Surroundings.{surroundings_of}
-use Rattle.html_page_nesting.specs.WrittenTags.{attrs_misnesting, begins_with_letter, capital_attrs, capital_tags, keep_case, keeps_case, tag_misnesting}
+use Rattle.html_page_nesting.specs.WrittenTags.{attrs_misnesting, begins_with_letter, capital_attrs, capital_tags, keep_case, tag_misnesting}
 use Rattle.html_page_nesting.specs.{WrittenTexts.{has_return}, declared.misnesting.Misnesting.{Misnesting}}
 use Rattle.html_page_nesting.specs.declared.misnesting.Misnesting.TheVariants as why
 use Rattle.html_page_nesting.specs.declared.reading.Place.{Place}
@@ -19,6 +19,7 @@ use Rattle.html_page_nesting.specs.declared.reading.Reading.TheVariants as readi
 use Rattle.html_page_nesting.specs.declared.reading.{Space.{Space}, Space.TheVariants.{Html, Svg, MathMl}}
 use Rattle.html_page_nesting.specs.declared.surroundings.Surroundings.{Surroundings}
 use Rattle.typst_html_encode.specs.Reader.{drops_feed}
+use Rattle.html_page_names.specs.ForeignNames.{keeps_case}
 use Rattle.html_page_names.specs.{PageNames.{kind_names, of}, declared.kind.Kind.{Kind}}
 use Rattle.html_page_names.specs.declared.kind.Kind.TheVariants as kind
 use Rattle.typst_html_nesting_laws.proofs.Branches.{else_none, if_none, or_none, second_false}
