@@ -145,8 +145,29 @@ pub(crate) const NAMES: [&str; 122] = name_rows!(name_column);
 /// The kinds of each name, each kind a bit.
 pub(crate) static KIND_BITS: [u64; 122] = name_rows!(bits_column);
 
+/// The indices in `NAMES`.
+#[rattlefmt::skip]
+#[allow(non_camel_case_types)]
+enum NameNumber {
+    a, address, annotation_xml, applet, area, article, aside, b, base, basefont, bgsound, big,
+    blockquote, body, br, button, caption, center, code, col, colgroup, dd, desc, details, dialog,
+    dir, div, dl, dt, em, embed, fieldset, figcaption, figure, font, footer, foreignObject, form,
+    frame, frameset, h1, h2, h3, h4, h5, h6, head, header, hgroup, hr, html, i, iframe, image, img,
+    input, keygen, li, link, listing, main, malignmark, marquee, math, menu, meta, mglyph, mi, mn,
+    mo, ms, mtext, nav, nobr, noembed, noframes, noscript, object, ol, optgroup, option, p, param,
+    plaintext, pre, rb, rp, rt, rtc, ruby, s, script, search, section, select, small, source, span,
+    strike, strong, style, sub, summary, sup, svg, table, tbody, td, template, textarea, tfoot, th,
+    thead, title, tr, track, tt, u, ul, var, wbr, xmp,
+}
+
 /// The index in `NAMES` of the first name with each first letter, and the length.
+#[rattlefmt::skip]
 pub(crate) const STARTS: [u8; 27] = [
-    0, 7, 16, 21, 29, 31, 40, 40, 51, 56, 56, 57, 60, 72, 77, 81, 85, 85, 90, 105, 117, 119, 120,
-    121, 122, 122, 122,
+    NameNumber::a as u8, NameNumber::b as u8, NameNumber::caption as u8, NameNumber::dd as u8,
+    NameNumber::em as u8, NameNumber::fieldset as u8, NameNumber::h1 as u8, NameNumber::h1 as u8,
+    NameNumber::i as u8, NameNumber::keygen as u8, NameNumber::keygen as u8, NameNumber::li as u8,
+    NameNumber::main as u8, NameNumber::nav as u8, NameNumber::object as u8, NameNumber::p as u8,
+    NameNumber::rb as u8, NameNumber::rb as u8, NameNumber::s as u8, NameNumber::table as u8,
+    NameNumber::u as u8, NameNumber::var as u8, NameNumber::wbr as u8, NameNumber::xmp as u8, 122,
+    122, 122,
 ];
