@@ -1,14 +1,10 @@
 -- The names of a tree, listed one after the other, and then put in use.
-use Rattle.std.proofs.Common.{◌≡◌, ℕ, suc, ◌+◌, ◌<◌, ◌≤◌, Bool, true, false, ◌||◌, List, [], ◌∷◌, ◌++◌, length, get_or, drop, refl, ap, sym, ◌∙◌, bytes_eq, append_assoc, add-one, drop-cons, String, Global}
+use Rattle.std.proofs.Common.{◌≡◌, ℕ, suc, ◌+◌, ◌<◌, ◌≤◌, Bool, true, false, ◌||◌, List, [], ◌∷◌, ◌++◌, length, get_or, drop, refl, ap, sym, ◌∙◌, bytes_eq, append_assoc, add-one, drop-cons}
 use Rattle.std.proofs.{Math.Bool.{or-false, or_assoc}, Math.Path.{fun_ext}, lemmas.List.{append-nil, drop_all}}
-use Rattle.std.specs.Prelude.{if◌then◌else◌, codes, option_to_list}
+use Rattle.std.specs.Prelude.{if◌then◌else◌, codes}
 use Rattle.html_names_core.specs.Names.{stands_in}
-use Rattle.html_dom_tree.{proofs.Basics.{node_view-Tag, node_view-Text}, specs.FrameViews.{tag_view}, specs.Frames.{HtmlFrameView}}
-use Rattle.html_dom_tree.specs.Tree.{TextPair, TagView, Head, NodeView, tag_node, text_node, element_node, frame_node, NodesView, none, node}
-use Rattle.html_dom_tree.specs.{Views.{text_view, node_view}, declared.introspection.Tag.{Tag}, declared.node.HtmlNode.{HtmlNode}}
-use Rattle.html_dom_tree.specs.declared.span.Span.{Span}
-use Rattle.html_links.specs.TreeNames.{Name, with_used_name, all_ids, anchor_names, frame_names, nodes_names, gathered_names}
-use Rattle.html_links.specs.UsedNames.{with_names}
+use Rattle.html_dom_tree.specs.Tree.{TextPair}
+use Rattle.html_links.specs.{TreeNames.{Name, with_used_name, all_ids}, UsedNames.{with_names}}
 
 or-swap : (a b c : Bool) → ((a || b) || c) ≡ (b || (a || c))
 or-swap true true c = refl
@@ -75,59 +71,3 @@ ids_split p ps = by_name (bytes_eq p.0 (codes "id"))
         ≡ (if b then p.1 ∷ [] else []) ++ all_ids ps
     by_name true = refl
     by_name false = refl
-
-pub nodes_split : (n : NodeView) (ns : NodesView) →
-    nodes_names (node n ns) ≡ nodes_names (node n none) ++ nodes_names ns
-unfolding gathered_names
-nodes_split (tag_node t) ns = refl
-nodes_split (text_node s span) ns = refl
-nodes_split (element_node h kids) ns =
-    ap (λ l. all_ids h.attrs ++ l)
-    (ap (λ l. l ++ nodes_names ns) (sym (append-nil (nodes_names kids))))
-    ∙ sym (append_assoc (all_ids h.attrs) (nodes_names kids ++ []) (nodes_names ns))
-nodes_split (frame_node f) ns =
-    ap (λ l. l ++ nodes_names ns) (sym (append-nil (frame_names f)))
-
--- the names of an element are its own and those below it
-pub element_listed : (h : Head) (kids : NodesView) (old mid new : List Name) →
-    mid ≡ old ++ all_ids h.attrs → new ≡ mid ++ nodes_names kids →
-    new ≡ old ++ nodes_names (node (element_node h kids) none)
-unfolding gathered_names
-element_listed h kids old mid new mid_is new_is =
-    new_is
-    ∙ (ap (λ l. l ++ nodes_names kids) mid_is
-    ∙ (append_assoc old (all_ids h.attrs) (nodes_names kids)
-    ∙ ap (λ ns. old ++ (all_ids h.attrs ++ ns)) (sym (append-nil (nodes_names kids)))))
-
--- those of a frame are its `id` and its anchors
-pub frame_listed : (f : HtmlFrameView) (old mid new : List Name) →
-    mid ≡ old ++ option_to_list f.id → new ≡ mid ++ anchor_names f.anchors →
-    new ≡ old ++ nodes_names (node (frame_node f) none)
-unfolding gathered_names
-frame_listed f old mid new mid_is new_is =
-    new_is
-    ∙ (ap (λ l. l ++ anchor_names f.anchors) mid_is
-    ∙ (append_assoc old (option_to_list f.id) (anchor_names f.anchors)
-    ∙ ap (λ ns. old ++ ns) (sym (append-nil (frame_names f)))))
-
--- a tag and a text have none
-tag_listed : (t : TagView) (old : List Name) → old ≡ old ++ nodes_names (node (tag_node t) none)
-unfolding gathered_names
-tag_listed t old = sym (append-nil old)
-
-text_listed : (s : List ℕ) (span : ℕ) (old : List Name) →
-    old ≡ old ++ nodes_names (node (text_node s span) none)
-unfolding gathered_names
-text_listed s span old = sym (append-nil old)
-
-pub tag_passed : (n : HtmlNode) (t : Tag) (old : List Name) → n ≡ HtmlNode.Tag t →
-    old ≡ old ++ nodes_names (node (node_view n) none)
-tag_passed n t old e =
-    tag_listed (tag_view t) old
-    ∙ ap (λ m. old ++ nodes_names (node m none)) (sym (ap node_view e ∙ node_view-Tag t))
-
-pub text_passed : (n : HtmlNode) (s : String Global) (span : Span) (old : List Name) →
-    n ≡ HtmlNode.Text s span → old ≡ old ++ nodes_names (node (node_view n) none)
-text_passed n s span old e =
-    text_listed (text_view s) span.0 old
-    ∙ ap (λ m. old ++ nodes_names (node m none)) (sym (ap node_view e ∙ node_view-Text s span))

@@ -1,6 +1,7 @@
 pub mod CutFragments
 pub mod Differing
 pub mod FirstBases
+pub mod FoundNames
 pub mod Gathering
 pub mod InDocument
 pub mod Narrowed

@@ -1,11 +1,12 @@
 //! The names in a tree.
 
 ghost use Rattle.std.specs.Prelude.{◌≡◌, ◌++◌, [], ◌∷◌, OnOk, IfOk, option_to_list};
-ghost use Rattle.html_dom_tree.specs.{FrameViews.{html_frame_view, anchors_view}, Tree.{element_node, frame_node, node, none}};
-ghost use Rattle.html_dom_tree.specs.Views.{pair_view, attrs_view, node_view, nodes_view, element_view, optional_text_view};
-ghost use Rattle.html_links.specs.{Distinct.{names_view}, TreeNames.{all_ids, anchor_names, nodes_names, element_names}};
+ghost use Rattle.html_dom_tree.specs.FrameViews.{html_frame_view, anchors_view};
+ghost use Rattle.html_dom_tree.specs.Views.{pair_view, attrs_view, element_view, optional_text_view};
+ghost use Rattle.html_links.specs.{Distinct.{names_view}, TreeNames.{all_ids, anchor_names, element_names, frame_names}};
 
-use html_dom_tree::{HtmlAttrs, HtmlElement, HtmlFrame, HtmlNode, Point};
+use html_dom_tree::{HtmlAttrs, HtmlElement, HtmlFrame, Point};
+use html_dom_walk::{Visit, Walk};
 use html_names_core::{HtmlAttr, attr};
 use std::alloc::{AllocError, Global};
 
@@ -17,7 +18,14 @@ pub fn listed_names(alloc: Global, element: &HtmlElement) -> Result<Vec<&String>
 {
     let mut names = Vec::new(alloc);
     add_ids(&element.attrs, &mut names)?;
-    add_nodes(&element.children, &mut names)?;
+    let mut walk = Walk::over(alloc, &element.children);
+    while let Some(visit) = walk.next()? {
+        match visit {
+            Visit::Enter(element) => add_ids(&element.attrs, &mut names)?,
+            Visit::Frame(frame) => add_frame(frame, &mut names)?,
+            Visit::Tag(_) | Visit::Text(_, _) | Visit::Leave => {}
+        }
+    }
     Ok(names)
 }
 
@@ -66,45 +74,10 @@ fn add_frame_id<'a>(id: &'a Option<String>, names: &mut Vec<&'a String>) -> Resu
 }
 
 fn add_frame<'a>(frame: &'a HtmlFrame, names: &mut Vec<&'a String>) -> Result<(), AllocError>
-    ensures { OnOk result (names_view names.new.items ≡ names_view names.old.items
-        ++ nodes_names (node (frame_node (html_frame_view frame.now)) none)) }
+    ensures { OnOk result (names_view names.new.items
+        ≡ names_view names.old.items ++ frame_names (html_frame_view frame.now)) }
 {
     add_frame_id(&frame.id, names)?;
     add_anchors(&frame.anchors, names)?;
-    Ok(())
-}
-
-#[cycle(names)]
-fn add_element<'a>(element: &'a HtmlElement, names: &mut Vec<&'a String>) -> Result<(), AllocError>
-    ensures { let e = element_view element.now in
-        OnOk result (names_view names.new.items ≡ names_view names.old.items
-        ++ nodes_names (node (element_node e.0 e.1) none)) }
-{
-    add_ids(&element.attrs, names)?;
-    add_nodes(&element.children, names)?;
-    Ok(())
-}
-
-#[cycle(names)]
-fn add_node<'a>(child: &'a HtmlNode, names: &mut Vec<&'a String>) -> Result<(), AllocError>
-    ensures { OnOk result (names_view names.new.items ≡ names_view names.old.items
-        ++ nodes_names (node (node_view child.now) none)) }
-{
-    match child {
-        HtmlNode::Tag(_) => Ok(()),
-        HtmlNode::Text(_, _) => Ok(()),
-        HtmlNode::Element(element) => add_element(element, names),
-        HtmlNode::Frame(frame) => add_frame(frame, names),
-    }
-}
-
-#[cycle(names)]
-fn add_nodes<'a>(nodes: &'a [HtmlNode], names: &mut Vec<&'a String>) -> Result<(), AllocError>
-    ensures { OnOk result (names_view names.new.items
-        ≡ names_view names.old.items ++ nodes_names (nodes_view nodes.now)) }
-{
-    for node in nodes {
-        add_node(node, names)?;
-    }
     Ok(())
 }
