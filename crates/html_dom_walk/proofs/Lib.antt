@@ -3,3 +3,4 @@ pub mod Gathering
 pub mod Levels
 pub mod Passing
 pub mod Skipping
+pub mod Turns

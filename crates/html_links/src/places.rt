@@ -2,14 +2,14 @@
 
 ghost use Rattle.std.specs.Prelude.{◌≡◌, [], ◌∷◌, IfOk, OnOk, option_map, option_to_list};
 ghost use Rattle.html_names_core.specs.{Names.{stands_in}, Texts.{text_view}};
-ghost use Rattle.html_dom_tree.specs.{FrameViews.{anchors_view, html_frame_view}, Tree.{element_node, frame_node, node, none}};
-ghost use Rattle.html_dom_tree.specs.Views.{element_view, node_view, nodes_view};
-ghost use Rattle.html_links.specs.InDocument.{document_places, element_part, keeps, node_part, nodes_part};
-ghost use Rattle.html_links.specs.{Indicated.{element_places, link_name, nodes_places}, TreeNames.{anchor_names, first_id}};
+ghost use Rattle.html_dom_tree.specs.{FrameViews.{anchors_view, html_frame_view}, Views.{element_view}};
+ghost use Rattle.html_links.specs.InDocument.{document_places, element_part, keeps};
+ghost use Rattle.html_links.specs.{Indicated.{element_places, link_name, place_names}, TreeNames.{anchor_names, first_id, frame_names}};
 ghost use Rattle.html_links.specs.UsedNames.{used_in, with_names};
 
 use crate::names::put_in_use;
-use html_dom_tree::{HtmlElement, HtmlFrame, HtmlNode, Point};
+use html_dom_tree::{HtmlElement, HtmlFrame, Point};
+use html_dom_walk::{Visit, Walk};
 use html_names_core::{attr, tag};
 use std::alloc::{AllocError, Global};
 use std::collections::BTreeSet;
@@ -43,7 +43,23 @@ fn names_in_part(
         ≡ stands_in (element_places (element_part is_whole (element_view root.now)))) }
 {
     let mut names = BTreeSet::new(alloc);
-    add_element(root, is_whole, &mut names)?;
+    add_element(root, &mut names)?;
+    if !keeps_children(root, is_whole) {
+        return Ok(names);
+    }
+    let mut walk = Walk::over(alloc, &root.children);
+    while let Some(visit) = walk.next()? {
+        match visit {
+            Visit::Enter(element) => {
+                add_element(element, &mut names)?;
+                if !keeps_children(element, is_whole) {
+                    walk.skip();
+                }
+            }
+            Visit::Frame(frame) => add_frame(frame, &mut names)?,
+            Visit::Tag(_) | Visit::Text(_, _) | Visit::Leave => {}
+        }
+    }
     Ok(names)
 }
 
@@ -94,6 +110,15 @@ fn add_optional(name: Option<&String>, names: &mut BTreeSet<String>) -> Result<(
     }
 }
 
+fn add_element(element: &HtmlElement, names: &mut BTreeSet<String>) -> Result<(), AllocError>
+    ensures { let h = (element_view element.now).0 in OnOk result
+        (used_in names.new ≡ with_names (place_names h.name h.attrs) (used_in names.old)) }
+{
+    add_optional(first_id(element), names)?;
+    add_optional(link_name(element), names)?;
+    Ok(())
+}
+
 fn add_anchors(anchors: &[(Point, String)], names: &mut BTreeSet<String>) -> Result<(), AllocError>
     ensures { OnOk result (used_in names.new
         ≡ with_names (anchor_names (anchors_view anchors.now)) (used_in names.old)) }
@@ -105,63 +130,10 @@ fn add_anchors(anchors: &[(Point, String)], names: &mut BTreeSet<String>) -> Res
 }
 
 fn add_frame(frame: &HtmlFrame, names: &mut BTreeSet<String>) -> Result<(), AllocError>
-    ensures { OnOk result (used_in names.new ≡ with_names
-        (nodes_places (node (frame_node (html_frame_view frame.now)) none)) (used_in names.old)) }
+    ensures { OnOk result (used_in names.new
+        ≡ with_names (frame_names (html_frame_view frame.now)) (used_in names.old)) }
 {
     add_optional(frame.id.as_ref(), names)?;
     add_anchors(&frame.anchors, names)?;
-    Ok(())
-}
-
-// The node comes first among the parameters: its depth proves that the recursion ends.
-
-#[cycle(places)]
-fn add_element(
-    element: &HtmlElement,
-    is_whole: bool,
-    names: &mut BTreeSet<String>,
-) -> Result<(), AllocError>
-    ensures { let e = element_view element.now in OnOk result (used_in names.new ≡ with_names
-        (nodes_places (node (node_part is_whole (element_node e.0 e.1)) none)) (used_in names.old)) }
-{
-    add_optional(first_id(element), names)?;
-    add_optional(link_name(element), names)?;
-    if !keeps_children(element, is_whole) {
-        return Ok(());
-    }
-    add_nodes(&element.children, is_whole, names)?;
-    Ok(())
-}
-
-#[cycle(places)]
-#[tactic(auto, unfolding(crate::specs::InDocument::node_part))]
-fn add_node(
-    child: &HtmlNode,
-    is_whole: bool,
-    names: &mut BTreeSet<String>,
-) -> Result<(), AllocError>
-    ensures { OnOk result (used_in names.new ≡ with_names
-        (nodes_places (node (node_part is_whole (node_view child.now)) none)) (used_in names.old)) }
-{
-    match child {
-        HtmlNode::Tag(_) => Ok(()),
-        HtmlNode::Text(_, _) => Ok(()),
-        HtmlNode::Element(element) => add_element(element, is_whole, names),
-        HtmlNode::Frame(frame) => add_frame(frame, names),
-    }
-}
-
-#[cycle(places)]
-fn add_nodes(
-    nodes: &[HtmlNode],
-    is_whole: bool,
-    names: &mut BTreeSet<String>,
-) -> Result<(), AllocError>
-    ensures { OnOk result (used_in names.new ≡ with_names
-        (nodes_places (nodes_part is_whole (nodes_view nodes.now))) (used_in names.old)) }
-{
-    for child in nodes {
-        add_node(child, is_whole, names)?;
-    }
     Ok(())
 }
