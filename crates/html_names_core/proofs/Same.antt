@@ -7,16 +7,16 @@ use Rattle.html_names_core.specs.{Characters.{is_tag_char, is_attr_char}, Held.{
 use Rattle.html_names_core.specs.{Tables.{known_tags, known_attrs, tag_count, attr_count}, declared.name.Name.{Name}}
 use Rattle.html_names_core.specs.declared.name.Name.TheVariants.{Known, Own}
 
-tags_rise : rises known_tags ≡ true
+pub tags_rise : rises known_tags ≡ true
 unfolding known_tags
 tags_rise = refl
 
-attrs_rise : rises known_attrs ≡ true
+pub attrs_rise : rises known_attrs ≡ true
 unfolding known_attrs
 attrs_rise = refl
 
 -- two places of an ascending table are one where their texts are
-places : (table : List (List ℕ)) → rises table ≡ true → (m n : ℕ) → m < length table →
+pub places : (table : List (List ℕ)) → rises table ≡ true → (m n : ℕ) → m < length table →
     n < length table → (m == n) ≡ bytes_eq (get_or table m []) (get_or table n [])
 places table up m n h l =
     grind (
@@ -26,16 +26,6 @@ places table up m n h l =
       bytes_eq-refl,
       bytes_eq-sym (get_or table m []) (get_or table n []),
     )
-
-pub tag_places : (m n : ℕ) → m < tag_count → n < tag_count →
-    (m == n) ≡ bytes_eq (get_or known_tags m []) (get_or known_tags n [])
-tag_places m n h l =
-    places known_tags tags_rise m n (omega (arith, tag_long, h)) (omega (arith, tag_long, l))
-
-pub attr_places : (m n : ℕ) → m < attr_count → n < attr_count →
-    (m == n) ≡ bytes_eq (get_or known_attrs m []) (get_or known_attrs n [])
-attr_places m n h l =
-    places known_attrs attrs_rise m n (omega (arith, attr_long, h)) (omega (arith, attr_long, l))
 
 module _ (count : ℕ) (table : List (List ℕ)) (p : ℕ → Bool) (up : rises table ≡ true)
     (long : length table ≡ count) where

@@ -1,6 +1,6 @@
 -- Numbers of names, over lists of texts.
-use Rattle.std.proofs.Common.{◌≡◌, ℕ, zero, suc, ◌+◌, ◌<◌, ◌≤◌, Bool, true, false, if◌then◌else◌, List, [], ◌∷◌, ◌++◌, refl, sym, ap, ◌∙◌, length, get_or, arith, bytes_eq, add-one, append-nil, length-append, Some, Ok}
-use Rattle.std.proofs.{Math.Bool.{or-true}, lemmas.Bool.{eq-eqb}, lemmas.List.{get_or_read_under}, lemmas.Slice.Eq.{bytes_eq-Decides}}
+use Rattle.std.proofs.Common.{◌≡◌, ℕ, zero, suc, ◌+◌, ◌<◌, ◌≤◌, true, false, if◌then◌else◌, List, [], ◌∷◌, ◌++◌, refl, sym, ap, ◌∙◌, length, arith, bytes_eq, add-one, append-nil, length-append, Some, Result, Ok, Err}
+use Rattle.std.proofs.{Math.Bool.{or-true}, lemmas.Bool.{eq-eqb}, lemmas.Slice.Eq.{bytes_eq-Decides}}
 use Rattle.html_names_core.{proofs.Ascending.{stands, stands_in-append}, proofs.Basics.{bytes_eq-refl}, specs.Names.{stands_in}}
 use Rattle.html_names_table.specs.{NameTables.{NamesView, Numbers, IsNumbered, number_in, with_name, name_at}, NumberMaps.{number_where}}
 
@@ -152,14 +152,12 @@ added_again names name other =
 pub ruleset stays = (number_later, stands_in-both, added_again, eq-eqb)
 
 -- a name that is equal to the one with a number has that number
-pub guessed : (now names : List (List ℕ)) (name kept : List ℕ) (number count : ℕ) → now ≡ names →
-    IsNumbered now → kept ≡ get_or now number kept → number < count → count ≡ length now →
-    bytes_eq kept name ≡ true → Some number ≡ number_where names name
-guessed now names name kept number count is all read below counted e =
-    let at : kept ≡ name_at now number = get_or_read_under now number count kept [] read below counted in
-    let named : name_at now number ≡ name = sym at ∙ (bytes_eq-Decides kept name).0 e in
-    let within : number < length now = omega arith in
-    rw (sym is, sym named, stands now number within) (ap Some (sym (all number within)))
+pub guessed : (names : List (List ℕ)) (name kept : List ℕ) (number : ℕ) → IsNumbered names →
+    kept ≡ name_at names number → number < length names → bytes_eq kept name ≡ true →
+    Some number ≡ number_where names name
+guessed names name kept number all at within e =
+    let named : name_at names number ≡ name = sym at ∙ (bytes_eq-Decides kept name).0 e in
+    rw (sym named, stands names number within) (ap Some (sym (all number within)))
 
 found_where : (names : List (List ℕ)) (name : List ℕ) (number : ℕ) →
     Some number ≡ number_where names name →
@@ -167,30 +165,32 @@ found_where : (names : List (List ℕ)) (name : List ℕ) (number : ℕ) →
 unfolding with_name
 found_where names name number e = grind (arith, number_below names name)
 
-last_below : (names after : List (List ℕ)) (name : List ℕ) (number : ℕ) → number ≡ length names →
-    after ≡ names ++ name ∷ [] → number < length after
-last_below names after name number counted added =
-    rw (added, length-append names (name ∷ [])) (omega arith)
+-- a name that is found, and one that is not
+pub finds : {E : Type 0} → (names : List (List ℕ)) (name : List ℕ) (number : ℕ) →
+    Some number ≡ number_where names name →
+    Numbers {E = E} (Ok number) names names name names names (with_name names name)
+finds names name number there =
+    let grown = found_where names name number there in
+    record { number = grown.0; below = grown.1; names = sym grown.2; absent = tt; kept = tt }
 
--- in a table, of which the names that have a number are one part: a name that is found, and one that
--- is not
-module _ (part : List (List ℕ) → NamesView) (names : List (List ℕ)) (text : List ℕ)
-    (number : ℕ) where
-  pub finds : {E : Type 0} → Some number ≡ number_where names text →
-      Numbers {E = E} (Ok number) names names text (part names) (part names) (part (with_name names text))
-  finds there =
-      let grown = found_where names text number there in
-      record { number = grown.0; below = grown.1; names = rw grown.2 refl; absent = tt; kept = tt }
+pub adds : {E : Type 0} → (names after : List (List ℕ)) (name : List ℕ) (number : ℕ) →
+    after ≡ names ++ name ∷ [] → number ≡ length names → stands_in names name ≡ false →
+    Numbers {E = E} (Ok number) names after name names after (with_name names name)
+adds names after name number added counted new =
+    record {
+      number = counted ∙ sym (number_next names name new);
+      below = rw (added, length-append names (name ∷ [])) (omega (arith, counted));
+      names = added ∙ sym (with_name-new names name new);
+      absent = tt;
+      kept = tt;
+    }
 
-  pub adds : {E : Type 0} → (now : List (List ℕ)) (held : List ℕ) → now ≡ names → held ≡ text →
-      (after : List (List ℕ)) (table : NamesView) → table ≡ part after →
-      after ≡ now ++ held ∷ [] → number ≡ length now → stands_in names text ≡ false →
-      Numbers {E = E} (Ok number) names after text (part names) table (part (with_name names text))
-  adds now held is named after table grown added counted new =
-      record {
-        number = rw (number_next names text new, counted, is) refl;
-        below = last_below now after held number counted added;
-        names = grown ∙ ap part (added ∙ rw (is, named, with_name-new names text new) refl);
-        absent = tt;
-        kept = tt;
-      }
+-- the same in a table, of which the names that have a number are one part
+pub in_table : {E : Type 0} (part : List (List ℕ) → NamesView) (result : Result ℕ E)
+    (old new : List (List ℕ)) (name : List ℕ) →
+    Numbers result old new name old new (with_name old name) →
+    Numbers result old new name (part old) (part new) (part (with_name old name))
+in_table part (Ok n) old new name h =
+    record { number = h.number; below = h.below; names = ap part h.names; absent = tt; kept = tt }
+in_table part (Err e) old new name h =
+    record { number = tt; below = tt; names = tt; absent = h.absent; kept = ap part h.kept }

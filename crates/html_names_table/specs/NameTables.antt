@@ -42,8 +42,8 @@ with_attr table attr = record { tags = table.tags; attrs = with_name table.attrs
 
 -- a call returns the number of a name, which is below the count of the names after the call, and
 -- the table becomes `grown`; if the call fails, the name had no number and the table is unchanged
-pub record Numbers {E : Type 0} (result : Result ℕ E) (given after : List (List ℕ)) (name : List ℕ)
-    (old new grown : NamesView) : Type 0 where
+pub record Numbers {E T : Type 0} (result : Result ℕ E) (given after : List (List ℕ))
+    (name : List ℕ) (old new grown : T) : Type 0 where
   pub number : IfOk result (λ n. n ≡ number_in given name)
   pub below : IfOk result (λ n. n < length after)
   pub names : OnOk result (new ≡ grown)

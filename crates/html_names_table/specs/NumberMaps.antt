@@ -1,5 +1,5 @@
 -- Numbers of names by their representation, and when they are the numbers in a list of names.
-use Rattle.std.specs.Prelude.{◌≡◌, ℕ, ◌<◌, ◌==◌, List, [], slice_index_or, if◌then◌else◌, Option, Some, None, Result, OnOk, OnErr}
+use Rattle.std.specs.Prelude.{◌≡◌, ℕ, ◌<◌, ◌==◌, List, [], length, slice_index_or, if◌then◌else◌, Option, Some, None, Result, OnOk, OnErr}
 use Rattle.std.specs.declared.alloc.AllocError.{AllocError}
 use Rattle.html_names_table.specs.{NameTables.{number_in, IsNumbered}, OwnNumbers.{HoldsNoText, IsOwnNumbering}}
 use Rattle.html_names_table.specs.declared.name_table.number_map.NumberMap.{NumberMap}
@@ -27,12 +27,11 @@ abbrev pub number_where : List (List ℕ) → List ℕ → Option ℕ
 number_where names name = if stands_in names name then Some (number_in names name) else None
 
 -- each of a table of known names has the number of its text among the names
-abbrev pub IsKnownNumbering : (count : ℕ) (table : List (List ℕ)) → NumberMap →
-    List (List ℕ) → Type 0
-IsKnownNumbering count table numbers names = (place : ℕ) → place < count →
+abbrev pub IsKnownNumbering : (table : List (List ℕ)) → NumberMap → List (List ℕ) → Type 0
+IsKnownNumbering table numbers names = (place : ℕ) → place < length table →
     known_number numbers place ≡ number_where names (slice_index_or table place [])
 
 -- no two of the names are equal, and each name has its number among them
-abbrev pub IsNumbering : (count : ℕ) (table : List (List ℕ)) → NumberMap → List (List ℕ) → Type 0
-IsNumbering count table numbers names = IsNumbered names
-    × IsKnownNumbering count table numbers names × IsOwnNumbering table numbers.own names
+abbrev pub IsNumbering : (table : List (List ℕ)) → NumberMap → List (List ℕ) → Type 0
+IsNumbering table numbers names = IsNumbered names
+    × IsKnownNumbering table numbers names × IsOwnNumbering table numbers.own names
