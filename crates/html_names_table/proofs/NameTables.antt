@@ -2,7 +2,7 @@
 use Rattle.std.proofs.Common.{◌≡◌, ℕ, zero, suc, ◌+◌, ◌<◌, ◌≤◌, true, false, if◌then◌else◌, List, [], ◌∷◌, ◌++◌, refl, sym, ap, ◌∙◌, length, arith, bytes_eq, add-one, append-nil, length-append, Some, Result, Ok, Err}
 use Rattle.std.proofs.{Math.Bool.{or-true}, lemmas.Bool.{eq-eqb}, lemmas.Slice.Eq.{bytes_eq-Decides}}
 use Rattle.html_names_core.{proofs.Ascending.{stands, stands_in-append}, proofs.Basics.{bytes_eq-refl}, specs.Names.{stands_in}}
-use Rattle.html_names_table.specs.{NameTables.{NamesView, Numbers, IsNumbered, number_in, with_name, name_at}, NumberMaps.{number_where}}
+use Rattle.html_names_table.specs.NameTables.{NamesView, Numbers, IsNumbered, number_in, number_where, with_name, name_at}
 
 pub number_below : (names : List (List ℕ)) (name : List ℕ) → stands_in names name ≡ true →
     number_in names name < length names
@@ -159,11 +159,12 @@ guessed names name kept number all at within e =
     let named : name_at names number ≡ name = sym at ∙ (bytes_eq-Decides kept name).0 e in
     rw (sym named, stands names number within) (ap Some (sym (all number within)))
 
-found_where : (names : List (List ℕ)) (name : List ℕ) (number : ℕ) →
-    Some number ≡ number_where names name →
-    (number ≡ number_in names name) × (number < length names) × (with_name names name ≡ names)
+pub found_where : (names : List (List ℕ)) (name : List ℕ) (number : ℕ) →
+    Some number ≡ number_where names name → (number ≡ number_in names name)
+    × (number < length names) × (with_name names name ≡ names) × (name_at names number ≡ name)
 unfolding with_name
-found_where names name number e = grind (arith, number_below names name)
+found_where names name number e =
+    grind (arith, number_below names name, name_at-number names name)
 
 -- a name that is found, and one that is not
 pub finds : {E : Type 0} → (names : List (List ℕ)) (name : List ℕ) (number : ℕ) →

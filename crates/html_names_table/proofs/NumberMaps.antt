@@ -21,7 +21,7 @@ numbered names name all new number h =
     )
 
 -- a text that is not the last stands among the names as before
-pub others_stand : (names : List (List ℕ)) (name other : List ℕ) → bytes_eq name other ≡ false →
+others_stand : (names : List (List ℕ)) (name other : List ℕ) → bytes_eq name other ≡ false →
     stands_in (names ++ name ∷ []) other ≡ stands_in names other
 unfolding stands_in
 others_stand [] name other e = rw e refl
@@ -33,6 +33,11 @@ module _ {A : Type 0} (kept : ℕ → A) where
   kept_where names name =
       if stands_in names name then Some (kept (number_in names name)) else None
 
+  pub others_where : (names : List (List ℕ)) (name other : List ℕ) → bytes_eq name other ≡ false →
+      kept_where (names ++ name ∷ []) other ≡ kept_where names other
+  others_where names name other e =
+      grind (arith, others_stand names name other e, number_in-append names (name ∷ []) other)
+
   pub added_where : (names : List (List ℕ)) (name other : List ℕ) (b : Bool) →
       stands_in names name ≡ false → bytes_eq name other ≡ b →
       (if b then Some (kept (length names)) else kept_where names other)
@@ -41,5 +46,4 @@ module _ {A : Type 0} (kept : ℕ → A) where
       let is : name ≡ other = (bytes_eq-Decides name other).0 e in
       rw (sym is, stands_in-last names name, number_in-last names name, number_next names name new)
       refl
-  added_where names name other false new e =
-      grind (arith, others_stand names name other e, number_in-append names (name ∷ []) other)
+  added_where names name other false new e = sym (others_where names name other e)

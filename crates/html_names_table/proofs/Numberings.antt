@@ -3,9 +3,9 @@ use Rattle.std.proofs.Common.{◌≡◌, ℕ, ◌+◌, ◌<◌, true, false, Lis
 use Rattle.std.proofs.lemmas.{Bool.{false≢true}, List.{get_or-map, length-map, length-take-le, map_more, take-map}}
 use Rattle.std.specs.{BTreeMap.{get_by_text}, Prelude.{is_some}, Str.{IsUtf8}, declared.alloc.AllocError.{AllocError}}
 use Rattle.html_names_table.proofs.{NameTables.{guessed}, NumberMaps.{added_where, numbered}}
-use Rattle.html_names_table.proofs.OwnNumbers.{own_fresh, own_beside, own_next, not_before, free_slot, other_slot}
-use Rattle.html_names_table.specs.NameTables.{name_at, IsNumbered}
-use Rattle.html_names_table.specs.NumberMaps.{known_number, number_where, HoldsNone, PutsKnown, IsKnownNumbering, IsNumbering}
+use Rattle.html_names_table.proofs.OwnNumbers.{own_fresh, own_beside, own_next, not_before, other_slot}
+use Rattle.html_names_table.specs.NameTables.{name_at, number_where, IsNumbered}
+use Rattle.html_names_table.specs.NumberMaps.{known_number, HoldsNone, PutsKnown, IsKnownNumbering, IsNumbering}
 use Rattle.html_names_table.specs.{OwnNumbers.{slot_number, PutsText, IsOwnNumbering}, declared.name_table.number_map.NumberMap.{NumberMap}}
 use Rattle.html_names_table.specs.declared.name_table.own_numbers.OwnNumbers.{OwnNumbers}
 use Rattle.html_names_core.proofs.{Ascending.{stands, differs}, Basics.{bytes_eq-sym}, Lists.{bytes_eq-chars}, Same.{places}}
@@ -90,10 +90,10 @@ module _ {N : Type 0} (shown : N → List ℕ) (table : List (List ℕ)) (number
   long : length now ≡ length kept
   long = length-map kept shown
 
-  pub found_none : len ≤ number → None ≡ number_where names (chars text)
-  found_none free =
-      rw (sym same)
-      (free_slot table numbers.own now text was.2 u unknown (omega (arith, at, counted, free, long)))
+  pub found_past : len ≤ number → get_by_text numbers.own.rest text ≡ number_where names (chars text)
+  found_past past =
+      rw (sym same) (other_slot table numbers.own now text was.2 u unknown
+      (λ below. absurd (omega (arith, at, counted, past, long, below))))
 
   module _ (name : N) (bytes : List ℕ) (below : number < len) (read : name ≡ get_or kept number name)
       (is : chars bytes ≡ shown name) (v : IsUtf8 bytes) where
@@ -113,7 +113,7 @@ module _ {N : Type 0} (shown : N → List ℕ) (table : List (List ℕ)) (number
     found_in_rest e =
         let other : bytes_eq (name_at now (slot_number numbers.own text)) (chars text) ≡ false =
         rw (sym at, sym item) (alike ∙ e) in
-        rw (sym same) (other_slot table numbers.own now text was.2 u unknown other)
+        rw (sym same) (other_slot table numbers.own now text was.2 u unknown (λ below. other))
 
 -- the numbers of the names with lower numbers, and one more name
 module _ {N : Type 0} (shown : N → List ℕ) (table : List (List ℕ)) (kept : List N)

@@ -1,13 +1,12 @@
 -- The numbers of names that are not known, against the list of the names.
-use Rattle.std.proofs.Common.{◌≡◌, ℕ, ◌+◌, ◌<◌, ◌≤◌, ◌⊎◌, inl, inr, Bool, true, false, if◌then◌else◌, List, [], ◌∷◌, ◌++◌, refl, sym, ap, ◌∙◌, chars, length, get_or, take, drop, set, arith, bytes_eq, length-append, Some, None, string_bytes}
-use Rattle.std.proofs.{Math.ListN.{get_or-eq_default}, lemmas.Bool.{false≢true}}
+use Rattle.std.proofs.Common.{◌≡◌, ℕ, ◌+◌, ◌<◌, ◌≤◌, ◌⊎◌, inl, inr, Bool, true, false, List, [], ◌∷◌, ◌++◌, refl, sym, ap, ◌∙◌, chars, length, get_or, take, drop, set, arith, bytes_eq, Some, string_bytes}
+use Rattle.std.proofs.lemmas.Bool.{false≢true}
 use Rattle.std.proofs.lemmas.List.{take-append-drop, length-take-le, length-set, get_or_default, get_or-set_same, get_or-set_other}
 use Rattle.std.proofs.lemmas.{Bool.Decides.{eqb_tells}, Map.Text.{btree_map_updates_text}, Slice.Eq.{bytes_eq-Decides}}
 use Rattle.std.specs.{BTreeMap.{get_by_text, UpdatesBy}, Ordering.{nat_cmp}, Str.{IsUtf8}, String.{string_cmp}}
 use Rattle.std.specs.Cmp.Lexicographic.{slice_cmp}
-use Rattle.html_names_table.proofs.NameTables.{number_below, number_next, name_at-number, number_in-append, number_in-last, stands_in-last}
-use Rattle.html_names_table.proofs.NumberMaps.{others_stand}
-use Rattle.html_names_table.specs.{NameTables.{number_in, name_at, IsNumbered}, NumberMaps.{number_where}}
+use Rattle.html_names_table.proofs.{NameTables.{found_where, number_below, number_in-append}, NumberMaps.{added_where, others_where}}
+use Rattle.html_names_table.specs.NameTables.{number_in, number_where, name_at, IsNumbered}
 use Rattle.html_names_table.specs.OwnNumbers.{slot_of, slot_number, HoldsNoText, TakesSlot, JoinsRest, IsFound, IsOwnNumbering}
 use Rattle.html_names_table.specs.declared.name_table.own_numbers.OwnNumbers.{OwnNumbers}
 use Rattle.html_names_core.proofs.{Ascending.{differs}, Basics.{bytes_eq-refl}, Lists.{bytes_eq-chars}}
@@ -16,10 +15,7 @@ use Rattle.html_names_core.specs.Names.{stands_in}
 pub own_fresh : (table : List (List ℕ)) (own : OwnNumbers) → HoldsNoText own →
     IsOwnNumbering table own []
 unfolding stands_in
-own_fresh table own none = record {
-  found = λ text u h there. absurd (false≢true there);
-  missing = λ text u h absent. none text;
-}
+own_fresh table own none = record { found = λ text u new. inr (none text) }
 
 -- the slot of any text, where a slot has been set
 read_after : (old new : List ℕ) (slot number : ℕ) (other : List ℕ) → new ≡ set old slot number →
@@ -28,25 +24,6 @@ read_after : (old new : List ℕ) (slot number : ℕ) (other : List ℕ) → new
 read_after old new slot number other e =
     ap (λ slots. get_or slots (slot_of other (length slots)) 0) e
     ∙ ap (λ n. get_or (set old slot number) (slot_of other n) 0) (length-set old slot number)
-
--- a slot that is not free
-pub read_taken : (old : OwnNumbers) (text : List ℕ) (number slot item : ℕ) →
-    slot ≡ slot_of text (length old.slots.items) → slot < length old.slots.items →
-    item ≡ get_or old.slots.items slot item → item < number → slot_number old text ≤ number
-read_taken old text number slot item at below read low =
-    let is : slot_number old text ≡ item =
-    ap (λ n. get_or old.slots.items n 0) (sym at)
-    ∙ (get_or_default old.slots.items slot 0 item below ∙ sym read) in
-    omega (arith, is, low)
-
--- and one that there is not
-pub read_outside : (old : OwnNumbers) (text : List ℕ) (number slot : ℕ) →
-    slot ≡ slot_of text (length old.slots.items) → length old.slots.items ≤ slot →
-    slot_number old text ≤ number
-read_outside old text number slot at outside =
-    let is : slot_number old text ≡ 0 =
-    ap (λ n. get_or old.slots.items n 0) (sym at) ∙ get_or-eq_default old.slots.items 0 outside in
-    omega (arith, is)
 
 -- a text gets its slot
 module _ (old new : OwnNumbers) (text : List ℕ) (number slot item : ℕ)
@@ -80,170 +57,97 @@ module _ (old new : OwnNumbers) (text : List ℕ) (number slot item : ℕ)
 
 -- a text goes to the map
 pub joins : (old new : OwnNumbers) (text key : List ℕ) (number : ℕ) → key ≡ text →
-    new.slots.items ≡ old.slots.items → slot_number old text ≤ number →
+    new.slots.items ≡ old.slots.items →
     UpdatesBy string_cmp (λ k. slice_cmp nat_cmp key (string_bytes k)) old.rest new.rest
     (Some number) →
     JoinsRest old new text number
-joins old new text key number copied same_slots taken updates = record {
-  taken = taken;
+joins old new text key number copied same_slots updates = record {
   slots = λ other. ap (λ slots. get_or slots (slot_of other (length slots)) 0) same_slots;
   rest = λ other. rw (sym copied)
       (btree_map_updates_text key old.rest new.rest (Some number) updates other);
 }
 
--- what is looked up by a text that is not known
-module _ (table : List (List ℕ)) (own : OwnNumbers) (names : List (List ℕ)) (text : List ℕ)
-    (was : IsOwnNumbering table own names) (u : IsUtf8 text)
-    (new : stands_in table (chars text) ≡ false) where
-  not_free : IsFound own names text (number_in names (chars text)) →
-      stands_in names (chars text) ≡ true → length names ≤ slot_number own text → ⊥
-  not_free (inl at) there free = omega (arith, at, free, number_below names (chars text) there)
-  not_free (inr (below, at)) there free = omega (arith, below, free)
+-- a text that is not known is in the map, where its slot has the number of another name or of none
+pub other_slot : (table : List (List ℕ)) (own : OwnNumbers) (names : List (List ℕ))
+    (text : List ℕ) → IsOwnNumbering table own names → IsUtf8 text →
+    stands_in table (chars text) ≡ false → (slot_number own text < length names →
+    bytes_eq (name_at names (slot_number own text)) (chars text) ≡ false) →
+    get_by_text own.rest text ≡ number_where names (chars text)
+other_slot table own names text was u new differ =
+    let slot : ℕ = slot_number own text in
+    elim (was.found text u new) [
+      | inl at ↦
+          let found = found_where names (chars text) slot at in
+          absurd (false≢true (sym (differ found.1)
+          ∙ (bytes_eq-Decides (name_at names slot) (chars text)).1 found.3))
+      | inr at ↦ at
+    ]
 
-  none_by : (b : Bool) → stands_in names (chars text) ≡ b → length names ≤ slot_number own text →
-      None ≡ (if b then Some (number_in names (chars text)) else None)
-  none_by true e free = absurd (not_free (was.found text u new e) e free)
-  none_by false e free = refl
+-- the number of a text stays when the names change
+moved : (own : OwnNumbers) (names after : List (List ℕ)) (text : List ℕ) →
+    number_where after (chars text) ≡ number_where names (chars text) → IsFound own names text →
+    IsFound own after text
+moved own names after text same (inl at) = inl (at ∙ sym same)
+moved own names after text same (inr at) = inr (at ∙ sym same)
 
-  pub free_slot : length names ≤ slot_number own text → None ≡ number_where names (chars text)
-  free_slot free = none_by (stands_in names (chars text)) refl free
-
-  in_rest : (number : ℕ) → name_at names number ≡ chars text → IsFound own names text number →
-      bytes_eq (name_at names (slot_number own text)) (chars text) ≡ false →
-      get_by_text own.rest text ≡ Some number
-  in_rest number is (inl at) differ =
-      absurd (false≢true (sym differ
-      ∙ (bytes_eq-Decides (name_at names (slot_number own text)) (chars text)).1
-      (ap (name_at names) at ∙ is)))
-  in_rest number is (inr (below, at)) differ = at
-
-  rest_by : (b : Bool) → stands_in names (chars text) ≡ b →
-      bytes_eq (name_at names (slot_number own text)) (chars text) ≡ false →
-      get_by_text own.rest text ≡ (if b then Some (number_in names (chars text)) else None)
-  rest_by true e differ =
-      in_rest (number_in names (chars text)) (name_at-number names (chars text) e)
-      (was.found text u new e) differ
-  rest_by false e differ = was.missing text u new e
-
-  pub other_slot : bytes_eq (name_at names (slot_number own text)) (chars text) ≡ false →
-      get_by_text own.rest text ≡ number_where names (chars text)
-  other_slot differ = rest_by (stands_in names (chars text)) refl differ
-
--- a name goes to the end of the list
-module _ (table : List (List ℕ)) (names : List (List ℕ)) (name : List ℕ) where
-  longer : (own : OwnNumbers) (text : List ℕ) (number : ℕ) → IsFound own names text number →
-      IsFound own (names ++ name ∷ []) text number
-  longer own text number (inl at) = inl at
-  longer own text number (inr (below, at)) =
-      inr (omega (arith, below, length-append names (name ∷ [])), at)
-
-  before : (text : List ℕ) → bytes_eq name (chars text) ≡ false →
-      stands_in (names ++ name ∷ []) (chars text) ≡ true → stands_in names (chars text) ≡ true
-  before text differ there = sym (others_stand names name (chars text) differ) ∙ there
-
-  absent_before : (text : List ℕ) → bytes_eq name (chars text) ≡ false →
-      stands_in (names ++ name ∷ []) (chars text) ≡ false → stands_in names (chars text) ≡ false
-  absent_before text differ absent = sym (others_stand names name (chars text) differ) ∙ absent
-
-  -- a known one
-  pub own_beside : (own : OwnNumbers) → stands_in table name ≡ true →
-      IsOwnNumbering table own names → IsOwnNumbering table own (names ++ name ∷ [])
-  own_beside own known was = record {
-    found = λ text u h there.
-        let differ = differs table name (chars text) known h in
-        let was_there : stands_in names (chars text) ≡ true = before text differ there in
-        rw (number_in-append names (name ∷ []) (chars text) was_there)
-        (longer own text (number_in names (chars text)) (was.found text u h was_there));
-    missing = λ text u h absent.
-        was.missing text u h (absent_before text (differs table name (chars text) known h) absent);
-  }
+-- a known name goes to the end of the list
+pub own_beside : (table names : List (List ℕ)) (name : List ℕ) (own : OwnNumbers) →
+    stands_in table name ≡ true → IsOwnNumbering table own names →
+    IsOwnNumbering table own (names ++ name ∷ [])
+own_beside table names name own known was = record {
+  found = λ text u new.
+      let differ : bytes_eq name (chars text) ≡ false = differs table name (chars text) known new in
+      moved own names (names ++ name ∷ []) text
+      (others_where (λ n. n) names name (chars text) differ) (was.found text u new);
+}
 
 -- a text that is not known goes to the end of the list
-module _ (table : List (List ℕ)) (names : List (List ℕ)) (old new : OwnNumbers) (text : List ℕ)
-    (number : ℕ) (counted : number ≡ length names) where
+module _ (table names : List (List ℕ)) (old new : OwnNumbers) (text : List ℕ) (number : ℕ)
+    (counted : number ≡ length names) (u : IsUtf8 text) (was : IsOwnNumbering table old names)
+    (absent : stands_in names (chars text) ≡ false) where
   abbrev after : List (List ℕ)
   after = names ++ chars text ∷ []
 
-  long : length after ≡ length names + 1
-  long = length-append names (chars text ∷ [])
-
-  kept_by_slot : TakesSlot old new text number → (other : List ℕ) (k : ℕ) → k < length names →
-      IsFound old names other k → IsFound new after other k
-  kept_by_slot p other k below (inl at) =
-      elim (p.others other) [
-        | inl e ↦ inl (e ∙ at)
-        | inr e ↦ absurd (omega (arith, p.free, e, at, below, counted))
-      ]
-  kept_by_slot p other k below (inr (under, at)) =
-      elim (p.others other) [
-        | inl e ↦ inr (omega (arith, e, under, long), p.rest other ∙ at)
-        | inr e ↦ absurd (omega (arith, p.free, e, under, counted))
-      ]
-
-  kept_by_rest : JoinsRest old new text number → (other : List ℕ) (k : ℕ) →
-      bytes_eq text other ≡ false → IsFound old names other k → IsFound new after other k
-  kept_by_rest p other k differ (inl at) = inl (p.slots other ∙ at)
-  kept_by_rest p other k differ (inr (under, at)) =
-      inr (omega (arith, p.slots other, under, long), p.rest other ∙ rw differ at)
-
-  kept_found : TakesSlot old new text number ⊎ JoinsRest old new text number → (other : List ℕ)
-      (k : ℕ) → k < length names → bytes_eq text other ≡ false → IsFound old names other k →
-      IsFound new after other k
-  kept_found (inl p) other k below differ was = kept_by_slot p other k below was
-  kept_found (inr p) other k below differ was = kept_by_rest p other k differ was
+  there : Some (length names) ≡ number_where after (chars text)
+  there =
+      added_where (λ n. n) names (chars text) (chars text) true absent (bytes_eq-refl (chars text))
 
   placed_found : TakesSlot old new text number ⊎ JoinsRest old new text number →
-      IsFound new after text (length names)
-  placed_found (inl p) = inl (p.taken ∙ counted)
-  placed_found (inr p) =
-      inr (
-        omega (arith, p.slots text, p.taken, counted, long),
-        p.rest text ∙ rw (bytes_eq-refl text, counted) refl,
-      )
+      IsFound new after text
+  placed_found (inl p) = inl (ap Some (p.taken ∙ counted) ∙ there)
+  placed_found (inr p) = inr (p.rest text ∙ rw (bytes_eq-refl text, counted) there)
 
-  kept_missing : TakesSlot old new text number ⊎ JoinsRest old new text number →
-      (other : List ℕ) → bytes_eq text other ≡ false → get_by_text old.rest other ≡ None →
-      get_by_text new.rest other ≡ None
-  kept_missing (inl p) other differ none = p.rest other ∙ none
-  kept_missing (inr p) other differ none = p.rest other ∙ rw differ none
+  kept_found : TakesSlot old new text number ⊎ JoinsRest old new text number → (other : List ℕ) →
+      bytes_eq text other ≡ false → IsFound old names other → IsFound new names other
+  kept_found (inl p) other differ (inl at) =
+      elim (p.others other) [
+        | inl e ↦ inl (ap Some e ∙ at)
+        | inr e ↦ absurd (omega (
+          arith,
+          p.free,
+          e,
+          counted,
+          (found_where names (chars other) (slot_number old other) at).1,
+        ))
+      ]
+  kept_found (inl p) other differ (inr at) = inr (p.rest other ∙ at)
+  kept_found (inr p) other differ (inl at) = inl (ap Some (p.slots other) ∙ at)
+  kept_found (inr p) other differ (inr at) = inr (p.rest other ∙ rw differ at)
 
-  module _ (u : IsUtf8 text) (was : IsOwnNumbering table old names)
-      (absent : stands_in names (chars text) ≡ false)
-      (placed : TakesSlot old new text number ⊎ JoinsRest old new text number) where
-    found_by : (other : List ℕ) (b : Bool) → IsUtf8 other → bytes_eq text other ≡ b →
-        stands_in table (chars other) ≡ false → stands_in after (chars other) ≡ true →
-        IsFound new after other (number_in after (chars other))
-    found_by other true v e h there =
-        let is : text ≡ other = (bytes_eq-Decides text other).0 e in
-        rw (sym is, number_in-last names (chars text), number_next names (chars text) absent)
-        (placed_found placed)
-    found_by other false v e h there =
-        let differ : bytes_eq (chars text) (chars other) ≡ false =
-        bytes_eq-chars text other u v ∙ e in
-        let was_there : stands_in names (chars other) ≡ true =
-        before table names (chars text) other differ there in
-        rw (number_in-append names (chars text ∷ []) (chars other) was_there)
-        (kept_found placed other _ (number_below names (chars other) was_there) e
-        (was.found other v h was_there))
+  found_by : TakesSlot old new text number ⊎ JoinsRest old new text number → (other : List ℕ)
+      (b : Bool) → IsUtf8 other → stands_in table (chars other) ≡ false →
+      bytes_eq text other ≡ b → IsFound new after other
+  found_by placed other true v h e =
+      let is : text ≡ other = (bytes_eq-Decides text other).0 e in
+      rw (sym is) (placed_found placed)
+  found_by placed other false v h e =
+      let differ : bytes_eq (chars text) (chars other) ≡ false = bytes_eq-chars text other u v ∙ e in
+      moved new names after other (others_where (λ n. n) names (chars text) (chars other) differ)
+      (kept_found placed other e (was.found other v h))
 
-    missing_by : (other : List ℕ) (b : Bool) → IsUtf8 other → bytes_eq text other ≡ b →
-        stands_in table (chars other) ≡ false → stands_in after (chars other) ≡ false →
-        get_by_text new.rest other ≡ None
-    missing_by other true v e h gone =
-        let is : text ≡ other = (bytes_eq-Decides text other).0 e in
-        absurd (false≢true (sym gone ∙ (ap (λ t. stands_in after (chars t)) (sym is)
-        ∙ stands_in-last names (chars text))))
-    missing_by other false v e h gone =
-        let differ : bytes_eq (chars text) (chars other) ≡ false =
-        bytes_eq-chars text other u v ∙ e in
-        kept_missing placed other e
-        (was.missing other v h (absent_before table names (chars text) other differ gone))
-
-    pub own_next : IsOwnNumbering table new after
-    own_next = record {
-      found = λ other v h there. found_by other _ v refl h there;
-      missing = λ other v h gone. missing_by other _ v refl h gone;
-    }
+  pub own_next : TakesSlot old new text number ⊎ JoinsRest old new text number →
+      IsOwnNumbering table new after
+  own_next placed = record { found = λ other v h. found_by placed other _ v h refl }
 
 -- a name does not stand among those with lower numbers
 not_before_by : (names : List (List ℕ)) (n : ℕ) (b : Bool) → IsNumbered names → n < length names →

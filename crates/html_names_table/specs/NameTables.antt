@@ -1,5 +1,5 @@
 -- Numbers for names: a table numbers the tags from 0 on, and the attributes separately.
-use Rattle.std.specs.Prelude.{◌≡◌, ℕ, ◌+◌, ◌⊎◌, false, List, [], ◌∷◌, ◌++◌, bytes_eq, slice_index_or, if◌then◌else◌, Result, IfOk, OnOk, OnErr, ◌<◌, length}
+use Rattle.std.specs.Prelude.{◌≡◌, ℕ, ◌+◌, ◌⊎◌, false, List, [], ◌∷◌, ◌++◌, bytes_eq, slice_index_or, if◌then◌else◌, Option, Some, None, Result, IfOk, OnOk, OnErr, ◌<◌, length}
 use Rattle.std.specs.declared.alloc.AllocError.{AllocError}
 use Rattle.html_names_core.specs.Names.{stands_in}
 
@@ -18,6 +18,10 @@ no_names = record { tags = []; attrs = [] }
 unfoldable pub number_in : List (List ℕ) → List ℕ → ℕ
 number_in [] name = 0
 number_in (n ∷ ns) name = if bytes_eq n name then 0 else number_in ns name + 1
+
+-- the number of a text among names, if it is one of them
+abbrev pub number_where : List (List ℕ) → List ℕ → Option ℕ
+number_where names name = if stands_in names name then Some (number_in names name) else None
 
 -- the names, with that name at the end unless it is among them
 unfoldable pub with_name : List (List ℕ) → List ℕ → List (List ℕ)

@@ -1,9 +1,8 @@
 -- Numbers of names by their representation, and when they are the numbers in a list of names.
 use Rattle.std.specs.Prelude.{◌≡◌, ℕ, ◌<◌, ◌==◌, List, [], length, slice_index_or, if◌then◌else◌, Option, Some, None, Result, OnOk, OnErr}
 use Rattle.std.specs.declared.alloc.AllocError.{AllocError}
-use Rattle.html_names_table.specs.{NameTables.{number_in, IsNumbered}, OwnNumbers.{HoldsNoText, IsOwnNumbering}}
+use Rattle.html_names_table.specs.{NameTables.{number_where, IsNumbered}, OwnNumbers.{HoldsNoText, IsOwnNumbering}}
 use Rattle.html_names_table.specs.declared.name_table.number_map.NumberMap.{NumberMap}
-use Rattle.html_names_core.specs.Names.{stands_in}
 
 -- the number of the known name with that index, if it has one
 abbrev pub known_number : NumberMap → ℕ → Option ℕ
@@ -21,10 +20,6 @@ pub record PutsKnown (result : Result (Unit {0}) AllocError) (old new : NumberMa
       ≡ (if place == other then Some number else known_number old other))
   pub kept : OnErr result ((other : ℕ) → known_number new other ≡ known_number old other)
   pub own : new.own ≡ old.own
-
--- the number of a text among names, if it is one of them
-abbrev pub number_where : List (List ℕ) → List ℕ → Option ℕ
-number_where names name = if stands_in names name then Some (number_in names name) else None
 
 -- each of a table of known names has the number of its text among the names
 abbrev pub IsKnownNumbering : (table : List (List ℕ)) → NumberMap → List (List ℕ) → Type 0

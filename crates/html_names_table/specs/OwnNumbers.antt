@@ -1,9 +1,9 @@
 -- Numbers of names that are not known, by a slot of their text or in a map, and when they are the
 -- numbers in a list of names.
 use Rattle.std.specs.{BTreeMap.{get_by_text}, List.{fold}}
-use Rattle.std.specs.Prelude.{◌≡◌, ℕ, ◌*◌, ◌-◌, ◌%◌, ◌^◌, ◌<◌, ◌≤◌, ◌⊎◌, true, false, List, chars, bytes_eq, slice_index, length, bit_and, bit_xor, if◌then◌else◌, Some, None, Result, OnOk, OnErr}
+use Rattle.std.specs.Prelude.{◌≡◌, ℕ, ◌*◌, ◌-◌, ◌%◌, ◌^◌, ◌≤◌, ◌⊎◌, false, List, chars, bytes_eq, slice_index, length, bit_and, bit_xor, if◌then◌else◌, Some, None, Result, OnOk, OnErr}
 use Rattle.std.specs.{Str.{IsUtf8}, declared.alloc.AllocError.{AllocError}}
-use Rattle.html_names_table.specs.{NameTables.{number_in}, declared.name_table.own_numbers.OwnNumbers.{OwnNumbers}}
+use Rattle.html_names_table.specs.{NameTables.{number_where}, declared.name_table.own_numbers.OwnNumbers.{OwnNumbers}}
 use Rattle.html_names_core.specs.Names.{stands_in}
 
 -- the slot of a text among so many slots
@@ -29,7 +29,6 @@ pub record TakesSlot (old new : OwnNumbers) (text : List ℕ) (number : ℕ) : T
 
 -- a text goes to the map, as its slot is not free
 pub record JoinsRest (old new : OwnNumbers) (text : List ℕ) (number : ℕ) : Type 0 where
-  pub taken : slot_number old text ≤ number
   pub slots : (other : List ℕ) → slot_number new other ≡ slot_number old other
   pub rest : (other : List ℕ) → get_by_text new.rest other
       ≡ (if bytes_eq text other then Some number else get_by_text old.rest other)
@@ -42,15 +41,13 @@ pub record PutsText (result : Result (Unit {0}) AllocError) (old new : OwnNumber
   pub rest : OnErr result ((other : List ℕ) →
       get_by_text new.rest other ≡ get_by_text old.rest other)
 
--- among names, the number of a text is in its slot, or the slot is taken and the number in the map
-abbrev pub IsFound : OwnNumbers → List (List ℕ) → (text : List ℕ) → ℕ → Type 0
-IsFound own names text number = (slot_number own text ≡ number)
-    ⊎ ((slot_number own text < length names) × (get_by_text own.rest text ≡ Some number))
+-- the number of a text among names, if it is one of them, is in its slot or in the map
+abbrev pub IsFound : OwnNumbers → List (List ℕ) → (text : List ℕ) → Type 0
+IsFound own names text = (Some (slot_number own text) ≡ number_where names (chars text))
+    ⊎ (get_by_text own.rest text ≡ number_where names (chars text))
 
--- each name over a table of known names that is not known has its number among the names
+-- so it is for each text over a table of known names that is not known
 pub record IsOwnNumbering (table : List (List ℕ)) (own : OwnNumbers) (names : List (List ℕ)) :
     Type 0 where
   pub found : (text : List ℕ) → IsUtf8 text → stands_in table (chars text) ≡ false →
-      stands_in names (chars text) ≡ true → IsFound own names text (number_in names (chars text))
-  pub missing : (text : List ℕ) → IsUtf8 text → stands_in table (chars text) ≡ false →
-      stands_in names (chars text) ≡ false → get_by_text own.rest text ≡ None
+      IsFound own names text

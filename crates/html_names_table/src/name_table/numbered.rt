@@ -33,17 +33,14 @@ impl Numbered for HtmlTag {
 
     ghost ascends = { tags_rise };
 
-    #[inline(always)]
     fn copy(&self) -> Result<HtmlTag, AllocError> {
         self.try_clone()
     }
 
-    #[inline(always)]
     fn as_str(&self) -> &str {
         self.resolve()
     }
 
-    #[inline(always)]
     fn place(&self) -> Option<u8> {
         self.known_place()
     }
@@ -58,17 +55,14 @@ impl Numbered for HtmlAttr {
 
     ghost ascends = { attrs_rise };
 
-    #[inline(always)]
     fn copy(&self) -> Result<HtmlAttr, AllocError> {
         self.try_clone()
     }
 
-    #[inline(always)]
     fn as_str(&self) -> &str {
         self.resolve()
     }
 
-    #[inline(always)]
     fn place(&self) -> Option<u8> {
         self.known_place()
     }

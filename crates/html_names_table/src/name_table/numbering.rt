@@ -2,8 +2,8 @@
 
 ghost use Rattle.std.specs.Prelude.{◌≡◌, ◌<◌, ◌∷◌, ◌++◌, [], length, map, false, chars, OnOk, OnErr, IfErr};
 ghost use Rattle.html_names_core.specs.Names.{stands_in};
-ghost use Rattle.html_names_table.specs.NameTables.{Numbers, IsNumbered, name_at, with_name};
-ghost use Rattle.html_names_table.specs.{NumberMaps.{number_where, IsNumbering}, OwnNumbers.{IsOwnNumbering}};
+ghost use Rattle.html_names_table.specs.NameTables.{Numbers, IsNumbered, name_at, number_where, with_name};
+ghost use Rattle.html_names_table.specs.{NumberMaps.{IsNumbering}, OwnNumbers.{IsOwnNumbering}};
 
 use super::number_map::NumberMap;
 use super::numbered::Numbered;
@@ -84,10 +84,7 @@ impl<N: Numbered> Numbering<N> {
         ensures { result ≡ number_where self.now (chars text.now) }
     {
         let number = self.numbers.own.slot_number(text);
-        if number >= self.kept.len() {
-            return None;
-        }
-        if self.kept[number].as_str() == text {
+        if number < self.kept.len() && self.kept[number].as_str() == text {
             return Some(number);
         }
         self.numbers.own.rest_number(text)

@@ -1,8 +1,7 @@
-use Rattle.std.proofs.Common.{◌≡◌, ◌≤◌, refl, ap, ◌∙◌, inl, inr, length, arith, rules}
-use Rattle.html_names_table.{proofs.OwnNumbers.{takes, joins, read_taken, read_outside}, specs.OwnNumbers.{slot_of, slot_number}}
+use Rattle.std.proofs.Common.{◌≡◌, refl, ap, ◌∙◌, inl, inr, length, arith, rules}
+use Rattle.html_names_table.{proofs.OwnNumbers.{takes, joins}, specs.OwnNumbers.{slot_of}}
 use Rattle.html_names_table.specs.declared.name_table.own_numbers.OwnNumbers.{OwnNumbers}
 use Rattle.html_names_table.proofs.name_table.own_numbers.OwnNumbers.put.Goals as goal
-use Rattle.html_names_table.proofs.name_table.own_numbers.OwnNumbers.put.Goals.{else-slot-len-via-then-slot-len+else-index-number, else-slot-len-via-else-slot-len}
 
 pub returns-then-index-number : goal.returns-then-index-number
 returns-then-index-number c =
@@ -21,23 +20,9 @@ returns-then-index-number c =
 pub returns : goal.returns
 returns c =
     let new : OwnNumbers = record { slots = c.args.self.now.slots; rest = c.insert.new.self } in
-    let count : c.len.result ≡ length c.args.self.now.slots.items = search (rules, c.len.ensures) in
-    let count_2 : c.len-2.result ≡ length c.args.self.now.slots.items =
-    search (rules, c.len-2.ensures) in
-    let at = c.slot_of-slot.ensures ∙ ap (slot_of c.args.text.now) count in
-    let taken : slot_number c.args.self.now c.args.text.now ≤ c.args.number =
-    elim c.else-slot-len.branch [
-      | else-slot-len-via-then-slot-len+else-index-number w ↦
-          read_taken c.args.self.now c.args.text.now c.args.number c.slot_of-slot.result
-          w.index.result.now at (omega (arith, w.if-slot-len.true, count_2)) w.index.ensures
-          w.if-index-number.false
-      | else-slot-len-via-else-slot-len w ↦
-          read_outside c.args.self.now c.args.text.now c.args.number c.slot_of-slot.result at
-          (omega (arith, w.if-slot-len.false, count_2))
-    ] in
     record {
       placed = inr (joins c.args.self.now new c.args.text.now _ c.args.number
-          c.in_ok-text.ensures.ok refl taken c.in_ok-insert.ensures.updates);
+          c.in_ok-text.ensures.ok refl c.in_ok-insert.ensures.updates);
       slots = tt;
       rest = tt;
     }
