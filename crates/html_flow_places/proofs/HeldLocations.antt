@@ -5,7 +5,7 @@ use Rattle.std.specs.{BTreeMap.{BTreeMap, get_by_text, UpdatesBy}, Ordering.{nat
 use Rattle.std.specs.Cmp.Lexicographic.{slice_cmp}
 use Rattle.html_dom_tree.specs.declared.introspection.Location.{Location}
 use Rattle.html_names_core.{proofs.Lists.{bytes_eq-chars}, specs.Names.{stands_in}}
-use Rattle.html_names_table.{proofs.NumberMaps.{added_where, numbered}, specs.NameTables.{number_in}}
+use Rattle.html_names_table.{proofs.NameTables.{added_where, numbered}, specs.NameTables.{number_in}}
 use Rattle.html_flow_places.specs.{HeldLocations.{location_where, IsLocating}, NamedLocations.{location_in}}
 
 -- the location for a number

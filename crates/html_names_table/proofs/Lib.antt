@@ -1,4 +1,3 @@
 pub mod NameTables
 pub mod Numberings
-pub mod NumberMaps
 pub mod OwnNumbers

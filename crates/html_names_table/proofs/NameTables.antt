@@ -1,6 +1,6 @@
 -- Numbers of names, over lists of texts.
-use Rattle.std.proofs.Common.{◌≡◌, ℕ, zero, suc, ◌+◌, ◌<◌, ◌≤◌, true, false, if◌then◌else◌, List, [], ◌∷◌, ◌++◌, refl, sym, ap, ◌∙◌, length, arith, bytes_eq, add-one, append-nil, length-append, Some, Result, Ok, Err}
-use Rattle.std.proofs.{Math.Bool.{or-true}, lemmas.Bool.{eq-eqb}, lemmas.Slice.Eq.{bytes_eq-Decides}}
+use Rattle.std.proofs.Common.{◌≡◌, ℕ, ◌+◌, ◌<◌, ◌≤◌, Bool, true, false, if◌then◌else◌, List, [], ◌∷◌, ◌++◌, refl, sym, ap, ◌∙◌, length, arith, bytes_eq, add-one, append-nil, length-append, Option, None, Some, Result, Ok, Err}
+use Rattle.std.proofs.{Math.Bool.{or-true}, lemmas.Bool.{eq-eqb}, lemmas.List.{get_or_append_left, get_or_push}, lemmas.Slice.Eq.{bytes_eq-Decides}}
 use Rattle.html_names_core.{proofs.Ascending.{stands, stands_in-append}, proofs.Basics.{bytes_eq-refl}, specs.Names.{stands_in}}
 use Rattle.html_names_table.specs.NameTables.{NamesView, Numbers, IsNumbered, number_in, number_where, with_name, name_at}
 
@@ -22,17 +22,6 @@ unfolding stands_in number_in
 name_at-number [] name h = cc
 name_at-number (n ∷ ns) name h =
     grind (arith, name_at-number ns name, add-one, (bytes_eq-Decides n name).0)
-
-pub name_at-append : (names more : List (List ℕ)) (number : ℕ) → number < length names →
-    name_at (names ++ more) number ≡ name_at names number
-name_at-append [] more number h = absurd (omega arith)
-name_at-append (n ∷ ns) more zero h = refl
-name_at-append (n ∷ ns) more (suc number) h = name_at-append ns more number (omega arith)
-
-pub name_at-last : (names : List (List ℕ)) (name : List ℕ) →
-    name_at (names ++ name ∷ []) (length names) ≡ name
-name_at-last [] name = refl
-name_at-last (n ∷ ns) name = name_at-last ns name
 
 pub number_in-append : (names more : List (List ℕ)) (name : List ℕ) →
     stands_in names name ≡ true → number_in (names ++ more) name ≡ number_in names name
@@ -98,7 +87,7 @@ pub name_at-with_name : (names : List (List ℕ)) (name : List ℕ) (number : �
     number < length names → name_at (with_name names name) number ≡ name_at names number
 name_at-with_name names name number h =
     let grown = with_name-appends names name in
-    rw grown.1 (name_at-append names grown.0 number h)
+    rw grown.1 (get_or_append_left names grown.0 [] number h)
 
 pub stands_in-with_name : (names : List (List ℕ)) (name other : List ℕ) →
     stands_in names other ≡ true → stands_in (with_name names name) other ≡ true
@@ -112,11 +101,6 @@ number_in-with_name names name other h =
     let grown = with_name-appends names name in
     rw grown.1 (number_in-append names grown.0 other h)
 
-pub one_number : (names : List (List ℕ)) (a b : List ℕ) → stands_in names a ≡ true →
-    stands_in names b ≡ true → number_in names a ≡ number_in names b → a ≡ b
-one_number names a b h l e =
-    sym (name_at-number names a h) ∙ (ap (name_at names) e ∙ name_at-number names b l)
-
 pub equal_numbers : (names : List (List ℕ)) (a b : List ℕ) →
     (number_in names a ≡ number_in (with_name names a) b → a ≡ b)
     × (a ≡ b → number_in names a ≡ number_in (with_name names a) b)
@@ -126,8 +110,9 @@ equal_numbers names a b =
     let there : stands_in one a ≡ true = stands_in-added names a in
     let first : number_in both a ≡ number_in names a =
     number_in-with_name one b a there ∙ number_in-added names a in (
-      λ e. one_number both a b (stands_in-with_name one b a there) (stands_in-added one b)
-          (first ∙ (e ∙ sym (number_in-added one b))),
+      λ e. sym (name_at-number both a (stands_in-with_name one b a there))
+          ∙ (ap (name_at both) (first ∙ (e ∙ sym (number_in-added one b)))
+          ∙ name_at-number both b (stands_in-added one b)),
       λ e. sym (number_in-added names a) ∙ ap (number_in one) e,
     )
 
@@ -150,6 +135,50 @@ added_again names name other =
 
 -- for a number that is asked for twice
 pub ruleset stays = (number_later, stands_in-both, added_again, eq-eqb)
+
+-- a name at the end gets the next number
+pub numbered : (names : List (List ℕ)) (name : List ℕ) → IsNumbered names →
+    stands_in names name ≡ false → IsNumbered (names ++ name ∷ [])
+numbered names name all new number h =
+    grind (
+      arith,
+      all number,
+      length-append names (name ∷ []),
+      get_or_append_left names (name ∷ []) [] number,
+      stands names number,
+      number_in-append names (name ∷ []) (name_at names number),
+      get_or_push names name [] (length names) refl,
+      number_in-last names name,
+      number_next names name,
+    )
+
+-- a text that is not the last stands among the names as before
+others_stand : (names : List (List ℕ)) (name other : List ℕ) → bytes_eq name other ≡ false →
+    stands_in (names ++ name ∷ []) other ≡ stands_in names other
+unfolding stands_in
+others_stand [] name other e = rw e refl
+others_stand (n ∷ ns) name other e = rw (others_stand ns name other e) refl
+
+-- what is kept for the number of a name, where the name stands among names
+module _ {A : Type 0} (kept : ℕ → A) where
+  abbrev kept_where : List (List ℕ) → List ℕ → Option A
+  kept_where names name =
+      if stands_in names name then Some (kept (number_in names name)) else None
+
+  pub others_where : (names : List (List ℕ)) (name other : List ℕ) → bytes_eq name other ≡ false →
+      kept_where (names ++ name ∷ []) other ≡ kept_where names other
+  others_where names name other e =
+      grind (arith, others_stand names name other e, number_in-append names (name ∷ []) other)
+
+  pub added_where : (names : List (List ℕ)) (name other : List ℕ) (b : Bool) →
+      stands_in names name ≡ false → bytes_eq name other ≡ b →
+      (if b then Some (kept (length names)) else kept_where names other)
+      ≡ kept_where (names ++ name ∷ []) other
+  added_where names name other true new e =
+      let is : name ≡ other = (bytes_eq-Decides name other).0 e in
+      rw (sym is, stands_in-last names name, number_in-last names name, number_next names name new)
+      refl
+  added_where names name other false new e = sym (others_where names name other e)
 
 -- a name that is equal to the one with a number has that number
 pub guessed : (names : List (List ℕ)) (name kept : List ℕ) (number : ℕ) → IsNumbered names →

@@ -5,7 +5,7 @@ use Rattle.std.proofs.lemmas.List.{take-append-drop, length-take-le, length-set,
 use Rattle.std.proofs.lemmas.{Bool.Decides.{eqb_tells}, Map.Text.{btree_map_updates_text}, Slice.Eq.{bytes_eq-Decides}}
 use Rattle.std.specs.{BTreeMap.{get_by_text, UpdatesBy}, Ordering.{nat_cmp}, Str.{IsUtf8}, String.{string_cmp}}
 use Rattle.std.specs.Cmp.Lexicographic.{slice_cmp}
-use Rattle.html_names_table.proofs.{NameTables.{found_where, number_below, number_in-append}, NumberMaps.{added_where, others_where}}
+use Rattle.html_names_table.proofs.NameTables.{added_where, found_where, number_below, number_in-append, others_where}
 use Rattle.html_names_table.specs.NameTables.{number_in, number_where, name_at, IsNumbered}
 use Rattle.html_names_table.specs.OwnNumbers.{slot_of, slot_number, HoldsNoText, TakesSlot, JoinsRest, IsFound, IsOwnNumbering}
 use Rattle.html_names_table.specs.declared.name_table.own_numbers.OwnNumbers.{OwnNumbers}

@@ -1,3 +1,3 @@
 pub mod NameTables
-pub mod NumberMaps
+pub mod Numberings
 pub mod OwnNumbers

@@ -11,7 +11,6 @@ use std::alloc::{AllocError, Global};
 use std::fmt;
 use std::marker::Model;
 
-mod number_map;
 mod numbered;
 mod numbering;
 mod own_numbers;

@@ -1,11 +1,10 @@
 //! The numbers of the names of one kind.
 
-ghost use Rattle.std.specs.Prelude.{◌≡◌, ◌<◌, ◌∷◌, ◌++◌, [], length, map, false, chars, OnOk, OnErr, IfErr};
+ghost use Rattle.std.specs.Prelude.{◌≡◌, ◌<◌, ◌^◌, ◌∷◌, ◌++◌, [], ℕ, length, map, false, chars, OnOk, OnErr, IfErr};
 ghost use Rattle.html_names_core.specs.Names.{stands_in};
 ghost use Rattle.html_names_table.specs.NameTables.{Numbers, IsNumbered, name_at, number_where, with_name};
-ghost use Rattle.html_names_table.specs.{NumberMaps.{IsNumbering}, OwnNumbers.{IsOwnNumbering}};
+ghost use Rattle.html_names_table.specs.{Numberings.{known_number, PutsKnown, IsNumbering}, OwnNumbers.{IsOwnNumbering}};
 
-use super::number_map::NumberMap;
 use super::numbered::Numbered;
 use super::own_numbers::OwnNumbers;
 use html_names_core::Refused;
@@ -14,11 +13,13 @@ use std::marker::Model;
 
 /// Names of one kind that have a number, in the order of their numbers.
 ///
-/// In contracts it is their texts.
+/// In contracts it is their texts. The number of a known name is found by its place, that of another
+/// by its text.
 #[derive(Drop)]
 pub(crate) struct Numbering<N: Numbered> {
     kept: Vec<N>,
-    numbers: NumberMap,
+    known: Vec<Option<usize>>,
+    own: OwnNumbers,
 }
 
 impl<N: Numbered> Model for Numbering<N> {
@@ -26,11 +27,11 @@ impl<N: Numbered> Model for Numbering<N> {
 
     ghost Value = { List (List ℕ) };
 
-    ghost use Rattle.html_names_table.specs.NumberMaps.{IsNumbering};
+    ghost use Rattle.html_names_table.specs.Numberings.{IsNumbering};
 
     ghost view = { λ t. map N.text t.kept.items };
 
-    ghost invariant = { λ t. IsNumbering N.known t.numbers (map N.text t.kept.items) };
+    ghost invariant = { λ t. IsNumbering N.known t.known.items t.own (map N.text t.kept.items) };
 }
 
 impl<N: Numbered> Numbering<N> {
@@ -39,7 +40,8 @@ impl<N: Numbered> Numbering<N> {
     {
         Numbering {
             kept: Vec::new(alloc),
-            numbers: NumberMap::new(alloc),
+            known: Vec::new(alloc),
+            own: OwnNumbers::new(alloc),
         }
     }
 
@@ -73,7 +75,7 @@ impl<N: Numbered> Numbering<N> {
         ensures { result ≡ number_where self.now (N.text name.now) }
     {
         match name.place() {
-            Some(place) => self.numbers.known_number(place),
+            Some(place) => number_at(&self.known, place),
             None => self.find(name.as_str()),
         }
     }
@@ -83,11 +85,11 @@ impl<N: Numbered> Numbering<N> {
         requires { stands_in N.known (chars text.now) ≡ false }
         ensures { result ≡ number_where self.now (chars text.now) }
     {
-        let number = self.numbers.own.slot_number(text);
+        let number = self.own.slot_number(text);
         if number < self.kept.len() && self.kept[number].as_str() == text {
             return Some(number);
         }
-        self.numbers.own.rest_number(text)
+        self.own.rest_number(text)
     }
 
     fn add(&mut self, name: N) -> Result<usize, Refused<N>>
@@ -100,7 +102,7 @@ impl<N: Numbered> Numbering<N> {
         if self.kept.reserve(1).is_err() {
             return Err(Refused { back: name });
         }
-        match number_next(&mut self.numbers, &self.kept, &name) {
+        match number_next(&mut self.known, &mut self.own, &self.kept, &name) {
             Ok(()) => {
                 self.kept.push_reserved(name);
                 Ok(number)
@@ -127,22 +129,58 @@ impl<N: Numbered> Numbering<N> {
 }
 
 /// Sets the number of a new name, which is the next.
-fn number_next<N: Numbered>(numbers: &mut NumberMap, kept: &[N], name: &N) -> Result<(), AllocError>
+fn number_next<N: Numbered>(
+    known: &mut Vec<Option<usize>>,
+    own: &mut OwnNumbers,
+    kept: &[N],
+    name: &N,
+) -> Result<(), AllocError>
     requires new { stands_in (map N.text kept.now) (N.text name.now) ≡ false }
-    requires was { IsNumbering N.known numbers.old (map N.text kept.now) }
-    ensures next { OnOk result (IsNumbering N.known numbers.new
+    requires was { IsNumbering N.known known.old.items own.old (map N.text kept.now) }
+    ensures next { OnOk result (IsNumbering N.known known.new.items own.new
         (map N.text kept.now ++ N.text name.now ∷ [])) }
-    ensures kept { OnErr result (IsNumbering N.known numbers.new (map N.text kept.now)) }
+    ensures kept { OnErr result (IsNumbering N.known known.new.items own.new (map N.text kept.now)) }
 {
     match name.place() {
-        Some(place) => numbers.put_known(place, kept.len()),
+        Some(place) => put_known(known, place, kept.len()),
         None => {
-            if numbers.own.are_few(kept.len()) {
-                widen(&mut numbers.own, kept)?;
+            if own.are_few(kept.len()) {
+                widen(own, kept)?;
             }
-            numbers.own.put(name.as_str(), kept.len())
+            own.put(name.as_str(), kept.len())
         }
     }
+}
+
+#[inline(always)]
+fn number_at(known: &[Option<usize>], place: u8) -> Option<usize>
+    ensures { result ≡ known_number known.now place }
+{
+    match known.get(place as usize) {
+        Some(number) => *number,
+        None => None,
+    }
+}
+
+/// Sets the number of a known name. If an allocation fails, each name keeps its number.
+fn put_known(known: &mut Vec<Option<usize>>, place: u8, number: usize) -> Result<(), AllocError>
+    ensures { PutsKnown result known.old.items known.new.items place number }
+{
+    let place = place as usize;
+    make_room(known, place)?;
+    known[place] = Some(number);
+    Ok(())
+}
+
+fn make_room(known: &mut Vec<Option<usize>>, place: usize) -> Result<(), AllocError>
+    requires { place < 2 ^ 8 }
+    ensures room { OnOk result (place < length known.new.items) }
+    ensures same { (p : ℕ) → known_number known.new.items p ≡ known_number known.old.items p }
+{
+    if known.len() <= place {
+        known.resize(place + 1, None)?;
+    }
+    Ok(())
 }
 
 /// Finds a slot for each of the names anew, among twice as many. If an allocation fails, nothing
