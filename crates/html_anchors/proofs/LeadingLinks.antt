@@ -1,11 +1,10 @@
 -- What holds of links that lead.
 use Rattle.std.proofs.Common.{◌≡◌, ◌&&◌, ℕ, List, [], ◌∷◌, ◌++◌, Bool, true, false, Option, None, Some, bytes_eq, codes, refl, ap, ◌∙◌}
 use Rattle.std.specs.Prelude.{if◌then◌else◌, option_to_list}
-use Rattle.html_dom_tree.specs.Tags.{starts, ends}
 use Rattle.html_dom_tree.specs.Tree.{Head, NodeView, tag_node, text_node, element_node, frame_node, NodesView, none, node}
 use Rattle.html_links.specs.{Indicated.{place_names}, TreeNames.{first_id, frame_names, gathered_names}}
 use Rattle.html_anchors.specs.LinkLaws.{LeftAreDead, NamesStay}
-use Rattle.html_anchors.specs.Links.{Hrefs, dest_before, open_dest, href_of, attrs_with_href, head_with_link, node_with_links, nodes_with_links, dead_without, dead_link, node_dead_links, nodes_dead_links}
+use Rattle.html_anchors.specs.Links.{Hrefs, dest_before, open_dest, href_of, attrs_with_href, head_with_link, node_with_links, nodes_with_links, dead_without, dead_link, node_dead_links, nodes_dead_links, tag_dest}
 
 -- an `href` in front is neither an `id` nor a `name`
 pub id_stays : (hrefs : Hrefs) (dest : Option ℕ) (h : Head) →
@@ -80,9 +79,7 @@ dest_stays : (hrefs : Hrefs) (dest : Option ℕ) (after before : List NodeView) 
     dest_before after ≡ dest_before before →
     dest_before (node_with_links hrefs dest n ∷ after) ≡ dest_before (n ∷ before)
 unfolding node_with_links
-dest_stays hrefs dest after before (tag_node (starts location label None)) same = same
-dest_stays hrefs dest after before (tag_node (starts location label (Some d))) same = refl
-dest_stays hrefs dest after before (tag_node (ends location)) same = same
+dest_stays hrefs dest after before (tag_node t) same = ap (tag_dest t) same
 dest_stays hrefs dest after before (text_node s span) same = refl
 dest_stays hrefs dest after before (element_node h kids) same = refl
 dest_stays hrefs dest after before (frame_node f) same = refl

@@ -2,6 +2,7 @@ pub mod Back
 pub mod ChangedRoots
 pub mod Consequences
 pub mod Counting
+pub mod DeadLinks
 pub mod DocumentNames
 pub mod FoundLinks
 pub mod Freshes

@@ -1,16 +1,13 @@
 -- The links of the part of a tree that stands in its document are those of the tree there.
-use Rattle.std.proofs.Common.{◌≡◌, Bool, true, false, List, [], ◌∷◌, Some, None, refl, ap}
-use Rattle.html_dom_tree.specs.Tags.{starts, ends}
+use Rattle.std.proofs.Common.{◌≡◌, Bool, true, false, List, [], ◌∷◌, refl, ap}
 use Rattle.html_dom_tree.specs.Tree.{NodeView, tag_node, text_node, element_node, frame_node, NodesView, none, node, ElementView}
 use Rattle.html_links.specs.InDocument.{in_document, kept, keeps, node_part, nodes_part}
-use Rattle.html_anchors.specs.Links.{Hrefs, dest_before, node_with_links, nodes_with_links, root_with_links}
+use Rattle.html_anchors.specs.Links.{Hrefs, dest_before, node_with_links, nodes_with_links, root_with_links, tag_dest}
 
 same_dest : (after before : List NodeView) (n : NodeView) → dest_before after ≡ dest_before before →
     dest_before (node_part false n ∷ after) ≡ dest_before (n ∷ before)
 unfolding node_part
-same_dest after before (tag_node (starts location label None)) same = same
-same_dest after before (tag_node (starts location label (Some d))) same = refl
-same_dest after before (tag_node (ends location)) same = same
+same_dest after before (tag_node t) same = ap (tag_dest t) same
 same_dest after before (text_node s span) same = refl
 same_dest after before (element_node h kids) same = refl
 same_dest after before (frame_node f) same = refl

@@ -1,9 +1,9 @@
 -- Links in a list of nodes, one after the other, and names of destinations.
 use Rattle.std.proofs.Common.{◌≡◌, ◌<◌, ℕ, List, [], ◌∷◌, ◌++◌, Option, None, Some, length, chars, IsUtf8, refl, sym, ap, ◌∙◌, append_assoc, arith}
-use Rattle.std.proofs.lemmas.{List.{append-nil}, Str.{chars-nil, encodes-chars}}
+use Rattle.std.proofs.lemmas.Str.{chars-nil, encodes-chars}
 use lib.Utf8.{encodes}
-use Rattle.html_dom_tree.specs.{Tree.{TextPair, Head, NodeView, element_node, NodesView, none, node}, Views.{nodes_of}}
-use Rattle.html_anchors.specs.Links.{Anchors, DeadLinkView, Hrefs, attrs_with_href, dead_link, dest_before, href_of, name_of, node_dead_links, node_with_links, nodes_dead_links, nodes_with_links, open_dest}
+use Rattle.html_dom_tree.specs.{Tree.{TextPair, Head, NodeView, element_node, NodesView, node}, Views.{nodes_of}}
+use Rattle.html_anchors.specs.Links.{Anchors, Hrefs, attrs_with_href, dest_before, href_of, name_of, node_with_links, nodes_with_links, open_dest}
 use Rattle.html_links.specs.Spellings.{some_name}
 
 pub no_name : (bytes : List ℕ) → length bytes ≡ 0 → some_name (Some (chars bytes)) ≡ None
@@ -58,33 +58,3 @@ one_more_with_links hrefs dest before made n m left rest whole behind is left_is
     ∙ (ap (λ k. made ++ k ∷ list_with_links hrefs (n ∷ before) rest)
     (is ∙ ap (λ d. node_with_links hrefs d n) behind)
     ∙ (ap (λ l. made ++ list_with_links hrefs before l) (sym left_is) ∙ agrees))
-
--- the dead links of an element are its own and those below it
-pub element_dead : (hrefs : Hrefs) (dest own : Option ℕ) (h : Head) (kids : NodesView)
-    (old mid new : List DeadLinkView) → own ≡ open_dest h dest →
-    mid ≡ old ++ dead_link hrefs own h.span → new ≡ mid ++ nodes_dead_links hrefs [] kids →
-    new ≡ old ++ node_dead_links hrefs dest (element_node h kids)
-unfolding node_dead_links
-element_dead hrefs dest own h kids old mid new own_is mid_is new_is =
-    let below = nodes_dead_links hrefs [] kids in
-    new_is
-    ∙ (ap (λ l. l ++ below) (mid_is ∙ ap (λ o. old ++ dead_link hrefs o h.span) own_is)
-    ∙ append_assoc old (dead_link hrefs (open_dest h dest) h.span) below)
-
--- one node more is looked at
-pub one_more_dead : (hrefs : Hrefs) (dest : Option ℕ) (before : List NodeView) (n : NodeView)
-    (left rest : NodesView) (old new whole : List DeadLinkView) → dest ≡ dest_before before →
-    new ≡ old ++ node_dead_links hrefs dest n → left ≡ node n rest →
-    old ++ nodes_dead_links hrefs before left ≡ whole →
-    new ++ nodes_dead_links hrefs (n ∷ before) rest ≡ whole
-unfolding nodes_dead_links
-one_more_dead hrefs dest before n left rest old new whole behind new_is left_is agrees =
-    let others = nodes_dead_links hrefs (n ∷ before) rest in
-    ap (λ l. l ++ others) (new_is ∙ ap (λ d. old ++ node_dead_links hrefs d n) behind)
-    ∙ (append_assoc old (node_dead_links hrefs (dest_before before) n) others
-    ∙ (ap (λ l. old ++ nodes_dead_links hrefs before l) (sym left_is) ∙ agrees))
-
-pub no_more_dead : (hrefs : Hrefs) (before : List NodeView) (old whole : List DeadLinkView) →
-    old ++ nodes_dead_links hrefs before none ≡ whole → old ≡ whole
-unfolding nodes_dead_links
-no_more_dead hrefs before old whole agrees = sym (append-nil old) ∙ agrees

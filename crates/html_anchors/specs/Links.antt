@@ -2,7 +2,7 @@
 -- `href` that leads to that destination's anchor, if one does (this project's rule).
 use Rattle.std.specs.Prelude.{ℕ, List, [], ◌∷◌, ◌++◌, Bool, not, ◌&&◌, Option, Some, None, bytes_eq, codes, if◌then◌else◌}
 use Rattle.html_dom_tree.specs.{Attributes.{has_name}, Tags.{starts, ends}}
-use Rattle.html_dom_tree.specs.Tree.{TextPair, Head, NodeView, tag_node, text_node, element_node, frame_node, NodesView, none, node, ElementView}
+use Rattle.html_dom_tree.specs.Tree.{TagView, TextPair, Head, NodeView, tag_node, text_node, element_node, frame_node, NodesView, none, node, ElementView}
 use Rattle.html_dom_document.specs.Documents.{DocumentView, document_root, with_root}
 use Rattle.html_names_core.specs.Names.{stands_in}
 use Rattle.html_links.specs.{Indicated.{element_places}, Spellings.{leading_href}}
@@ -16,13 +16,17 @@ Anchors = ℕ → Option (List ℕ)
 abbrev pub Hrefs : Type 0
 Hrefs = ℕ → Option (List ℕ)
 
+-- the destination that counts behind a tag, given the one before it
+abbrev pub tag_dest : TagView → Option ℕ → Option ℕ
+tag_dest (starts location label None) dest = dest
+tag_dest (starts location label (Some there)) dest = Some there
+tag_dest (ends location) dest = dest
+
 -- the destination of the nearest start tag that has one, from the nodes before a point, the nearest
 -- first, with only tags between
 abbrev pub dest_before : List NodeView → Option ℕ
 dest_before [] = None
-dest_before (tag_node (starts location label None) ∷ before) = dest_before before
-dest_before (tag_node (starts location label (Some dest)) ∷ before) = Some dest
-dest_before (tag_node (ends location) ∷ before) = dest_before before
+dest_before (tag_node t ∷ before) = tag_dest t (dest_before before)
 dest_before (text_node s span ∷ before) = None
 dest_before (element_node h kids ∷ before) = None
 dest_before (frame_node f ∷ before) = None

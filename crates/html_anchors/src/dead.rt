@@ -1,15 +1,17 @@
 //! Links that lead nowhere.
 
-ghost use Rattle.std.specs.Prelude.{◌≡◌, ◌++◌, [], map, option_map, IfOk, OnOk};
-ghost use Rattle.html_dom_tree.specs.{Tree.{element_node}, Views.{element_view, node_view, nodes_view, text_view}};
+ghost use Rattle.std.specs.Prelude.{◌≡◌, ◌++◌, [], option_map, IfOk, OnOk};
+ghost use Rattle.html_dom_tree.specs.Views.{element_view, nodes_view, text_view};
 ghost use Rattle.html_dom_document.specs.Views.{document_view};
-ghost use Rattle.html_anchors.specs.{DeadLinks.{dead_links_view}, FoundAnchors.{EveryLinkLeads, document_dead_links, is_found}};
-ghost use Rattle.html_anchors.specs.{LinkTargets.{live_hrefs_view}, Links.{dead_link, href_of, node_dead_links, nodes_dead_links}};
+ghost use Rattle.html_anchors.specs.{DeadLinks.{dead_links_view, event_dead_links, event_dest}, FoundAnchors.{EveryLinkLeads, document_dead_links, is_found}};
+ghost use Rattle.html_anchors.specs.{LinkTargets.{live_hrefs_view}, Links.{dead_link, href_of, nodes_dead_links}};
+ghost use Rattle.html_dom_walk.specs.Walks.{event_of};
 ghost use Rattle.html_links.specs.UsedNames.{used_in};
 
-use crate::links::{LinkTargets, dest_past, name_of, open_dest};
+use crate::links::{LinkTargets, name_of, open_dest, tag_dest};
 use html_dom_document::HtmlDocument;
 use html_dom_tree::{HtmlElement, HtmlNode, Location, Span};
+use html_dom_walk::{Visit, Walk};
 use html_links::{all_place_names, base_is_elsewhere, is_used, leading_href, place_names};
 use std::alloc::{AllocError, Global};
 use std::collections::BTreeSet;
@@ -123,49 +125,38 @@ fn add_link(
     Ok(())
 }
 
-// The node comes first among the parameters: its depth proves that the recursion ends.
-
-/// Appends the element's link, if it is dead after tags with that destination, and the dead links
-/// below the element.
-#[cycle(dead)]
-fn add_element(
-    element: &HtmlElement,
-    alloc: Global,
-    found: FoundTargets<'_>,
-    dest: Option<Location>,
-    dead: &mut Vec<DeadLink>,
-) -> Result<(), AllocError>
-    ensures { let e = element_view element.now in
-        OnOk result (dead_links_view dead.new.items ≡ dead_links_view dead.old.items
-        ++ node_dead_links (live_hrefs_view found.entry) (option_map (λ l. l.0) dest)
-        (element_node e.0 e.1)) }
+/// Returns the destination that counts right after a visit, given the one right before it.
+fn visit_dest(visit: Visit<'_>, dest: Option<Location>) -> Option<Location>
+    ensures { option_map (λ l. l.0) result
+        ≡ event_dest (event_of visit.entry) (option_map (λ l. l.0) dest) }
 {
-    let open = open_dest(element, dest);
-    add_link(alloc, found, open, element.span, dead)?;
-    add_nodes(&element.children, alloc, found, dead)?;
-    Ok(())
+    match visit {
+        Visit::Tag(tag) => tag_dest(tag, dest),
+        Visit::Text(_, _) | Visit::Frame(_) | Visit::Enter(_) | Visit::Leave => None,
+    }
 }
 
-#[cycle(dead)]
-#[tactic(auto, unfolding(crate::specs::Links::node_dead_links))]
-fn add_node(
-    child: &HtmlNode,
+/// Appends the link of an element that is entered, if it is dead after tags with that destination.
+fn add_visited(
+    visit: Visit<'_>,
     alloc: Global,
     found: FoundTargets<'_>,
     dest: Option<Location>,
     dead: &mut Vec<DeadLink>,
 ) -> Result<(), AllocError>
     ensures { OnOk result (dead_links_view dead.new.items ≡ dead_links_view dead.old.items
-        ++ node_dead_links (live_hrefs_view found.entry) (option_map (λ l. l.0) dest)
-        (node_view child.now)) }
+        ++ event_dead_links (live_hrefs_view found.entry) (option_map (λ l. l.0) dest)
+        (event_of visit.entry)) }
 {
-    match child {
-        HtmlNode::Element(element) => add_element(element, alloc, found, dest, dead),
-        HtmlNode::Tag(_) | HtmlNode::Text(_, _) | HtmlNode::Frame(_) => Ok(()),
+    match visit {
+        Visit::Enter(element) => {
+            add_link(alloc, found, open_dest(element, dest), element.span, dead)
+        }
+        Visit::Tag(_) | Visit::Text(_, _) | Visit::Frame(_) | Visit::Leave => Ok(()),
     }
 }
 
-#[cycle(dead)]
+/// Appends the dead links of nodes, in document order.
 fn add_nodes(
     nodes: &[HtmlNode],
     alloc: Global,
@@ -176,9 +167,10 @@ fn add_nodes(
         ++ nodes_dead_links (live_hrefs_view found.entry) [] (nodes_view nodes.now)) }
 {
     let mut dest = None;
-    for child in nodes {
-        add_node(child, alloc, found, dest, dead)?;
-        dest = dest_past(dest, child);
+    let mut walk = Walk::over(alloc, nodes);
+    while let Some(visit) = walk.next()? {
+        add_visited(visit, alloc, found, dest, dead)?;
+        dest = visit_dest(visit, dest);
     }
     Ok(())
 }

@@ -2,9 +2,9 @@
 
 ghost use Rattle.std.specs.Prelude.{◌≡◌, ◌∷◌, [], List, option_map, IfErr, IfOk, OnErr, OnOk};
 ghost use Rattle.html_dom_document.specs.{Introspectors.{introspector_view}, Views.{document_view}};
-ghost use Rattle.html_dom_tree.specs.{Tree.{NodeView, element_node}, Views.{attrs_view, element_view, node_view, nodes_view, text_view}};
+ghost use Rattle.html_dom_tree.specs.{Tree.{NodeView, element_node}, Views.{attrs_view, element_view, node_view, nodes_view, tag_view, text_view}};
 ghost use Rattle.html_anchors.specs.LinkTargets.{hrefs_view};
-ghost use Rattle.html_anchors.specs.Links.{attrs_with_href, dest_before, href_of, is_open, name_of, node_with_links, nodes_with_links, open_dest};
+ghost use Rattle.html_anchors.specs.Links.{attrs_with_href, dest_before, href_of, is_open, name_of, node_with_links, nodes_with_links, open_dest, tag_dest};
 ghost use Rattle.html_anchors.specs.MadeDocuments.{HasItsLinks};
 
 use crate::root_children::{put_children, take_children};
@@ -136,19 +136,27 @@ pub fn with_resolved_links(
 }
 
 /// Returns the destination that counts right after a node, given the one right before it.
-pub(crate) fn dest_past(dest: Option<Location>, node: &HtmlNode) -> Option<Location>
+fn dest_past(dest: Option<Location>, node: &HtmlNode) -> Option<Location>
     ensures { (before : List NodeView) → option_map (λ l. l.0) dest ≡ dest_before before →
         option_map (λ l. l.0) result ≡ dest_before (node_view node.now ∷ before) }
 {
     match node {
-        HtmlNode::Tag(
-            Tag::Start {
-                dest: Some(dest),
-                ..
-            },
-        ) => Some(*dest),
-        HtmlNode::Tag(_) => dest,
+        HtmlNode::Tag(tag) => tag_dest(tag, dest),
         HtmlNode::Text(_, _) | HtmlNode::Element(_) | HtmlNode::Frame(_) => None,
+    }
+}
+
+/// Returns the destination that counts right after a tag, given the one right before it.
+pub(crate) fn tag_dest(tag: &Tag, dest: Option<Location>) -> Option<Location>
+    ensures { option_map (λ l. l.0) result
+        ≡ tag_dest (tag_view tag.now) (option_map (λ l. l.0) dest) }
+{
+    match tag {
+        Tag::Start {
+            dest: Some(there),
+            ..
+        } => Some(*there),
+        _ => dest,
     }
 }
 
