@@ -1,8 +1,8 @@
 -- Numbers of names, over lists of texts.
-use Rattle.std.proofs.Common.{◌≡◌, ℕ, ◌+◌, ◌<◌, ◌≤◌, Bool, true, false, if◌then◌else◌, List, [], ◌∷◌, ◌++◌, refl, sym, ap, ◌∙◌, length, arith, bytes_eq, add-one, append-nil, length-append, Option, None, Some, Result, Ok, Err}
+use Rattle.std.proofs.Common.{◌≡◌, ℕ, ◌<◌, ◌≤◌, Bool, true, false, if◌then◌else◌, List, [], ◌∷◌, ◌++◌, refl, sym, ap, ◌∙◌, length, arith, bytes_eq, add-one, append-nil, length-append, Option, None, Some, Ok}
 use Rattle.std.proofs.{Math.Bool.{or-true}, lemmas.Bool.{eq-eqb}, lemmas.List.{get_or_append_left, get_or_push}, lemmas.Slice.Eq.{bytes_eq-Decides}}
 use Rattle.html_names_core.{proofs.Ascending.{stands, stands_in-append}, proofs.Basics.{bytes_eq-refl}, specs.Names.{stands_in}}
-use Rattle.html_names_table.specs.NameTables.{NamesView, Numbers, IsNumbered, number_in, number_where, with_name, name_at}
+use Rattle.html_names_table.specs.NameTables.{Numbers, IsNumbered, number_in, number_where, with_name, name_at}
 
 pub number_below : (names : List (List ℕ)) (name : List ℕ) → stands_in names name ≡ true →
     number_in names name < length names
@@ -136,6 +136,9 @@ added_again names name other =
 -- for a number that is asked for twice
 pub ruleset stays = (number_later, stands_in-both, added_again, eq-eqb)
 
+-- for the name with the number of a name
+pub ruleset at_number = (name_at-added, bytes_eq-refl)
+
 -- a name at the end gets the next number
 pub numbered : (names : List (List ℕ)) (name : List ℕ) → IsNumbered names →
     stands_in names name ≡ false → IsNumbered (names ++ name ∷ [])
@@ -214,13 +217,3 @@ adds names after name number added counted new =
       absent = tt;
       kept = tt;
     }
-
--- the same in a table, of which the names that have a number are one part
-pub in_table : {E : Type 0} (part : List (List ℕ) → NamesView) (result : Result ℕ E)
-    (old new : List (List ℕ)) (name : List ℕ) →
-    Numbers result old new name old new (with_name old name) →
-    Numbers result old new name (part old) (part new) (part (with_name old name))
-in_table part (Ok n) old new name h =
-    record { number = h.number; below = h.below; names = ap part h.names; absent = tt; kept = tt }
-in_table part (Err e) old new name h =
-    record { number = tt; below = tt; names = tt; absent = h.absent; kept = ap part h.kept }

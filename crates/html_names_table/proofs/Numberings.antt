@@ -30,13 +30,6 @@ fresh table own none = (
   own_fresh table own none,
 )
 
--- a name that is not known differs from each that is
-unlike : (table : List (List ℕ)) (name : List ℕ) (place : ℕ) → place < length table →
-    stands_in table name ≡ false → false ≡ bytes_eq name (get_or table place [])
-unlike table name place below unknown =
-    sym (bytes_eq-sym name (get_or table place [])
-    ∙ differs table (get_or table place []) name (stands table place below) unknown)
-
 -- a new name goes to the end of the list, and gets the next number
 module _ (table names : List (List ℕ)) (name : List ℕ) (absent : stands_in names name ≡ false)
     (number : ℕ) (counted : number ≡ length names) where
@@ -61,8 +54,10 @@ module _ (table names : List (List ℕ)) (name : List ℕ) (absent : stands_in n
   next_own (Err e) known old new text u is unknown all was own put = tt
   next_own (Ok v) known old new text u is unknown all was own put = (
     numbered names name all absent,
-    λ other l. was other l ∙ added_where (λ n. n) names name (get_or table other []) false absent
-        (sym (unlike table name other l unknown)),
+    λ other l.
+        let known_name : List ℕ = get_or table other [] in
+        was other l ∙ added_where (λ n. n) names name known_name false absent
+        (bytes_eq-sym name known_name ∙ differs table known_name name (stands table other l) unknown),
     rw (sym is)
         (own_next table names old new text number counted u own (rw is absent) put.placed),
   )

@@ -1,5 +1,5 @@
 -- The numbers of names that are not known, against the list of the names.
-use Rattle.std.proofs.Common.{◌≡◌, ℕ, ◌+◌, ◌<◌, ◌≤◌, ◌⊎◌, inl, inr, Bool, true, false, List, [], ◌∷◌, ◌++◌, refl, sym, ap, ◌∙◌, chars, length, get_or, take, drop, set, arith, bytes_eq, Some, string_bytes}
+use Rattle.std.proofs.Common.{◌≡◌, ℕ, ◌<◌, ◌≤◌, ◌⊎◌, inl, inr, Bool, true, false, List, [], ◌∷◌, ◌++◌, refl, sym, ap, ◌∙◌, chars, length, get_or, take, drop, set, arith, bytes_eq, Some, string_bytes}
 use Rattle.std.proofs.lemmas.Bool.{false≢true}
 use Rattle.std.proofs.lemmas.List.{take-append-drop, length-take-le, length-set, get_or_default, get_or-set_same, get_or-set_other}
 use Rattle.std.proofs.lemmas.{Bool.Decides.{eqb_tells}, Map.Text.{btree_map_updates_text}, Slice.Eq.{bytes_eq-Decides}}
@@ -150,22 +150,14 @@ module _ (table names : List (List ℕ)) (old new : OwnNumbers) (text : List ℕ
   own_next placed = record { found = λ other v h. found_by placed other _ v h refl }
 
 -- a name does not stand among those with lower numbers
-not_before_by : (names : List (List ℕ)) (n : ℕ) (b : Bool) → IsNumbered names → n < length names →
-    stands_in (take n names) (name_at names n) ≡ b → b ≡ false
-not_before_by names n true all below e =
-    let name : List ℕ = name_at names n in
-    let first = number_in-append (take n names) (drop n names) name e in
-    let whole : take n names ++ drop n names ≡ names = take-append-drop n names in
-    absurd (omega (
-      arith,
-      number_below (take n names) name e,
-      length-take-le n names (omega arith),
-      sym (ap (λ ns. number_in ns name) whole) ∙ first,
-      all n below,
-    ))
-not_before_by names n false all below e = refl
-
 pub not_before : (names : List (List ℕ)) (n : ℕ) → IsNumbered names → n < length names →
     stands_in (take n names) (name_at names n) ≡ false
 not_before names n all below =
-    not_before_by names n (stands_in (take n names) (name_at names n)) all below refl
+    grind (
+      arith,
+      all n below,
+      number_below (take n names) (name_at names n),
+      number_in-append (take n names) (drop n names) (name_at names n),
+      take-append-drop n names,
+      length-take-le n names,
+    )

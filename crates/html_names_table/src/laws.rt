@@ -41,6 +41,7 @@ pub fn tag_number_stays(
 }
 
 /// The tag at the number of a given tag is equal to it.
+#[tactic(auto, using(crate::proofs::NameTables::at_number))]
 pub fn tag_at_number(names: &mut NameTable, given: &HtmlTag) -> Result<bool, AllocError>
     ensures numbers { IfOk result (λ same. IsTrue same) }
     ensures names { OnOk result (names.new ≡ with_tag names.old given.now) }
@@ -84,6 +85,7 @@ pub fn attr_number_stays(
 }
 
 /// The attribute at the number of a given attribute is equal to it.
+#[tactic(auto, using(crate::proofs::NameTables::at_number))]
 pub fn attr_at_number(names: &mut NameTable, given: &HtmlAttr) -> Result<bool, AllocError>
     ensures numbers { IfOk result (λ same. IsTrue same) }
     ensures names { OnOk result (names.new ≡ with_attr names.old given.now) }
