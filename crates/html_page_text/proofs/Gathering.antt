@@ -1,7 +1,7 @@
 -- One pass over the atoms gathers the parts of what is seen by the definition.
 use Rattle.std.proofs.Common.{◌≡◌, ℕ, Bool, true, false, List, [], ◌∷◌, ◌++◌, map, chars, length, eqb, refl, ap, ◌∙◌, sym, append_assoc}
 use Rattle.std.{proofs.lemmas.List.{append-nil, map-append}, specs.Str.{IsUtf8}}
-use Rattle.html_dom_tree.specs.{PlainTree.{nodes_normal}, Tree.{NodeView, NodesView, none, node}}
+use Rattle.html_dom_tree.specs.{PlainTree.{nodes_normal}, Tree.{NodeView, NodesView, node}}
 use Rattle.html_dom_shown.proofs.NodeAtoms.{node_atoms, nodes_atoms, normal_atoms}
 use Rattle.html_dom_shown.specs.Collapsing.{Atom, visible, ignorable, collapsible, kept, object, break, border, Piece, char, thing, line, edge, is_supported_by, atom_pieces, atoms_pieces, merged_edges, collapsed_pieces, plains_atoms}
 use Rattle.html_page_text.proofs.Parts.{some_chars, put_twice, put_before}
@@ -171,15 +171,9 @@ run-append s (x ∷ xs) ys = run-append (step s x) xs ys
 abbrev pub past_all : (preserved : Bool) → Seen → NodesView → Seen
 past_all preserved s ns = run s (plains_atoms preserved (nodes_normal ns))
 
-pub past_one : (preserved : Bool) (s : Seen) (n : NodeView) →
-    past_all preserved s (node n none) ≡ run s (node_atoms preserved n)
-past_one preserved s n =
-    ap (run s) (normal_atoms (node n none) preserved ∙ append-nil (node_atoms preserved n))
-
 pub past_first : (preserved : Bool) (s : Seen) (n : NodeView) (ns : NodesView) →
-    past_all preserved s (node n ns) ≡ past_all preserved (past_all preserved s (node n none)) ns
+    past_all preserved s (node n ns) ≡ past_all preserved (run s (node_atoms preserved n)) ns
 past_first preserved s n ns =
     ap (run s) (normal_atoms (node n ns) preserved)
     ∙ (run-append s (node_atoms preserved n) (nodes_atoms preserved ns)
-    ∙ (ap (λ t. run t (nodes_atoms preserved ns)) (sym (past_one preserved s n))
-    ∙ ap (run (past_all preserved s (node n none))) (sym (normal_atoms ns preserved))))
+    ∙ ap (run (run s (node_atoms preserved n))) (sym (normal_atoms ns preserved)))

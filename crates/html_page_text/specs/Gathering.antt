@@ -1,9 +1,9 @@
 -- The visible pieces, gathered in one pass over the atoms: a blank is held back until what follows
 -- decides whether it is visible.
-use Rattle.std.specs.Prelude.{ℕ, Bool, true, false, ◌||◌, List, [], ◌∷◌, ◌++◌, map, if◌then◌else◌}
-use Rattle.html_dom_tree.specs.{PlainTree.{nodes_normal}, Tree.{NodeView, tag_node, text_node, element_node, frame_node, NodesView}}
-use Rattle.html_dom_shown.specs.Collapsing.{Atom, visible, ignorable, collapsible, kept, object, break, border, Piece, char, thing, line, edge, text_atoms, preserves, element_atoms, plains_atoms}
-use Rattle.html_page_text.specs.{Parts.{Part, object_part, line_part, edge_part, put_text}, Unseen.{is_unseen, seen_nodes}}
+use Rattle.std.specs.Prelude.{ℕ, Bool, true, false, List, [], ◌∷◌, ◌++◌, map, if◌then◌else◌}
+use Rattle.html_dom_tree.specs.{PlainTree.{nodes_normal}, Tree.{NodesView}}
+use Rattle.html_dom_shown.specs.Collapsing.{Atom, visible, ignorable, collapsible, kept, object, break, border, Piece, char, thing, line, edge, plains_atoms}
+use Rattle.html_page_text.specs.{Parts.{Part, object_part, line_part, edge_part, put_text}, Unseen.{seen_nodes}}
 
 -- complete parts, in which neighbouring edges are one, the text behind them, and whether the last
 -- part is an edge
@@ -110,15 +110,6 @@ border_atoms b = if b then border ∷ [] else []
 abbrev pub final : Seen → List Part
 final s = ended_parts (with_pieces s.page (released false s.before))
 
--- the progress past a node
-abbrev pub past_node : (preserved : Bool) → Seen → NodeView → Seen
-past_node preserved s (tag_node t) = s
-past_node preserved s (text_node text span) = run s (text_atoms preserved text)
-past_node preserved s (element_node h kids) = if is_unseen h.name h.attrs then s
-    else run s (element_atoms h.name h.attrs
-    (plains_atoms (preserved || preserves h.name h.attrs) (nodes_normal (seen_nodes kids))))
-past_node preserved s (frame_node b) = s
-
--- the progress past the nodes of a list
+-- what is visible past the nodes of a list
 abbrev pub past_nodes : (preserved : Bool) → Seen → NodesView → Seen
 past_nodes preserved s ns = run s (plains_atoms preserved (nodes_normal (seen_nodes ns)))

@@ -3,4 +3,5 @@ pub mod PageTexts
 pub mod PageViews
 pub mod Parts
 pub mod PlainTexts
+pub mod Progress
 pub mod Unseen

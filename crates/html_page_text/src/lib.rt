@@ -2,6 +2,7 @@
 #![tactic(auto)]
 
 mod page;
+mod progress;
 mod seen;
 mod shown;
 mod style;

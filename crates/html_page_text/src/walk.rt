@@ -1,16 +1,16 @@
 //! The walk over a page's nodes.
 
 ghost use Rattle.std.specs.Prelude.{◌≡◌, IsTrue, OnOk, IfOk, option_map};
-ghost use Rattle.html_dom_tree.specs.{Tree.{element_node, node, none}, Views.{element_view, node_view, nodes_view}};
+ghost use Rattle.html_dom_tree.specs.{Tree.{node, none}, Views.{element_view, node_view, nodes_view}};
 ghost use Rattle.html_dom_shown.specs.Bodies.{body_children};
-ghost use Rattle.html_page_text.specs.{Gathering.{past_node, past_nodes}, PageTexts.{page_parts}, PageViews.{page_text_view, seen_view}};
-ghost use Rattle.html_page_text.specs.{Parts.{stand_apart}, Unseen.{seen_element, seen_nodes}};
+ghost use Rattle.html_page_text.specs.{PageTexts.{page_parts}, PageViews.{page_text_view, progress_view}};
+ghost use Rattle.html_page_text.specs.{Parts.{stand_apart}, Progress.{progress_past}, Unseen.{seen_element, seen_nodes}};
 
-use crate::seen::Seen;
+use crate::progress::Progress;
 use crate::shown::PageText;
-use crate::style::{has_border, is_line_break, preserves_inside};
 use crate::unseen::is_unseen;
 use html_dom_tree::{HtmlElement, HtmlNode};
+use html_dom_walk::Walk;
 use html_names_core::tag;
 use std::alloc::{AllocError, Global};
 
@@ -66,11 +66,24 @@ pub fn page_text(alloc: Global, root: &HtmlElement) -> Result<PageText, AllocErr
     ensures parts { IfOk result (λ text. page_text_view text ≡ page_parts (element_view root.now)) }
     ensures apart { IfOk result (λ text. IsTrue (stand_apart (page_text_view text))) }
 {
-    let mut seen = Seen::new(alloc);
+    let mut progress = Progress::new(alloc);
     if let Some(body) = seen_body(root) {
-        add_nodes(&body.children, false, &mut seen)?;
+        pass_nodes(alloc, &body.children, &mut progress)?;
     }
-    seen.into_page_text()
+    progress.into_page_text()
+}
+
+fn pass_nodes(alloc: Global, nodes: &[HtmlNode], progress: &mut Progress) -> Result<(), AllocError>
+    ensures { OnOk result (progress_view progress.new
+        ≡ progress_past (progress_view progress.old) (nodes_view nodes.now)) }
+{
+    let mut walk = Walk::over(alloc, nodes);
+    while let Some(visit) = walk.next()? {
+        if progress.pass(visit)? {
+            walk.skip();
+        }
+    }
+    Ok(())
 }
 
 /// Returns the body of a root that is not hidden.
@@ -112,53 +125,4 @@ fn body_of(nodes: &[HtmlNode]) -> Option<&HtmlElement>
         }
     }
     None
-}
-
-// The node comes first among the parameters: its depth proves that the recursion ends.
-
-/// Adds an element, given whether blanks are preserved around it.
-#[cycle(walk)]
-fn add_element(element: &HtmlElement, preserved: bool, seen: &mut Seen) -> Result<(), AllocError>
-    ensures { let e = element_view element.now in
-        OnOk result (seen_view seen.new
-        ≡ past_node preserved (seen_view seen.old) (element_node e.0 e.1)) }
-{
-    if is_unseen(element) {
-        return Ok(());
-    }
-    if is_line_break(&element.tag) {
-        return seen.line_break();
-    }
-    let has_border = has_border(element);
-    seen.border_if(has_border)?;
-    if tag::is_replaced(&element.tag) {
-        seen.object(&element.tag)?;
-    } else {
-        let preserved = preserves_inside(preserved, element);
-        add_nodes(&element.children, preserved, seen)?;
-    }
-    seen.border_if(has_border)
-}
-
-#[cycle(walk)]
-fn add_node(child: &HtmlNode, preserved: bool, seen: &mut Seen) -> Result<(), AllocError>
-    ensures { OnOk result (seen_view seen.new
-        ≡ past_node preserved (seen_view seen.old) (node_view child.now)) }
-{
-    match child {
-        HtmlNode::Text(text, _) => seen.text(preserved, text.as_str()),
-        HtmlNode::Element(element) => add_element(element, preserved, seen),
-        HtmlNode::Tag(_) | HtmlNode::Frame(_) => Ok(()),
-    }
-}
-
-#[cycle(walk)]
-fn add_nodes(nodes: &[HtmlNode], preserved: bool, seen: &mut Seen) -> Result<(), AllocError>
-    ensures { OnOk result (seen_view seen.new
-        ≡ past_nodes preserved (seen_view seen.old) (nodes_view nodes.now)) }
-{
-    for child in nodes {
-        add_node(child, preserved, seen)?;
-    }
-    Ok(())
 }

@@ -3,7 +3,7 @@ use Rattle.std.specs.Prelude.{option_map}
 use Rattle.html_dom_tree.proofs.Nodes.{nodes_view-drop}
 use Rattle.html_dom_tree.specs.{Attributes.{or_else}, Tree.{none, node}, Views.{element_view, node_view, nodes_view}}
 use Rattle.html_dom_shown.specs.Bodies.{body_children}
-use Rattle.html_page_text.{proofs.Walks.{body_first}, specs.Unseen.{seen_nodes}}
+use Rattle.html_page_text.{proofs.Bodies.{body_first}, specs.Unseen.{seen_nodes}}
 use Rattle.html_page_text.proofs.walk.body_of.Goals as goal
 
 pub returns-in-Some : goal.returns-in-Some
