@@ -17,8 +17,7 @@ use std::num::{NonZeroI64, NonZeroU64};
 /// name of the crate that contains them, `tests_surface`:
 ///
 /// ```
-/// ghost use Rattle.std.specs.Prelude.{codes};
-/// ghost use Rattle.std.specs.Fmt.{decimal};
+/// ghost use Rattle.std.specs.{Fmt.{decimal}, Prelude.{codes}};
 /// ghost use Rattle.tests_surface.specs.declared.own.attr.Limit.TheVariants.{Most, Unlimited};
 ///
 /// use html_values::{IntoAttr, NoneValue};
