@@ -1,17 +1,8 @@
-//! Tests of names, texts of displays, characters, and numbers for names, over public calls.
+//! Tests of the texts of displays, and of names, numbers for them, and a text under construction when
+//! growths of memory are refused, over public calls. The rows of `tests_rows` show more of names.
 #![tactic(auto)]
 
-#[cfg(test)]
-mod characters;
 #[cfg(test)]
 mod displays;
 #[cfg(test)]
 mod growths;
-#[cfg(test)]
-mod interning;
-#[cfg(test)]
-mod name_table;
-#[cfg(test)]
-mod room;
-#[cfg(test)]
-mod text_writer;
