@@ -4,7 +4,7 @@ use Rattle.html_dom_tree.specs.Views.{text_view}
 use Rattle.html_page_text.specs.Gathering as gathering
 use Rattle.html_page_text.specs.Progress as progress
 use Rattle.html_page_text.specs.{Parts.{Part, text_part, object_part, line_part, edge_part}, declared.page.GatheredPage.{GatheredPage}}
-use Rattle.html_page_text.specs.declared.progress.{Open.{Open}, OpenElements.{OpenElements}, Progress.{Progress}}
+use Rattle.html_page_text.specs.declared.progress.{Open.{Open}, Progress.{Progress}}
 use Rattle.html_page_text.specs.declared.seen.{Before.{Before}, Seen.{Seen}, Before.TheVariants.{Bare, Support, Blank}}
 use Rattle.html_page_text.specs.declared.shown.{PageText.{PageText}, Shown.{Shown}, Shown.TheVariants.{Text, Object, LineBreak, Edge}}
 
@@ -35,13 +35,9 @@ seen_view s = record { page = page_view s.page; before = before_view s.before }
 abbrev pub open_view : Open → Bool × Bool
 open_view o = (o.preserved, o.has_border)
 
--- the innermost first
-abbrev pub open_elements_view : OpenElements → List (Bool × Bool)
-open_elements_view os = reverse (map open_view os.items.items)
-
 abbrev pub progress_view : Progress → progress.Progress
 progress_view p = record {
   seen = seen_view p.seen;
   preserved = p.preserved;
-  opened = open_elements_view p.opened;
+  opened = reverse (map open_view p.opened.items);
 }

@@ -1,9 +1,9 @@
 //! What is visible up to a point of a page, and the elements that are open there.
 
-ghost use Rattle.std.specs.Prelude.{◌≡◌, ◌∷◌, [], IfNone, IfOk, IfSome, OnOk};
+ghost use Rattle.std.specs.Prelude.{◌≡◌, IfOk, OnOk};
 ghost use Rattle.html_dom_tree.specs.Views.{element_view};
 ghost use Rattle.html_dom_walk.specs.Walks.{event_of};
-ghost use Rattle.html_page_text.specs.{Gathering.{final}, PageViews.{open_elements_view, open_view, page_text_view, progress_view}};
+ghost use Rattle.html_page_text.specs.{Gathering.{final}, PageViews.{page_text_view, progress_view}};
 ghost use Rattle.html_page_text.specs.Progress.{entered, has_no_content, is_skipped, left, no_progress, past_event};
 
 use crate::seen::Seen;
@@ -24,40 +24,13 @@ struct Open {
     has_border: bool,
 }
 
-/// The open elements, the innermost last.
-#[derive(Drop)]
-struct OpenElements {
-    items: Vec<Open>,
-}
-
-impl OpenElements {
-    fn push(&mut self, preserved: bool, has_border: bool) -> Result<(), AllocError>
-        ensures { OnOk result (open_elements_view self.new
-            ≡ (preserved, has_border) ∷ open_elements_view self.old) }
-    {
-        self.items.push(Open {
-            preserved,
-            has_border,
-        })?;
-        Ok(())
-    }
-
-    fn pop(&mut self) -> Option<Open>
-        ensures some { IfSome result (λ element.
-            open_elements_view self.old ≡ open_view element ∷ open_elements_view self.new) }
-        ensures none { IfNone result
-            ((open_elements_view self.old ≡ []) × (open_elements_view self.new ≡ [])) }
-    {
-        self.items.pop()
-    }
-}
-
 #[derive(Drop)]
 pub(crate) struct Progress {
     seen: Seen,
     /// Whether blanks are preserved.
     preserved: bool,
-    opened: OpenElements,
+    /// The innermost last.
+    opened: Vec<Open>,
 }
 
 impl Progress {
@@ -67,9 +40,7 @@ impl Progress {
         Progress {
             seen: Seen::new(alloc),
             preserved: false,
-            opened: OpenElements {
-                items: Vec::new(alloc),
-            },
+            opened: Vec::new(alloc),
         }
     }
 
@@ -102,17 +73,20 @@ impl Progress {
     {
         let preserved = self.preserved;
         self.preserved = preserves_inside(preserved, element);
-        if is_unseen(element) {
-            self.opened.push(preserved, false)?;
+        let is_hidden = is_unseen(element);
+        let is_break = is_line_break(&element.tag);
+        let has_border = !is_hidden && !is_break && has_border(element);
+        self.opened.push(Open {
+            preserved,
+            has_border,
+        })?;
+        if is_hidden {
             return Ok(true);
         }
-        if is_line_break(&element.tag) {
-            self.opened.push(preserved, false)?;
+        if is_break {
             self.seen.line_break()?;
             return Ok(true);
         }
-        let has_border = has_border(element);
-        self.opened.push(preserved, has_border)?;
         self.seen.border_if(has_border)?;
         let is_replaced = tag::is_replaced(&element.tag);
         if is_replaced {
