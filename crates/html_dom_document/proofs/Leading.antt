@@ -2,9 +2,14 @@
 use Rattle.std.proofs.Common.{◌≡◌, ℕ, suc, ◌+◌, List, [], ◌∷◌, ◌++◌, true, false, if◌then◌else◌, Option, Some, None, option_and_then, refl, ap, sym, ◌∙◌, arith}
 use Rattle.html_dom_tree.{proofs.Basics.{put_twice}, specs.PlainTree.{Plain, branch, plain, put_words, nodes_normal, element_normal}}
 use Rattle.html_dom_tree.specs.Tree.{starts, ends, Head, tag_node, text_node, element_node, frame_node, NodesView, none, node, ElementView}
-use Rattle.html_dom_document.{proofs.Recording.{last_off}, specs.DomIndices.{◌then◌, element_count, run_count, dom_index}}
-use Rattle.html_dom_document.specs.Paths.{nth, child, follow, ArePlain, holders, Lead, PathsLead}
+use Rattle.html_dom_document.specs.DomIndices.{◌then◌, element_count, run_count, dom_index}
+use Rattle.html_dom_document.specs.Paths.{nth, child, follow, ArePlain, without_last, holders, Lead, PathsLead}
 use Rattle.html_dom_document.specs.Places.{PlacedTagView, children_path, nodes_places}
+
+last_off : (path : List ℕ) (i : ℕ) → without_last (path ++ i ∷ []) ≡ path
+last_off [] i = refl
+last_off (x ∷ []) i = refl
+last_off (x ∷ y ∷ ys) i = ap (λ l. x ∷ l) (last_off (y ∷ ys) i)
 
 then_plain : (ns ms : NodesView) → ArePlain ns → ArePlain ms → ArePlain (ns then ms)
 unfolding ArePlain

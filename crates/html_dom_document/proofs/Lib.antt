@@ -1,8 +1,8 @@
 pub mod Cursors
+pub mod DomWalks
 pub mod Equals
 pub mod Leading
 pub mod Locations
 pub mod Outputs
 pub mod Places
 pub mod Positions
-pub mod Recording

@@ -2,6 +2,7 @@ pub mod Cursor
 pub mod DocumentLending
 pub mod Documents
 pub mod DomIndices
+pub mod DomWalks
 pub mod IndexWalks
 pub mod Introspectors
 pub mod Lending

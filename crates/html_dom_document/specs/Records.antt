@@ -1,4 +1,4 @@
--- The state of a walk over a tree, and the effect of a call that records.
+-- What is recorded of a tree, and the effect of a call that records.
 use Rattle.std.specs.{Prelude.{◌≡◌, ℕ, List, ◌++◌, map, option_map, Result, OnOk}, declared.alloc.AllocError.{AllocError}}
 use Rattle.html_dom_tree.specs.declared.introspection.Location.{Location}
 use Rattle.html_dom_document.specs.{Introspectors.{position_view}, Places.{PlacedTagView}, declared.placed_tag.PlacedTag.{PlacedTag}}
@@ -20,10 +20,9 @@ location_view l = l.0
 abbrev pub locations_view : List Location → List ℕ
 locations_view = map location_view
 
--- the path is unchanged, and these places and links are added
+-- these places and links are added
 pub record Records
     (r : Result (Unit {0}) AllocError) (old new : Recorder)
     (places : List PlacedTagView) (links : List ℕ) : Type 0 where
-  pub path : OnOk r (new.path.items ≡ old.path.items)
   pub found : OnOk r (places_view new.places.items ≡ places_view old.places.items ++ places)
   pub linked : OnOk r (locations_view new.links.items ≡ locations_view old.links.items ++ links)

@@ -1,5 +1,5 @@
 -- The pure values of outputs, of information and of documents.
-use Rattle.std.specs.{Prelude.{ℕ, List, map, option_map, String}, declared.alloc.Global.{Global}}
+use Rattle.std.specs.Prelude.{option_map}
 use Rattle.html_names_core.specs.Texts.{texts_view}
 use Rattle.html_dom_tree.specs.Views.{text_view, optional_text_view, nodes_view}
 use Rattle.html_dom_document.specs.{Documents.{LocaleView, InfoView, OutputView, DocumentView}, Introspectors.{introspector_view}}

@@ -49,9 +49,7 @@ impl HtmlIntrospector {
         ensures { IfOk result (λ introspector.
             introspector_view introspector ≡ recorded_view (nodes_view nodes.now)) }
     {
-        let mut recorder = Recorder::new(alloc);
-        recorder.add_nodes(nodes)?;
-        let Recorder { places, links, .. } = recorder;
+        let Recorder { places, links } = Recorder::of(alloc, nodes)?;
         let destinations = destinations(alloc, &places)?;
         Ok(HtmlIntrospector {
             positions: first_positions(alloc, places)?,

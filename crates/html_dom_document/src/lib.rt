@@ -31,6 +31,7 @@ mod output;
 mod placed_tag;
 mod position;
 mod recorder;
+mod siblings;
 mod tables;
 
 pub use document::HtmlDocument;

@@ -13,7 +13,7 @@ pub struct HtmlPosition {
     pub(crate) point: Option<Point>,
 }
 
-pub(crate) fn copy_path(path: &Vec<usize>) -> Result<Vec<usize>, AllocError>
+fn copy_path(path: &Vec<usize>) -> Result<Vec<usize>, AllocError>
     ensures { IfOk result (λ copy. copy.items ≡ path.now.items) }
 {
     path.clone()

@@ -1,57 +1,52 @@
-//! The walk over a tree that records its start tags and links.
+//! What is recorded of a tree: its start tags, and the links in its frames.
 
-ghost use Rattle.std.specs.Prelude.{◌≡◌, ◌++◌, [], ◌∷◌, option_map, None};
-ghost use Rattle.html_dom_tree.specs.{FrameViews.{point_view, tag_view, frame_view, frame_item_view}, Tree.{none}};
-ghost use Rattle.html_dom_tree.specs.Views.{node_view, nodes_view, element_view};
-ghost use Rattle.html_dom_document.specs.Paths.{without_last};
-ghost use Rattle.html_dom_document.specs.Places.{children_path, link_targets, tag_places, frame_places, item_places, node_places, nodes_places, frame_links, item_links, node_links, nodes_links};
-ghost use Rattle.html_dom_document.specs.Records.{Records, location_view};
+ghost use Rattle.std.specs.Prelude.{◌≡◌, ◌<◌, ◌^◌, [], IfOk, option_map, suc};
+ghost use Rattle.html_dom_tree.specs.{FrameViews.{point_view, tag_view, frame_view, frame_item_view}, Views.{nodes_view}};
+ghost use Rattle.html_dom_walk.specs.Walks.{event_of};
+ghost use Rattle.html_dom_document.specs.{Cursor.{element_index}, DomWalks.{event_links, event_places, path_view, siblings_view}};
+ghost use Rattle.html_dom_document.specs.Places.{document_places, frame_links, frame_places, item_links, item_places, link_targets, nodes_links, tag_places};
+ghost use Rattle.html_dom_document.specs.Records.{Records, location_view, locations_view, places_view};
 
-use crate::cursor::Cursor;
-use crate::element::is_named_html;
 use crate::placed_tag::PlacedTag;
-use crate::position::{HtmlPosition, copy_path};
-use html_dom_tree::{Frame, FrameItem, HtmlElement, HtmlNode, Location, Point, Tag};
+use crate::position::HtmlPosition;
+use crate::siblings::{NodePath, Siblings};
+use html_dom_tree::{Frame, FrameItem, HtmlNode, Location, Point, Tag};
+use html_dom_walk::{Visit, Walk};
 use std::alloc::{AllocError, Global};
 
 /// The start tags and links of frames found so far, in document order.
 #[derive(Drop)]
 pub(crate) struct Recorder {
-    /// The path of the current node.
-    pub(crate) path: Vec<usize>,
     pub(crate) places: Vec<PlacedTag>,
     pub(crate) links: Vec<Location>,
 }
 
 impl Recorder {
-    pub(crate) fn new(alloc: Global) -> Recorder
-        ensures path { result.path.items ≡ [] }
+    fn new(alloc: Global) -> Recorder
         ensures places { result.places.items ≡ [] }
         ensures links { result.links.items ≡ [] }
     {
         Recorder {
-            path: Vec::new(alloc),
             places: Vec::new(alloc),
             links: Vec::new(alloc),
         }
     }
 
-    fn leave(&mut self)
-        ensures path { self.new.path.items ≡ without_last self.old.path.items }
-        ensures places { self.new.places ≡ self.old.places }
-        ensures links { self.new.links ≡ self.old.links }
-    {
-        let _ = self.path.pop();
-    }
-
-    fn add_tag(&mut self, tag: &Tag, point: Option<Point>) -> Result<(), AllocError>
-        ensures { Records result self.old self.new (tag_places (tag_view tag.now)
-            (record { path = self.old.path.items; point = option_map point_view point })) [] }
+    fn add_tag(
+        &mut self,
+        tag: &Tag,
+        at: NodePath<'_>,
+        point: Option<Point>,
+    ) -> Result<(), AllocError>
+        ensures { Records result self.old self.new (tag_places (tag_view tag.now) (record {
+          path = path_view at.entry;
+          point = option_map point_view point;
+        })) [] }
     {
         let Tag::Start { location, dest, .. } = tag else {
             return Ok(());
         };
-        let path = copy_path(&self.path)?;
+        let path = at.to_vec()?;
         self.places.push(PlacedTag {
             location: *location,
             dest: *dest,
@@ -72,94 +67,70 @@ impl Recorder {
 
     #[cycle(add_frame)]
     #[tactic(auto, unfolding(crate::specs::Places::item_places, crate::specs::Places::item_links))]
-    fn add_frame(&mut self, frame: &Frame) -> Result<(), AllocError>
+    fn add_frame(&mut self, frame: &Frame, at: NodePath<'_>) -> Result<(), AllocError>
         ensures { Records result self.old self.new
-            (frame_places self.old.path.items (frame_view frame.now))
+            (frame_places (path_view at.entry) (frame_view frame.now))
             (frame_links (frame_view frame.now)) }
     {
         for (point, item) in &frame.items {
-            self.add_item(*point, item)?;
+            self.add_item(*point, item, at)?;
         }
         Ok(())
     }
 
     #[cycle(add_frame)]
     #[tactic(auto, unfolding(crate::specs::Places::item_places, crate::specs::Places::item_links))]
-    fn add_item(&mut self, point: Point, item: &FrameItem) -> Result<(), AllocError>
-        ensures { Records result self.old self.new
-            (item_places self.old.path.items (point_view point) (frame_item_view item.now))
+    fn add_item(
+        &mut self,
+        point: Point,
+        item: &FrameItem,
+        at: NodePath<'_>,
+    ) -> Result<(), AllocError>
+        ensures { Records result self.old self.new (item_places
+            (path_view at.entry) (point_view point) (frame_item_view item.now))
             (item_links (frame_item_view item.now)) }
     {
         match item {
-            FrameItem::Tag(tag) => self.add_tag(tag, Some(point)),
-            FrameItem::Group(frame) => self.add_frame(frame),
+            FrameItem::Tag(tag) => self.add_tag(tag, at, Some(point)),
+            FrameItem::Group(frame) => self.add_frame(frame, at),
             FrameItem::Link(link) => self.add_link(*link),
             FrameItem::Other => Ok(()),
         }
     }
 
-    fn add_tag_at(&mut self, tag: &Tag, index: usize) -> Result<(), AllocError>
-        ensures { Records result self.old self.new (tag_places (tag_view tag.now)
-            (record { path = self.old.path.items ++ index ∷ []; point = None })) [] }
-    {
-        self.path.push(index)?;
-        self.add_tag(tag, None)?;
-        self.leave();
-        Ok(())
-    }
-
-    fn add_frame_at(&mut self, frame: &Frame, index: usize) -> Result<(), AllocError>
+    fn add_visited(&mut self, visit: Visit<'_>, siblings: &Siblings) -> Result<(), AllocError>
+        requires { suc (element_index siblings.now.cursor) < 2 ^ 64 }
         ensures { Records result self.old self.new
-            (frame_places (self.old.path.items ++ index ∷ []) (frame_view frame.now))
-            (frame_links (frame_view frame.now)) }
+            (event_places (siblings_view siblings.now) (event_of visit.entry))
+            (event_links (event_of visit.entry)) }
     {
-        self.path.push(index)?;
-        self.add_frame(frame)?;
-        self.leave();
-        Ok(())
-    }
-
-    #[cycle(add_nodes)]
-    #[tactic(auto, unfolding(crate::specs::Places::node_places, crate::specs::Places::node_links))]
-    fn add_node(&mut self, node: &HtmlNode, index: usize) -> Result<(), AllocError>
-        ensures { Records result self.old self.new
-            (node_places self.old.path.items index (node_view node.now))
-            (node_links (node_view node.now)) }
-    {
-        match node {
-            HtmlNode::Tag(tag) => self.add_tag_at(tag, index),
-            HtmlNode::Text(_, _) => Ok(()),
-            HtmlNode::Element(element) => self.add_element(element, index),
-            HtmlNode::Frame(frame) => self.add_frame_at(&frame.inner, index),
+        match visit {
+            Visit::Tag(tag) => self.add_tag(tag, siblings.path(siblings.cursor.passed), None),
+            Visit::Frame(frame) => {
+                let index = siblings.cursor.element_index();
+                self.add_frame(&frame.inner, siblings.path(index))
+            }
+            Visit::Text(_, _) | Visit::Enter(_) | Visit::Leave => Ok(()),
         }
     }
 
-    #[cycle(add_nodes)]
-    fn add_element(&mut self, element: &HtmlElement, index: usize) -> Result<(), AllocError>
-        ensures { let e = element_view element.now in Records result self.old self.new
-            (nodes_places (children_path e.0 self.old.path.items index) none e.1)
-            (nodes_links e.1) }
+    /// Records the nodes of a document.
+    pub(crate) fn of(alloc: Global, nodes: &[HtmlNode]) -> Result<Recorder, AllocError>
+        ensures places { IfOk result (λ recorder. places_view recorder.places.items
+            ≡ document_places (nodes_view nodes.now)) }
+        ensures links { IfOk result (λ recorder. locations_view recorder.links.items
+            ≡ nodes_links (nodes_view nodes.now)) }
     {
-        if is_named_html(element) {
-            return self.add_nodes(&element.children);
+        let mut recorder = Recorder::new(alloc);
+        let mut siblings = Siblings::new(alloc);
+        let mut walk = Walk::over(alloc, nodes);
+        while let Some(visit) = walk.next()? {
+            if !siblings.cursor.has_room() {
+                return Err(AllocError);
+            }
+            recorder.add_visited(visit, &siblings)?;
+            siblings.pass(visit)?;
         }
-        self.path.push(index)?;
-        self.add_nodes(&element.children)?;
-        self.leave();
-        Ok(())
-    }
-
-    #[cycle(add_nodes)]
-    pub(crate) fn add_nodes(&mut self, nodes: &[HtmlNode]) -> Result<(), AllocError>
-        ensures { Records result self.old self.new
-            (nodes_places self.old.path.items none (nodes_view nodes.now))
-            (nodes_links (nodes_view nodes.now)) }
-    {
-        let mut cursor = Cursor::new();
-        for node in nodes {
-            let index = cursor.pass(node);
-            self.add_node(node, index)?;
-        }
-        Ok(())
+        Ok(recorder)
     }
 }

@@ -6,7 +6,6 @@ pub returns : goal.returns
 returns c =
     let old = c.args.self.now in
     record {
-      path = refl;
       found = ap places_view c.in_ok-push.ensures.items
           ∙ (map-append place_view old.places.items _
           ∙ rw (c.in-Start.is, c.in_ok-path.ensures) refl);
