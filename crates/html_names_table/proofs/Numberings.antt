@@ -55,9 +55,9 @@ module _ (table names : List (List ℕ)) (name : List ℕ) (absent : stands_in n
   next_own (Ok v) known old new text u is unknown all was own put = (
     numbered names name all absent,
     λ other l.
-        let known_name : List ℕ = get_or table other [] in
-        was other l ∙ added_where (λ n. n) names name known_name false absent
-        (bytes_eq-sym name known_name ∙ differs table known_name name (stands table other l) unknown),
+        let one : List ℕ = get_or table other [] in
+        was other l ∙ added_where (λ n. n) names name one false absent
+        (bytes_eq-sym name one ∙ differs table one name (stands table other l) unknown),
     rw (sym is)
         (own_next table names old new text number counted u own (rw is absent) put.placed),
   )
@@ -86,10 +86,13 @@ module _ {N : Type 0} (shown : N → List ℕ) (table : List (List ℕ)) (known 
       rw (sym same) (other_slot table own now text was.2 u unknown
       (λ below. absurd (omega (arith, at, counted, past, long, below))))
 
-  module _ (name : N) (bytes : List ℕ) (below : number < len) (read : name ≡ get_or kept number name)
-      (is : chars bytes ≡ shown name) (v : IsUtf8 bytes) where
+  module _ (name : N) (bytes : List ℕ) (below : number < len)
+      (read : name ≡ get_or kept number name) (is : chars bytes ≡ shown name)
+      (v : IsUtf8 bytes) where
     item : shown name ≡ name_at now number
-    item = ap shown read ∙ sym (get_or-map shown kept number name [] (omega (arith, below, counted)))
+    item =
+        ap shown read
+        ∙ sym (get_or-map shown kept number name [] (omega (arith, below, counted)))
 
     alike : bytes_eq (shown name) (chars text) ≡ bytes_eq bytes text
     alike = rw (sym is) (bytes_eq-chars bytes text v u)
@@ -109,8 +112,8 @@ module _ {N : Type 0} (shown : N → List ℕ) (table : List (List ℕ)) (known 
 -- the numbers of the names with lower numbers, and one more name
 module _ {N : Type 0} (shown : N → List ℕ) (table : List (List ℕ)) (kept : List N)
     (all : IsNumbered (map shown kept)) (number : ℕ) (below : number < length kept)
-    (wider : OwnNumbers) (was : IsOwnNumbering table wider (map shown (take number kept))) (name : N)
-    (at : name ≡ get_or kept number name) where
+    (wider : OwnNumbers) (was : IsOwnNumbering table wider (map shown (take number kept)))
+    (name : N) (at : name ≡ get_or kept number name) where
   abbrev before : List (List ℕ)
   before = map shown (take number kept)
 

@@ -6,7 +6,7 @@ use Rattle.std.proofs.lemmas.{Bool.Decides.{eqb_tells}, Map.Text.{btree_map_upda
 use Rattle.std.specs.{BTreeMap.{get_by_text, UpdatesBy}, Ordering.{nat_cmp}, Str.{IsUtf8}, String.{string_cmp}}
 use Rattle.std.specs.Cmp.Lexicographic.{slice_cmp}
 use Rattle.html_names_table.proofs.NameTables.{added_where, found_where, number_below, number_in-append, others_where}
-use Rattle.html_names_table.specs.NameTables.{number_in, number_where, name_at, IsNumbered}
+use Rattle.html_names_table.specs.NameTables.{number_where, name_at, IsNumbered}
 use Rattle.html_names_table.specs.OwnNumbers.{slot_of, slot_number, HoldsNoText, TakesSlot, JoinsRest, IsFound, IsOwnNumbering}
 use Rattle.html_names_table.specs.declared.name_table.own_numbers.OwnNumbers.{OwnNumbers}
 use Rattle.html_names_core.proofs.{Ascending.{differs}, Basics.{bytes_eq-refl}, Lists.{bytes_eq-chars}}
@@ -141,7 +141,8 @@ module _ (table names : List (List ℕ)) (old new : OwnNumbers) (text : List ℕ
       let is : text ≡ other = (bytes_eq-Decides text other).0 e in
       rw (sym is) (placed_found placed)
   found_by placed other false v h e =
-      let differ : bytes_eq (chars text) (chars other) ≡ false = bytes_eq-chars text other u v ∙ e in
+      let differ : bytes_eq (chars text) (chars other) ≡ false =
+      bytes_eq-chars text other u v ∙ e in
       moved new names after other (others_where (λ n. n) names (chars text) (chars other) differ)
       (kept_found placed other e (was.found other v h))
 

@@ -13,8 +13,8 @@ use std::marker::Model;
 
 /// Names of one kind that have a number, in the order of their numbers.
 ///
-/// In contracts it is their texts. The number of a known name is found by its place, that of another
-/// by its text.
+/// In contracts it is their texts. The number of a known name is found by its place, that of
+/// another by its text.
 #[derive(Drop)]
 pub(crate) struct Numbering<N: Numbered> {
     kept: Vec<N>,
@@ -139,7 +139,8 @@ fn number_next<N: Numbered>(
     requires was { IsNumbering N.known known.old.items own.old (map N.text kept.now) }
     ensures next { OnOk result (IsNumbering N.known known.new.items own.new
         (map N.text kept.now ++ N.text name.now ∷ [])) }
-    ensures kept { OnErr result (IsNumbering N.known known.new.items own.new (map N.text kept.now)) }
+    ensures kept { OnErr result (IsNumbering N.known known.new.items own.new
+        (map N.text kept.now)) }
 {
     match name.place() {
         Some(place) => put_known(known, place, kept.len()),

@@ -10,5 +10,6 @@ returns-in-Ok-clause-number g c =
     adds _ _ _ _
     (ap (map text) (c.push_reserved.ensures.items
     ∙ ap (λ names. names ++ c.args.name ∷ []) c.reserve.ensures.items)
-    ∙ (map_push text items c.args.name ∙ ap (λ names. names ++ text c.args.name ∷ []) c.self.view_is))
+    ∙ (map_push text items c.args.name
+    ∙ ap (λ names. names ++ text c.args.name ∷ []) c.self.view_is))
     (count ∙ (sym (length-map items text) ∙ ap length c.self.view_is)) c.requires
