@@ -4,9 +4,9 @@ use Rattle.std.specs.Prelude.{if◌then◌else◌, option_map, unwrap_or}
 use Rattle.html_dom_tree.specs.{Attributes.{or_else}, PlainTree.{nodes_normal}}
 use Rattle.html_dom_tree.specs.Tree.{Head, NodeView, NodesView, tag_node, text_node, element_node, frame_node, none, node}
 use Rattle.html_dom_shown.{proofs.Bodies.{body_in_normal}, specs.Bodies.{body_children, body_in}}
-use Rattle.html_dom_shown.specs.{Collapsing.{Piece, plains_atoms}, SeenBodies.{seen_body}}
+use Rattle.html_dom_shown.specs.{Collapsing.{Piece, collapsed_pieces, plains_atoms}, SeenBodies.{seen_body}}
 use Rattle.html_page_text.proofs.Gathering.{gathered_is_seen, past_all}
-use Rattle.html_page_text.specs.{Gathering.{nothing_seen, final, with_pieces}, Parts.{Part, joined_parts}}
+use Rattle.html_page_text.specs.{Gathering.{nothing_seen, final}, Parts.{Part, joined_parts}}
 use Rattle.html_page_text.specs.{Progress.{Progress, no_progress, progress_past}, Unseen.{is_unseen, seen_nodes}}
 
 -- the first body
@@ -42,19 +42,19 @@ seen_in ns = unwrap_or (seen_body (body_in (nodes_normal ns))) []
 abbrev pub parts_in : NodesView → List Part
 parts_in ns = joined_parts (seen_in ns)
 
-seen_by : (ns : NodesView) (o : Option NodesView) → body_children ns ≡ o →
-    seen_in ns ≡ unwrap_or (seen_body (option_map nodes_normal o)) []
-seen_by ns o e =
-    ap (λ l. unwrap_or (seen_body l) []) (body_in_normal ns ∙ ap (option_map nodes_normal) e)
+seen_by : (body : Option NodesView) →
+    collapsed_pieces (plains_atoms false (nodes_normal (unwrap_or body none)))
+    ≡ unwrap_or (seen_body (option_map nodes_normal body)) []
+unfolding nodes_normal
+seen_by None = refl
+seen_by (Some body) = refl
 
-pub body_seen : (ns kids body : NodesView) (p : Progress) → body_children ns ≡ Some body →
-    seen_nodes kids ≡ body → p ≡ progress_past no_progress kids → final p.seen ≡ parts_in ns
-body_seen ns kids body p is of e =
-    ap (λ q. final q.seen) e ∙ (ap (λ l. final (past_all false nothing_seen l)) of
-    ∙ (gathered_is_seen (plains_atoms false (nodes_normal body))
-    ∙ ap joined_parts (sym (seen_by ns (Some body) is))))
-
-pub nothing_in : (ns : NodesView) (p : Progress) → body_children ns ≡ None → p ≡ no_progress →
+pub body_seen : (ns kids : NodesView) (p : Progress) →
+    seen_nodes kids ≡ unwrap_or (body_children ns) none → p ≡ progress_past no_progress kids →
     final p.seen ≡ parts_in ns
-unfolding with_pieces
-nothing_in ns p is e = ap (λ q. final q.seen) e ∙ ap joined_parts (sym (seen_by ns None is))
+body_seen ns kids p is e =
+    let body = unwrap_or (body_children ns) none in
+    ap (λ q. final q.seen) e ∙ (ap (λ l. final (past_all false nothing_seen l)) is
+    ∙ (gathered_is_seen (plains_atoms false (nodes_normal body))
+    ∙ ap joined_parts (seen_by (body_children ns)
+    ∙ ap (λ l. unwrap_or (seen_body l) []) (sym (body_in_normal ns)))))

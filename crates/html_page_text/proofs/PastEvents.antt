@@ -3,7 +3,8 @@ use Rattle.std.proofs.Common.{◌≡◌, ℕ, Bool, true, false, not, ◌&&◌, 
 use Rattle.std.specs.Prelude.{if◌then◌else◌}
 use Rattle.html_names_core.specs.Kinds.{is_line_break, is_replaced}
 use Rattle.html_dom_tree.specs.{PlainTree.{nodes_normal}, Tree.{Head, text_node, element_node, NodesView, node}}
-use Rattle.html_dom_shown.{proofs.NodeAtoms.{normal_atoms}, specs.Collapsing.{Atom, object, break, border, preserves, has_border, bordered_atoms, element_atoms, plains_atoms}}
+use Rattle.html_dom_shown.proofs.NodeAtoms.{normal_atoms}
+use Rattle.html_dom_shown.specs.Collapsing.{Atom, object, break, border, preserves, has_border, bordered_atoms, element_atoms, plains_atoms}
 use Rattle.html_dom_walk.proofs.Passing.{past_is, skipped_is}
 use Rattle.html_dom_walk.specs.{Events.{Event, Placed, tag, text, frame, enter, leave, events_of, from_end}, Passing.{Goes, past}}
 use Rattle.html_page_text.proofs.Gathering.{past_all, past_first, run-append}
@@ -25,40 +26,32 @@ element_run false false false name s inner = refl
 element_run false true true name s inner = refl
 element_run false true false name s inner = run-append (step s border) inner (border ∷ [])
 
-module _ (preserved : Bool) (s : Seen) (h : Head) where
+module _ (preserved : Bool) (s : Seen) (h : Head) (kids ns : NodesView) where
   abbrev kept : Bool
   kept = preserved || preserves h.name h.attrs
 
-  seen_by : (unseen : Bool) (kids ns : NodesView) →
-      let broken = is_line_break h.name in
-      let bordered = has_border h.name h.attrs in
-      let begun = run s (border_atoms bordered) in
-      past_all preserved s (if unseen then ns else node (element_node h kids) ns)
-      ≡ past_all preserved (run (run (if unseen then s else (if broken then step s break
-      else (if is_replaced h.name then step begun (object h.name) else begun)))
-      (if unseen || (broken || is_replaced h.name) then []
-      else plains_atoms kept (nodes_normal kids)))
-      (border_atoms (not (unseen || broken) && bordered))) ns
-  unfolding run
-  seen_by true kids ns = refl
-  seen_by false kids ns =
-      let name = h.name in
-      past_first preserved s (element_node h kids) ns
-      ∙ ap (λ t. past_all preserved t ns)
-      (ap (λ l. run s (element_atoms name h.attrs l)) (sym (normal_atoms kids kept))
-      ∙ element_run (is_line_break name) (has_border name h.attrs) (is_replaced name) name s
-      (plains_atoms kept (nodes_normal kids)))
-
-  element_past : (kids ns : NodesView) (skipped : Bool) → has_no_content h ≡ skipped →
-      past_nodes preserved s (node (element_node h kids) ns)
-      ≡ past_nodes preserved (run (run (started s h) (if skipped then []
+  -- past the element's start, its content, its end, and the nodes behind it
+  abbrev after : (skipped : Bool) → Seen
+  after skipped = past_nodes preserved (run (run (started s h) (if skipped then []
       else plains_atoms kept (nodes_normal (seen_nodes kids)))) (border_atoms (ends_in_border h))) ns
-  unfolding seen_nodes
-  element_past kids ns skipped is =
-      seen_by (is_unseen h.name h.attrs) (seen_nodes kids) (seen_nodes ns)
-      ∙ ap (λ b. past_nodes preserved (run (run (started s h) (if b then []
-      else plains_atoms kept (nodes_normal (seen_nodes kids)))) (border_atoms (ends_in_border h))) ns)
-      is
+
+  by_unseen : (unseen : Bool) → is_unseen h.name h.attrs ≡ unseen →
+      past_nodes preserved s (node (element_node h kids) ns) ≡ after (has_no_content h)
+  unfolding run seen_nodes
+  by_unseen true e = rw e refl
+  by_unseen false e =
+      let name = h.name in
+      let inner = seen_nodes kids in
+      let later = seen_nodes ns in
+      rw e (past_first preserved s (element_node h inner) later
+      ∙ ap (λ t. past_all preserved t later)
+      (ap (λ l. run s (element_atoms name h.attrs l)) (sym (normal_atoms inner kept))
+      ∙ element_run (is_line_break name) (has_border name h.attrs) (is_replaced name) name s
+      (plains_atoms kept (nodes_normal inner))))
+
+  element_past : (skipped : Bool) → has_no_content h ≡ skipped →
+      past_nodes preserved s (node (element_node h kids) ns) ≡ after skipped
+  element_past skipped is = by_unseen (is_unseen h.name h.attrs) refl ∙ ap after is
 
 abbrev step_past : Progress → Placed → Progress
 step_past p e = past_event p e.1

@@ -1,6 +1,6 @@
 //! The walk over a page's nodes.
 
-ghost use Rattle.std.specs.Prelude.{◌≡◌, IsTrue, OnOk, IfOk, option_map};
+ghost use Rattle.std.specs.Prelude.{◌≡◌, IsTrue, OnOk, IfOk, option_map, unwrap_or};
 ghost use Rattle.html_dom_tree.specs.{Tree.{node, none}, Views.{element_view, node_view, nodes_view}};
 ghost use Rattle.html_dom_shown.specs.Bodies.{body_children};
 ghost use Rattle.html_page_text.specs.{PageTexts.{page_parts}, PageViews.{page_text_view, progress_view}};
@@ -67,9 +67,7 @@ pub fn page_text(alloc: Global, root: &HtmlElement) -> Result<PageText, AllocErr
     ensures apart { IfOk result (λ text. IsTrue (stand_apart (page_text_view text))) }
 {
     let mut progress = Progress::new(alloc);
-    if let Some(body) = seen_body(root) {
-        pass_nodes(alloc, &body.children, &mut progress)?;
-    }
+    pass_nodes(alloc, shown_nodes(root), &mut progress)?;
     progress.into_page_text()
 }
 
@@ -86,15 +84,19 @@ fn pass_nodes(alloc: Global, nodes: &[HtmlNode], progress: &mut Progress) -> Res
     Ok(())
 }
 
-/// Returns the body of a root that is not hidden.
-fn seen_body(root: &HtmlElement) -> Option<&HtmlElement>
-    ensures { option_map (λ body. seen_nodes (element_view body.now).1) result
-        ≡ body_children (seen_element (element_view root.now)).1 }
+/// Returns the children of the body of a root, if there is one that is not hidden.
+#[tactic(auto, unfolding(crate::specs::Unseen::seen_nodes))]
+fn shown_nodes(root: &HtmlElement) -> &[HtmlNode]
+    ensures { seen_nodes (nodes_view result.now)
+        ≡ unwrap_or (body_children (seen_element (element_view root.now)).1) none }
 {
     if is_unseen(root) {
-        return None;
+        return &[];
     }
-    body_of(&root.children)
+    match body_of(&root.children) {
+        Some(body) => &body.children,
+        None => &[],
+    }
 }
 
 #[tactic(auto, unfolding(html_names_core::specs::Tables::known_tags, crate::specs::Unseen::seen_nodes))]
