@@ -1,9 +1,9 @@
 -- What is recorded along a walk is what the definitions record of the nodes.
 use Rattle.std.proofs.{Common.{◌≡◌, ℕ, suc, List, [], ◌∷◌, ◌++◌, Bool, true, false, if◌then◌else◌, length, take, refl, sym, ap, ◌∙◌, append-nil, append_assoc}, Math.Seq.{take-append_seam, take-length}}
-use Rattle.html_dom_tree.specs.Tree.{Head, NodeView, element_node, frame_node, NodesView, none, node}
+use Rattle.html_dom_tree.specs.Tree.{Head, element_node, frame_node, NodesView, none, node}
 use Rattle.html_dom_walk.specs.{Events.{Placed, leave, events_of}, Gathered.{gathered}}
 use Rattle.html_dom_document.proofs.Cursors.{reached, index_is, moved_is}
-use Rattle.html_dom_document.specs.{Cursor.{cursor_after, element_index, index_at, past_element}, DomIndices.{◌then◌, dom_index}}
+use Rattle.html_dom_document.specs.{Cursor.{element_index, index_at, past_element}, DomIndices.{◌then◌, dom_index}}
 use Rattle.html_dom_document.specs.DomWalks.{SiblingsView, event_links, event_places, first_siblings, siblings_past}
 use Rattle.html_dom_document.specs.Places.{PlacedTagView, children_path, document_places, frame_links, is_named_html, node_links, node_places, nodes_links, nodes_places}
 use Rattle.html_dom_document.specs.declared.{cursor.Cursor.{Cursor}, siblings.Outer.{Outer}}
@@ -17,23 +17,6 @@ links_along = gathered (λ e. event_links e.1)
 
 abbrev siblings : Cursor → (parent : List ℕ) → List Outer → SiblingsView
 siblings c parent outer = record { cursor = c; parent = parent; outer = outer }
-
--- one node more, which is no element
-one_more : (before : NodesView) (n : NodeView) (path : List ℕ) (outer : List Outer)
-    (ns : NodesView) (later : List Placed) (rest : List PlacedTagView) →
-    let next = before then node n none in
-    places_along (siblings (reached next) path outer) later ≡ nodes_places path next ns ++ rest →
-    node_places path (index_at (reached before) n) n
-    ++ places_along (siblings (cursor_after (reached before) n) path outer) later
-    ≡ nodes_places path before (node n ns) ++ rest
-unfolding nodes_places
-one_more before n path outer ns later rest so =
-    let own = node_places path (index_at (reached before) n) n in
-    let behind = nodes_places path (before then node n none) ns in
-    ap (λ c. own ++ places_along (siblings c path outer) later) (moved_is before n)
-    ∙ (ap (λ l. own ++ l) so
-    ∙ (ap (λ i. node_places path i n ++ (behind ++ rest)) (index_is before n)
-    ∙ sym (append_assoc (node_places path (dom_index before n) n) behind rest)))
 
 path_behind : (h : Head) (path : List ℕ) (index : ℕ) →
     take (length path) (children_path h path index) ≡ path
@@ -68,8 +51,14 @@ places_from before path outer parent index (node (element_node h kids) ns) later
     (index_is before n)
     ∙ sym (append_assoc (node_places path (dom_index before n) n) behind rest))
 places_from before path outer parent index (node n ns) later rest so =
-    one_more before n path outer ns (events_of parent (suc index) ns later) rest
-    (places_from (before then node n none) path outer parent (suc index) ns later rest so)
+    let own = node_places path (index_at (reached before) n) n in
+    let next = before then node n none in
+    let events = events_of parent (suc index) ns later in
+    let behind = nodes_places path next ns in
+    ap (λ c. own ++ places_along (siblings c path outer) events) (moved_is before n)
+    ∙ (ap (λ l. own ++ l) (places_from next path outer parent (suc index) ns later rest so)
+    ∙ (ap (λ i. node_places path i n ++ (behind ++ rest)) (index_is before n)
+    ∙ sym (append_assoc (node_places path (dom_index before n) n) behind rest)))
 
 pub places_along_is : (ns : NodesView) →
     places_along first_siblings (events_of [] 0 ns []) ≡ document_places ns

@@ -22,16 +22,6 @@ pub(crate) struct Recorder {
 }
 
 impl Recorder {
-    fn new(alloc: Global) -> Recorder
-        ensures places { result.places.items ≡ [] }
-        ensures links { result.links.items ≡ [] }
-    {
-        Recorder {
-            places: Vec::new(alloc),
-            links: Vec::new(alloc),
-        }
-    }
-
     fn add_tag(
         &mut self,
         tag: &Tag,
@@ -121,7 +111,10 @@ impl Recorder {
         ensures links { IfOk result (λ recorder. locations_view recorder.links.items
             ≡ nodes_links (nodes_view nodes.now)) }
     {
-        let mut recorder = Recorder::new(alloc);
+        let mut recorder = Recorder {
+            places: Vec::new(alloc),
+            links: Vec::new(alloc),
+        };
         let mut siblings = Siblings::new(alloc);
         let mut walk = Walk::over(alloc, nodes);
         while let Some(visit) = walk.next()? {

@@ -11,10 +11,10 @@ loop-walk-init c =
     let nodes = nodes_view c.args.nodes.now in
     record {
       found = ap (λ ps. places_view ps ++ places_along (siblings_view c.new-siblings.result) events)
-          c.new-recorder.ensures.places
+          c.new.ensures.items
           ∙ (ap (λ s. places_along s events) c.new-siblings.ensures
           ∙ (ap (places_along first_siblings) c.over-walk.ensures.events ∙ places_along_is nodes));
-      linked = ap (λ ls. locations_view ls ++ links_along events) c.new-recorder.ensures.links
+      linked = ap (λ ls. locations_view ls ++ links_along events) c.new-2.ensures.items
           ∙ (ap links_along c.over-walk.ensures.events ∙ links_along_is nodes);
     }
 
