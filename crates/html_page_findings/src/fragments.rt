@@ -36,8 +36,8 @@ pub struct DeadFragment {
 /// a page, resolve its links against its address.
 ///
 /// Takes time logarithmic in the number of places for each place and each link to a fragment, and
-/// time linear in its depth for each link. Holds a copy of the places' names besides the result.
-/// Fails only if an allocation fails.
+/// time linear in its depth for each dead link. Holds a copy of the places' names besides the
+/// result. Fails only if an allocation fails.
 ///
 /// ```
 /// use html_page::{dead_fragments, read_page};

@@ -31,8 +31,8 @@ pub struct RepeatedId {
 /// frame's anchor. Empty ones count too. Those in a `template` don't, as its contents are a tree of
 /// their own (4.12.3).
 ///
-/// Takes, for each id, time logarithmic in the number of ids and linear in its depth. Holds a copy of
-/// the ids besides the result. Fails only if an allocation fails.
+/// Takes time logarithmic in the number of ids for each id, and time linear in its depth for each
+/// repeated one. Holds a copy of the ids besides the result. Fails only if an allocation fails.
 ///
 /// ```
 /// use html_page::{read_page, repeated_ids};
