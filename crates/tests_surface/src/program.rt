@@ -1,10 +1,8 @@
 //! The parts of the program's runs.
 
-use std::alloc::Global;
 use std::io;
 use std::io::{Error, ErrorKind, Write};
-use std::test::Fail;
-use typst_html_run::{LastCall, Recorded, Status, Task, WriteFailed, wanted_task, words_of};
+use typst_html_run::{LastCall, Recorded, Status, WriteFailed};
 
 #[test]
 fn statuses_have_codes(rt: HostRuntime) {
@@ -45,28 +43,4 @@ fn recorded_writers_fail(rt: HostRuntime) {
     assert!(rt; writer.write_all(b"x") == Err(WriteFailed));
     assert!(rt; writer.flush() == Err(WriteFailed));
     assert!(rt; writer.last() == LastCall::Failed);
-}
-
-/// The arguments after the name of the program, and the task that they request.
-const WORDS: [(&[&str], Option<(Task, bool)>); 3] = [
-    (&["html_tool", "tree"], Some((Task::Tree, false))),
-    (&["html_tool", "doc", "--pretty"], Some((Task::Doc, true))),
-    (&["html_tool", "list"], None),
-];
-
-fn strings_of(alloc: Global, words: &[&str]) -> Result<Vec<String>, Fail> {
-    let mut strings = Vec::new(alloc);
-    for word in words {
-        strings.push(String::from_str(alloc, word)?)?;
-    }
-    Ok(strings)
-}
-
-#[test]
-fn words_name_a_task(rt: HostRuntime) -> Result<(), Fail> {
-    for (list, task) in WORDS {
-        let words = strings_of(rt.alloc(), list)?;
-        assert!(rt; wanted_task(words_of(&words)) == task);
-    }
-    Ok(())
 }

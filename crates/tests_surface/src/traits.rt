@@ -140,64 +140,6 @@ fn types_that_take_warnings_or_frames() {
     writes_frames::<()>();
 }
 
-/// Asserts that a value is equal to itself, and to no other.
-fn assert_differ<T: Eq>(rt: &impl Abort, value: &T, other: &T) {
-    assert!(rt; *value == *value && *value != *other);
-}
-
-#[test]
-fn numbers_and_colours_differ(rt: HostRuntime) {
-    let (em, abs) = (Em::from_millionths(1), Abs::from_millionths(0));
-    let (one, two) = (
-        Length { em, abs },
-        Length {
-            em: Em::from_millionths(2),
-            abs,
-        },
-    );
-    let rel = Ratio::from_millionths(1);
-    let (r, g, b, a) = (1, 2, 3, 4);
-    let (faint, opaque) = (Rgba { r, g, b, a }, Rgba { r, g, b, a: 255 });
-    assert_differ(&rt, &one, &two);
-    assert_differ(&rt, &Rel { rel, abs: one }, &Rel { rel, abs: two });
-    assert_differ(&rt, &Paint::Solid(faint), &Paint::Solid(opaque));
-    assert_differ(&rt, &Separator::Space, &Separator::Slash);
-    assert!(rt; Span(1) < Span(2) && Location(1) < Location(2));
-}
-
-#[test]
-fn parts_and_faults_differ(rt: HostRuntime) {
-    let (location, span) = (Location(1), Span(1));
-    let frame = Frame {
-        picture: 1,
-        items: Vec::new(rt.alloc()),
-    };
-    let other = Frame {
-        picture: 2,
-        items: Vec::new(rt.alloc()),
-    };
-    assert_differ(&rt, &frame, &other);
-    assert_differ(&rt, &FrameItem::Group(frame), &FrameItem::Group(other));
-    assert_differ(
-        &rt,
-        &Tag::End { location },
-        &Tag::End {
-            location: Location(2),
-        },
-    );
-    assert_differ(&rt, &FlowFault::OutOfMemory, &FlowFault::TooDeep { span });
-    assert_differ(&rt, &Refused { back: 1u8 }, &Refused { back: 2 });
-    let (dest, further) = (Location(1), Location(2));
-    assert_differ(
-        &rt,
-        &DeadLink { span, dest },
-        &DeadLink {
-            span,
-            dest: further,
-        },
-    );
-}
-
 /// Asserts that an equal key finds the value under a key, and no other does.
 fn assert_key<K: Eq + Hash + Drop>(
     rt: &impl Abort,
