@@ -1,11 +1,10 @@
 //! Tests of documents.
 
-use html_dom_document::laws::document::{equal_infos, equal_locales};
-use html_dom_document::{DocumentInfo, HtmlDocument, Locale};
+use html_dom_document::HtmlDocument;
 use html_dom_tree::{Location, Span};
 use std::collections::BTreeMap;
 use tests_asserts::{TestResult, Tester, assert_text};
-use tests_samples::{document_of, info_of, output_of};
+use tests_samples::{document_of, output_of};
 
 /// The root is one of the nodes, even after it changed.
 #[test]
@@ -15,18 +14,6 @@ fn outputs(rt: HostRuntime) -> TestResult {
     let copy = output.try_clone()?;
     assert!(rt; copy.root().span == Span(4) && copy.root_node().span() == Span(4));
     assert!(rt; copy.nodes().get(1) == Some(output.root_node()));
-    Ok(())
-}
-
-#[test]
-fn information_is_compared(rt: HostRuntime) -> TestResult {
-    let (info, new) = (info_of(rt.alloc())?, DocumentInfo::new(rt.alloc()));
-    assert!(rt; equal_infos(&info.try_clone()?, &info) && !equal_infos(&info, &new));
-    let (de, en) = (
-        Locale::new(String::from_str(rt.alloc(), "de")?),
-        Locale::new(String::from_str(rt.alloc(), "en")?),
-    );
-    assert!(rt; equal_locales(&de.try_clone()?, &de) && !equal_locales(&de, &en));
     Ok(())
 }
 

@@ -1,6 +1,6 @@
 //! Tests of positions and links in a tree, and of the elements that paths lead to.
 
-use html_dom_document::{HtmlIntrospector, HtmlPosition, HtmlSliceExt};
+use html_dom_document::{HtmlIntrospector, HtmlPosition};
 use html_dom_tree::{Frame, FrameItem, HtmlElement, HtmlFrame, HtmlNode, Location, Point, Span};
 use html_names_core::tag;
 use html_page_findings::element_at;
@@ -8,45 +8,6 @@ use html_values_css::Abs;
 use std::alloc::{AllocError, Global};
 use tests_asserts::{TestResult, Tester, assert_debug, assert_number};
 use tests_samples::{nested, point, start, text_of};
-
-/// Returns a node for each word: a start tag for `-`, a `span` for `<`, a text for any other.
-fn nodes(alloc: Global, words: &[&str]) -> Result<Vec<HtmlNode>, AllocError> {
-    let mut nodes = Vec::new(alloc);
-    for word in words {
-        nodes.push(match *word {
-            "-" => HtmlNode::from(start(1, None)),
-            "<" => HtmlNode::from(HtmlElement::new(alloc, tag::span)),
-            text => text_of(alloc, text, 0)?,
-        })?;
-    }
-    Ok(nodes)
-}
-
-/// Words, and the DOM indices of their nodes. Neighbouring texts are one, even on both sides of a
-/// tag, and empty texts count.
-static INDICES: [(&[&str], &[usize]); 3] = [
-    (
-        &[
-            "A", "<", "hi", " you", "-", " there", "<", " my", " friend!",
-        ],
-        &[0, 1, 2, 2, 2, 2, 3, 4, 4],
-    ),
-    (&["", "<", "-"], &[0, 1, 2]),
-    (&[], &[]),
-];
-
-#[test]
-fn runs_of_texts_count_once(rt: HostRuntime) -> TestResult {
-    for (words, wanted) in &INDICES {
-        let nodes = nodes(rt.alloc(), words)?;
-        let nodes = nodes.as_slice();
-        assert_number(nodes.iter_with_dom_indices().count(), wanted.len())?;
-        for ((_, index), wanted) in nodes.iter_with_dom_indices().zip(wanted.iter()) {
-            assert_number(index, *wanted)?;
-        }
-    }
-    Ok(())
-}
 
 fn position<'a>(
     rt: &impl Tester,
@@ -124,38 +85,6 @@ fn assert_element_at(rt: &impl Tester, root: &HtmlElement, path: &[usize], wante
     };
     assert!(rt; found == wanted);
 }
-
-/// The tree is a tag and a `b` that holds a text and an `a`.
-#[test]
-fn paths_lead_to_elements(rt: HostRuntime) -> TestResult {
-    let alloc = rt.alloc();
-    let link = HtmlElement::new(alloc, tag::a).spanned(Span(3));
-    let bold = HtmlElement::new(alloc, tag::b).spanned(Span(2));
-    let bold = bold
-        .with_child(text_of(alloc, "x", 9)?)?
-        .with_child(HtmlNode::from(link))?;
-    let nodes = vec![in alloc; HtmlNode::from(start(1, None)), HtmlNode::from(bold)]?;
-    let root = HtmlElement::new(alloc, tag::p)
-        .spanned(Span(1))
-        .with_children(nodes);
-    for (path, wanted) in &PATHS {
-        assert_element_at(&rt, &root, path, *wanted);
-    }
-    Ok(())
-}
-
-/// Paths, and the span of the element that each leads to.
-static PATHS: [(&[usize], Option<u64>); 9] = [
-    (&[], Some(1)),
-    (&[0], None),
-    (&[0, 0], None),
-    (&[1], Some(2)),
-    (&[1, 0], None),
-    (&[1, 1], Some(3)),
-    (&[1, 1, 0], None),
-    (&[2], None),
-    (&[1, 2], None),
-];
 
 #[test]
 fn long_paths_lead_to_elements(rt: HostRuntime) -> TestResult {

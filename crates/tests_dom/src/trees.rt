@@ -1,37 +1,12 @@
-//! Tests of attributes, flat trees and copies.
+//! Tests of flat trees and copies.
 
 use html_dom_flat::{FlatElement, FlatNode, FlatTree};
-use html_dom_tree::{HtmlAttrs, HtmlElement, HtmlNode};
-use html_names_core::{HtmlTag, attr, tag};
+use html_dom_tree::{HtmlElement, HtmlNode};
+use html_names_core::{HtmlTag, tag};
 use std::alloc::Global;
 use std::test::Fail;
-use tests_asserts::{TestResult, Tester, assert_number, assert_text};
+use tests_asserts::{TestResult, Tester, assert_number};
 use tests_samples::{attrs_of, nested, text_of};
-
-fn assert_attrs(rt: &impl Tester, list: &HtmlAttrs, wanted: &[(&str, &str)]) -> TestResult {
-    assert!(rt; *list == attrs_of(rt.alloc(), wanted)?);
-    Ok(())
-}
-
-/// A fold keeps the values of the inner list, and its repeats.
-#[test]
-fn folds(rt: HostRuntime) -> TestResult {
-    let inner = attrs_of(rt.alloc(), &[("id", "1"), ("id", "5")])?;
-    let outer = attrs_of(rt.alloc(), &[("id", "2"), ("class", "3"), ("class", "4")])?;
-    let wanted = [("id", "1"), ("id", "5"), ("class", "3")];
-    assert_attrs(&rt, &inner.fold(outer)?, &wanted)
-}
-
-#[test]
-fn pairs_are_pushed_found_and_changed(rt: HostRuntime) -> TestResult {
-    let mut list = attrs_of(rt.alloc(), &[("id", "1"), ("id", "3")])?;
-    list.push_front(attr::lang, String::from_str(rt.alloc(), "en")?)?;
-    assert_text(list.get(&attr::id).expect(&rt, "a value"), "1")?;
-    assert!(rt; list.get_mut(&attr::title).is_none());
-    let value = list.get_mut(&attr::id).expect(&rt, "a value");
-    value.push('0')?;
-    assert_attrs(&rt, &list, &[("lang", "en"), ("id", "10"), ("id", "3")])
-}
 
 /// Returns `<ul class="a" id="b"><li class="c">x</li><my-li></my-li></ul>`, and the text `y`.
 fn sample(alloc: Global) -> Result<Vec<HtmlNode>, Fail> {
