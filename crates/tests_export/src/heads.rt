@@ -2,13 +2,13 @@
 
 use html_dom_document::DocumentInfo;
 use html_dom_tree::{HtmlElement, HtmlNode, Location};
-use html_flow_convert::{HtmlElem, Item, Pair, push_located};
+use html_flow_convert::{Item, push_located};
 use html_names_core::tag;
 use std::alloc::{AllocError, Global};
 use tests_asserts::TestResult;
 use tests_samples::{css_of, id_of};
 use typst_html_encode::HtmlOptions;
-use typst_html_export::{export_with_head, has_own_root, html_document_with_head};
+use typst_html_export::{export_with_head, html_document_with_head};
 
 /// Returns a `link` with css and that `id`.
 fn link_of(alloc: Global, id: &str) -> Result<HtmlElement, AllocError> {
@@ -35,20 +35,5 @@ fn own_nodes(rt: HostRuntime) -> TestResult {
     let html = export_with_head(alloc, &items, &info, &head, &[], 50, &options, &())?;
     let link = r#"<title>Tides</title><link id="loc-1" style="color: red"></head>"#;
     assert!(rt; html.as_str().contains(link));
-    Ok(())
-}
-
-/// A root among the items has a head of its own.
-#[test]
-fn own_root(rt: HostRuntime) -> TestResult {
-    let alloc = rt.alloc();
-    let head = vec![in alloc; HtmlNode::Element(link_of(alloc, "a")?)]?;
-    let own = Item::Element(HtmlElem::new(alloc, tag::html));
-    let items = vec![in alloc; Pair::from(own)]?;
-    let (info, options) = (DocumentInfo::new(alloc), HtmlOptions::default());
-    let html = export_with_head(alloc, &items, &info, &head, &[], 50, &options, &())?;
-    assert_eq!(rt; html.as_str(), "<!DOCTYPE html><html></html>");
-    assert!(rt; has_own_root(alloc, &items, 50)?);
-    assert!(rt; !has_own_root(alloc, &[], 50)?);
     Ok(())
 }
