@@ -10,5 +10,3 @@ mod no_memory;
 mod reading;
 #[cfg(test)]
 mod runs;
-#[cfg(test)]
-mod spelled;

@@ -41,16 +41,3 @@ pub(crate) fn assert_run<R: Read>(
     assert!(rt; status == wanted);
     assert!(rt; out.as_slice() == text.as_bytes());
 }
-
-#[test]
-fn codes(rt: HostRuntime) {
-    let statuses = [
-        Status::Done,
-        Status::Refused,
-        Status::BadInput,
-        Status::Failed,
-    ];
-    for (code, status) in statuses.iter().enumerate() {
-        assert!(rt; usize::from(status.code()) == code);
-    }
-}
