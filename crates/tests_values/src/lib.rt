@@ -4,8 +4,6 @@
 #[cfg(test)]
 mod casts;
 #[cfg(test)]
-mod equality;
-#[cfg(test)]
 mod growths;
 #[cfg(test)]
 mod natives;
