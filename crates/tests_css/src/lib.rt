@@ -6,8 +6,6 @@ mod asserts;
 #[cfg(test)]
 mod growths;
 #[cfg(test)]
-mod properties;
-#[cfg(test)]
 mod texts;
 #[cfg(test)]
 mod warnings;
