@@ -11,12 +11,8 @@ use std::num::{NonZeroI64, NonZeroU64};
 use tests_asserts::TestResult;
 use tests_failing_alloc::{refuses, refuses_given};
 
-const RED: Rgba = Rgba {
-    r: 255,
-    g: 0,
-    b: 16,
-    a: 128,
-};
+#[rattlefmt::skip]
+const RED: Rgba = Rgba { r: 255, g: 0, b: 16, a: 128 };
 
 /// Asserts that the value's text is refused at first, and is then the expected one.
 fn assert_text<V: IntoAttr>(alloc: Global, value: &V, wanted: &str) -> TestResult {
@@ -34,21 +30,38 @@ fn texts_of_words(rt: HostRuntime) -> TestResult {
     assert_text(alloc, &TrueFalseBool(true), "true")?;
     assert_text(alloc, &YesNoBool(true), "yes")?;
     assert_text(alloc, &OnOffBool(true), "on")?;
-    assert_text(alloc, &Dir::TTB, "ttb")?;
-    assert_text(alloc, &HorizontalDir::RTL, "rtl")
+    for (dir, wanted) in [
+        (Dir::LTR, "ltr"),
+        (Dir::RTL, "rtl"),
+        (Dir::TTB, "ttb"),
+        (Dir::BTT, "btt"),
+    ] {
+        assert_text(alloc, &dir, wanted)?;
+    }
+    for (dir, wanted) in [(HorizontalDir::LTR, "ltr"), (HorizontalDir::RTL, "rtl")] {
+        assert_text(alloc, &dir, wanted)?;
+    }
+    Ok(())
 }
 
 #[test]
 fn texts_of_numbers(rt: HostRuntime) -> TestResult {
     let alloc = rt.alloc();
-    assert_text(alloc, &-12i64, "-12")?;
-    assert_text(alloc, &12u64, "12")?;
+    for (number, wanted) in [(-12, "-12"), (i64::MIN, "-9223372036854775808")] {
+        assert_text(alloc, &number, wanted)?;
+    }
+    for (number, wanted) in [(0, "0"), (u64::MAX, "18446744073709551615")] {
+        assert_text(alloc, &number, wanted)?;
+    }
     assert_text(alloc, &NonZeroI64::new(-7).ok_or("zero")?, "-7")?;
     assert_text(alloc, &NonZeroU64::new(7).ok_or("zero")?, "7")?;
     let (width, height) = (16, 0);
     assert_text(alloc, &IconSize { width, height }, "16x0")?;
-    let (src, width) = (String::from_str(alloc, "x.png")?, NonZeroU64::new(480));
-    assert_text(alloc, &ImageCandidate { src, width }, "x.png 480w")
+    for (src, width, wanted) in [(",é", 480, ",é 480w"), ("x.png", 0, "x.png")] {
+        let (src, width) = (String::from_str(alloc, src)?, NonZeroU64::new(width));
+        assert_text(alloc, &ImageCandidate { src, width }, wanted)?;
+    }
+    Ok(())
 }
 
 #[test]
