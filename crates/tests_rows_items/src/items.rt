@@ -1,12 +1,12 @@
 //! Items that a JSON value spells: a list of `["text",t]`, `["space"]`, `["break"]`, `["hole"]`,
 //! `["start",n]`, `["start",n,destination]`, `["start",n,destination,label]`, `["end",n]`,
-//! `["frame"]`, `["box",items]`, `["block",items]` and `["el",tag,[[name,value],..],items]`, with
-//! `null` for no body. An item may be wrapped in `["role",text,item]` or `["norole",item]`, and an
-//! element in `["css",name,value,item]`. The spans are the numbers of the items in the order of
-//! writing, from 1.
+//! `["frame",n,..]`, in which these elements start, each with a link to itself, `["box",items]`,
+//! `["block",items]` and `["el",tag,[[name,value],..],items]`, with `null` for no body. An item may
+//! be wrapped in `["role",text,item]` or `["norole",item]`, and an element in
+//! `["css",name,value,item]`. The spans are the numbers of the items in the order of writing, from 1.
 
 use anyhow::{Context, Result, bail};
-use html_dom_tree::{Frame, Location, Span, Tag};
+use html_dom_tree::{Frame, FrameItem, Location, Point, Span, Tag};
 use html_flow_convert::{FrameElem, HtmlElem, Item, Pair, Role};
 use html_names_core::{HtmlAttr, HtmlTag};
 use html_values_css::Abs;
@@ -23,19 +23,27 @@ pub fn items_of(alloc: Global, value: &Value) -> Result<Vec<Pair>> {
     body_of(alloc, value, &mut 0)?.context("items are wanted")
 }
 
-fn text_of(value: &Value) -> Result<&str> {
+/// Returns the text that a value spells.
+pub fn text_of(value: &Value) -> Result<&str> {
     value.as_str().context("a text is wanted")
 }
 
-fn string_of(alloc: Global, value: &Value) -> Result<String> {
+/// Returns a copy of the text that a value spells.
+pub fn string_of(alloc: Global, value: &Value) -> Result<String> {
     Ok(String::from_str(alloc, text_of(value)?)?)
 }
 
-fn location_of(value: &Value) -> Result<Location> {
-    Ok(Location(value.as_u64().context("a number is wanted")?))
+/// Returns the number from 0 on that a value spells.
+pub fn number_of(value: &Value) -> Result<u64> {
+    value.as_u64().context("a number is wanted")
 }
 
-fn list_of(value: &Value) -> Result<&[Value]> {
+fn location_of(value: &Value) -> Result<Location> {
+    Ok(Location(number_of(value)?))
+}
+
+/// Returns the values of the list that a value spells.
+pub fn list_of(value: &Value) -> Result<&[Value]> {
     Ok(value.as_array().context("a list is wanted")?.as_slice())
 }
 
@@ -124,7 +132,7 @@ fn leaf(alloc: Global, kind: &str, fields: &[Value], span: Span) -> Result<Item>
         ("space", []) => Item::Space(span),
         ("break", []) => Item::LineBreak(span),
         ("hole", []) => Item::Hole,
-        ("frame", []) => Item::Frame(drawing(alloc, span)),
+        ("frame", locations) => Item::Frame(drawing(alloc, span, locations)?),
         ("start", [location, known @ ..]) => Item::Tag(start(alloc, location, known)?),
         ("end", [location]) => Item::Tag(Tag::End {
             location: location_of(location)?,
@@ -149,15 +157,24 @@ fn start(alloc: Global, location: &Value, known: &[Value]) -> Result<Tag> {
     })
 }
 
-fn drawing(alloc: Global, span: Span) -> FrameElem {
-    FrameElem {
-        frame: Frame {
-            picture: 1,
-            items: Vec::new(alloc),
-        },
-        text_size: Abs::from_millionths(0),
-        span,
+fn drawing(alloc: Global, span: Span, locations: &[Value]) -> Result<FrameElem> {
+    let (mut items, zero) = (Vec::new(alloc), Abs::from_millionths(0));
+    for location in locations {
+        let location = location_of(location)?;
+        let (label, dest) = (None, Some(location));
+        let start = Tag::Start {
+            location,
+            label,
+            dest,
+        };
+        items.push((Point { x: zero, y: zero }, FrameItem::Tag(start)))?;
     }
+    let frame = Frame { picture: 1, items };
+    Ok(FrameElem {
+        frame,
+        text_size: zero,
+        span,
+    })
 }
 
 fn element_of(alloc: Global, tag: &Value, attrs: &Value) -> Result<HtmlElem> {

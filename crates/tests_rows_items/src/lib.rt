@@ -7,4 +7,4 @@
 
 mod items;
 
-pub use items::{items_in, items_of};
+pub use items::{items_in, items_of, list_of, number_of, string_of, text_of};
