@@ -8,26 +8,10 @@ use std::fmt;
 /// A page that is refused, or a page or folder that the system can't read.
 #[derive(Drop)]
 pub struct Unread {
-    /// Its path.
-    pub file: String,
-    /// The place where reading the page stops.
-    pub place: Option<Place>,
-    /// The number of the refusal.
-    pub number: Option<u8>,
-    /// The reason.
-    pub reason: String,
-}
-
-/// Turns a file or folder that the system can't read into an unread one.
-impl From<NotGiven> for Unread {
-    fn from(NotGiven { path, reason }: NotGiven) -> Unread {
-        Unread {
-            file: path,
-            place: None,
-            number: None,
-            reason,
-        }
-    }
+    /// Its path, and the reason.
+    pub what: NotGiven,
+    /// The place where reading the page stops, and the number of the refusal.
+    pub refusal: Option<(Place, u8)>,
 }
 
 impl Unread {
@@ -40,11 +24,10 @@ impl Unread {
             }
             PageFault::Refused { refusal, place } => (*place, format!(in alloc; "{refusal}")?),
         };
+        let path = String::from_str(alloc, path)?;
         Ok(Unread {
-            file: String::from_str(alloc, path)?,
-            place: Some(place),
-            number: Some(fault.number()),
-            reason,
+            what: NotGiven { path, reason },
+            refusal: Some((place, fault.number())),
         })
     }
 }
@@ -52,10 +35,10 @@ impl Unread {
 /// Writes `file:line:column: not read: why`, without the place if the system can't read the file.
 impl fmt::Display for Unread {
     fn fmt<W: fmt::Write>(&self, f: &mut fmt::Formatter<W>) -> fmt::Result {
-        let (file, reason) = (&self.file, &self.reason);
-        match &self.place {
-            Some(place) => write!(f, "{file}:{place}: not read: {reason}"),
-            None => write!(f, "{file}: not read: {reason}"),
+        let NotGiven { path, reason } = &self.what;
+        match &self.refusal {
+            Some((place, _)) => write!(f, "{path}:{place}: not read: {reason}"),
+            None => write!(f, "{path}: not read: {reason}"),
         }
     }
 }

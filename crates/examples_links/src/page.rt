@@ -1,8 +1,9 @@
 //! The part of a page that the check needs.
 
+use crate::finding::Kind;
 use crate::links::{Link, Links};
 use html_page::{
-    HtmlElement, HtmlNode, Misnesting, PageFault, Place, Places, misnested, place_names,
+    HtmlElement, Misnesting, PageFault, Place, Places, element_at, misnested, place_names,
     read_page_bytes, repeated_ids,
 };
 use std::alloc::{AllocError, Global};
@@ -11,6 +12,9 @@ use std::str;
 
 /// The greatest depth of elements.
 const DEEPEST: usize = 1000;
+
+/// The place and the kind of a flaw, and the id or what becomes of the element.
+type Flaw = (Place, Kind, String);
 
 /// A page that was read.
 #[derive(Drop)]
@@ -21,10 +25,8 @@ pub struct Page {
     pub links: Vec<Link>,
     /// The base of relative links, if it is not the page itself.
     pub base: Option<String>,
-    /// The repeated ids, with their places.
-    pub repeated: Vec<(Place, String)>,
-    /// The elements that some browsers place otherwise, or fill, with their places.
-    pub misnested: Vec<(Place, Misnesting)>,
+    /// The repeated ids, and the elements that some browsers place otherwise, or fill.
+    pub flaws: Vec<Flaw>,
 }
 
 impl Page {
@@ -37,53 +39,29 @@ impl Page {
             names: place_names(alloc, &root)?,
             links: found,
             base,
-            repeated: repeated(alloc, &root, text)?,
-            misnested: misnested_in(alloc, &root, text)?,
+            flaws: flaws_in(alloc, &root, text)?,
         })
     }
 }
 
-/// Returns the repeated ids of a page. An empty one is no id (DOM Standard 4.9).
-fn repeated(
-    alloc: Global,
-    root: &HtmlElement,
-    text: &str,
-) -> Result<Vec<(Place, String)>, AllocError> {
-    let mut places = Places::new(text);
-    let mut repeated = Vec::new(alloc);
+/// Returns the repeated ids of a page, and the nodes where some browsers depart from the tree that
+/// was read. An empty id is none (DOM Standard 4.9). The other rules of nesting are about reading
+/// that tree again after it is written.
+fn flaws_in(alloc: Global, root: &HtmlElement, text: &str) -> Result<Vec<Flaw>, AllocError> {
+    let (mut flaws, mut places) = (Vec::new(alloc), Places::new(text));
     for again in repeated_ids(alloc, root)? {
-        let element = element_at(root, &again.path);
-        if !again.id.is_empty() {
-            repeated.push((places.at(element.span.0 as usize), again.id))?;
+        if let Some(element) = element_at(root, &again.path)
+            && !again.id.is_empty()
+        {
+            let place = places.at(element.span.0 as usize);
+            flaws.push((place, Kind::RepeatedId, again.id))?;
         }
     }
-    Ok(repeated)
-}
-
-/// Returns the nodes where some browsers depart from the tree that was read. The other rules of
-/// nesting are about reading that tree again after it is written.
-fn misnested_in(
-    alloc: Global,
-    root: &HtmlElement,
-    text: &str,
-) -> Result<Vec<(Place, Misnesting)>, AllocError> {
-    let mut places = Places::new(text);
-    let mut found = Vec::new(alloc);
     for node in &misnested(alloc, root)? {
         if matches!(node.why, Misnesting::TooDeep | Misnesting::Filled) {
-            found.push((places.at(node.span.0 as usize), node.why))?;
+            let place = places.at(node.span.0 as usize);
+            flaws.push((place, Kind::Misnested, format!(in alloc; "{}", node.why)?))?;
         }
     }
-    Ok(found)
-}
-
-/// Returns the last element on a path.
-fn element_at<'a>(root: &'a HtmlElement, path: &[usize]) -> &'a HtmlElement {
-    let mut element = root;
-    for index in path {
-        if let Some(HtmlNode::Element(child)) = element.children.get(*index) {
-            element = child;
-        }
-    }
-    element
+    Ok(flaws)
 }

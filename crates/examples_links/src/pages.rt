@@ -26,8 +26,11 @@ impl Pages {
     /// Creates an empty set of pages, with the folders that the system can't read.
     pub fn new(alloc: Global, not_given: Vec<NotGiven>) -> Result<Pages, AllocError> {
         let mut unread = Vec::new(alloc);
-        for folder in not_given {
-            unread.push(Unread::from(folder))?;
+        for what in not_given {
+            unread.push(Unread {
+                what,
+                refusal: None,
+            })?;
         }
         Ok(Pages {
             read: BTreeMap::new(alloc),
@@ -62,7 +65,13 @@ fn read_page(rt: &HostRuntime, path: &str) -> Result<Result<Page, Unread>, Alloc
     let alloc = rt.alloc();
     let bytes = match fs::read(rt, system_path(path)) {
         Ok(bytes) => bytes,
-        Err(error) => return Ok(Err(Unread::from(NotGiven::new(alloc, path, &error)?))),
+        Err(error) => {
+            let what = NotGiven::new(alloc, path, &error)?;
+            return Ok(Err(Unread {
+                what,
+                refusal: None,
+            }));
+        }
     };
     match Page::read(alloc, &bytes) {
         Ok(page) => Ok(Ok(page)),

@@ -38,67 +38,48 @@ fn write_lines<W: Write>(
     for finding in findings {
         writeln!(output, "{finding}")?;
     }
-    write_counts(output, pages.count, pages.unread.len(), findings.len())
-}
-
-/// Writes the number of pages, of those that are not read, and of findings.
-fn write_counts<W: Write>(
-    output: &mut W,
-    pages: usize,
-    unread: usize,
-    found: usize,
-) -> io::Result<()> {
-    let pages_word = if pages == 1 { "page" } else { "pages" };
-    let found_word = if found == 1 { "finding" } else { "findings" };
-    if unread > 0 {
-        writeln!(
-            output,
-            "{pages} {pages_word}, {unread} not read: {found} {found_word}"
-        )
-    } else {
-        writeln!(output, "{pages} {pages_word}: {found} {found_word}")
+    let plural = |count: usize| if count == 1 { "" } else { "s" };
+    write!(output, "{} page{}", pages.count, plural(pages.count))?;
+    if !pages.unread.is_empty() {
+        write!(output, ", {} not read", pages.unread.len())?;
     }
+    writeln!(
+        output,
+        ": {} finding{}",
+        findings.len(),
+        plural(findings.len())
+    )
 }
 
 /// Returns the JSON object of a report.
 fn object(alloc: Global, pages: &Pages, findings: &[Finding<'_>]) -> Result<Value, AllocError> {
-    let unread = unread_objects(alloc, &pages.unread)?;
-    let findings = finding_objects(alloc, findings)?;
+    let (mut unread, mut found) = (Vec::new(alloc), Vec::new(alloc));
+    for page in &pages.unread {
+        unread.push(unread_object(alloc, page)?)?;
+    }
+    for finding in findings {
+        found.push(finding_object(alloc, finding)?)?;
+    }
     json!(in alloc; {
         "pages": pages.count,
         "unread": unread,
-        "findings": findings
+        "findings": found
     })
-}
-
-fn unread_objects(alloc: Global, all_unread: &[Unread]) -> Result<Vec<Value>, AllocError> {
-    let mut objects = Vec::new(alloc);
-    for unread in all_unread {
-        objects.push(unread_object(alloc, unread)?)?;
-    }
-    Ok(objects)
-}
-
-fn finding_objects(alloc: Global, findings: &[Finding<'_>]) -> Result<Vec<Value>, AllocError> {
-    let mut objects = Vec::new(alloc);
-    for finding in findings {
-        objects.push(finding_object(alloc, finding)?)?;
-    }
-    Ok(objects)
 }
 
 fn unread_object(alloc: Global, unread: &Unread) -> Result<Value, AllocError> {
     json!(in alloc; {
-        "file": &unread.file,
-        "line": unread.place.map(|place| place.line),
-        "column": unread.place.map(|place| place.column),
-        "number": unread.number,
-        "reason": &unread.reason
+        "file": &unread.what.path,
+        "line": unread.refusal.map(|(place, _)| place.line),
+        "column": unread.refusal.map(|(place, _)| place.column),
+        "number": unread.refusal.map(|(_, number)| number),
+        "reason": &unread.what.reason
     })
 }
 
 fn finding_object(alloc: Global, finding: &Finding<'_>) -> Result<Value, AllocError> {
-    let link = optional_text(alloc, finding.link)?;
+    let link = finding.link.map(|link| Value::try_from_str(alloc, link));
+    let link = link.transpose()?;
     json!(in alloc; {
         "file": finding.file,
         "line": finding.place.line,
@@ -107,12 +88,4 @@ fn finding_object(alloc: Global, finding: &Finding<'_>) -> Result<Value, AllocEr
         "link": link,
         "target": &finding.target
     })
-}
-
-/// Returns a text, or null.
-fn optional_text(alloc: Global, text: Option<&str>) -> Result<Value, AllocError> {
-    match text {
-        Some(text) => Value::try_from_str(alloc, text),
-        None => Ok(Value::Null),
-    }
 }

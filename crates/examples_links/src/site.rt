@@ -65,49 +65,18 @@ impl Site<'_> {
         page: &'a Page,
     ) -> Result<Vec<Finding<'a>>, AllocError> {
         let mut findings = Vec::new(self.alloc);
-        self.add_repeated(file, page, &mut findings)?;
-        self.add_misnested(file, page, &mut findings)?;
+        for (place, kind, target) in &page.flaws {
+            findings.push(Finding {
+                file,
+                place: *place,
+                kind: *kind,
+                link: None,
+                target: target.clone()?,
+            })?;
+        }
         self.add_links(rt, file, page, &mut findings)?;
         findings.sort_by_key(|finding: &Finding<'_>| finding.place.offset)?;
         Ok(findings)
-    }
-
-    /// Adds the repeated ids of a page.
-    fn add_repeated<'a>(
-        &'a self,
-        file: &'a str,
-        page: &'a Page,
-        findings: &mut Vec<Finding<'a>>,
-    ) -> Result<(), AllocError> {
-        for (place, id) in &page.repeated {
-            findings.push(Finding {
-                file,
-                place: *place,
-                kind: Kind::RepeatedId,
-                link: None,
-                target: id.clone()?,
-            })?;
-        }
-        Ok(())
-    }
-
-    /// Adds the elements that some browsers place otherwise, or fill.
-    fn add_misnested<'a>(
-        &'a self,
-        file: &'a str,
-        page: &'a Page,
-        findings: &mut Vec<Finding<'a>>,
-    ) -> Result<(), AllocError> {
-        for (place, why) in &page.misnested {
-            findings.push(Finding {
-                file,
-                place: *place,
-                kind: Kind::Misnested,
-                link: None,
-                target: format!(in self.alloc; "{why}")?,
-            })?;
-        }
-        Ok(())
     }
 
     /// Adds what is wrong with the links of a page.
@@ -181,10 +150,8 @@ impl Site<'_> {
         mut path: String,
         address: &str,
     ) -> Result<Option<(Kind, String)>, AllocError> {
-        let Some(page) = self.pages.read.get(path.as_str()) else {
-            return Ok(None);
-        };
-        let Some(fragment) = fragment_of(address) else {
+        let page = self.pages.read.get(path.as_str());
+        let (Some(page), Some(fragment)) = (page, fragment_of(address)) else {
             return Ok(None);
         };
         if fragment_leads(self.alloc, &page.names, fragment)? {

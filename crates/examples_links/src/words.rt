@@ -20,32 +20,24 @@ pub fn given_words(rt: &HostRuntime) -> Result<Option<Vec<String>>> {
 
 /// Describes the command line.
 pub fn command<'a>(alloc: Global) -> Result<Command<'a>> {
-    let command = Command::new(alloc, "examples_links")
-        .about("Reports links in written pages that lead nowhere, and repeated ids")
-        .arg(paths(alloc))?
-        .arg(root(alloc))?
-        .arg(json(alloc))?;
-    Ok(command)
-}
-
-fn paths<'a>(alloc: Global) -> Arg<'a> {
-    Arg::new(alloc, "PATH")
+    let paths = Arg::new(alloc, "PATH")
         .required(true)
         .num_args(1..)
         .action(ArgAction::Append)
-        .help("A page, or a folder of pages")
-}
-
-fn root<'a>(alloc: Global) -> Arg<'a> {
-    Arg::new(alloc, "root")
+        .help("A page, or a folder of pages");
+    let root = Arg::new(alloc, "root")
         .long("root")
         .value_name("FOLDER")
-        .help("The folder from which links that begin with / start")
-}
-
-fn json<'a>(alloc: Global) -> Arg<'a> {
-    Arg::new(alloc, "json")
+        .help("The folder from which links that begin with / start");
+    let json = Arg::new(alloc, "json")
         .long("json")
         .action(ArgAction::SetTrue)
-        .help("Write one JSON object instead of lines for people")
+        .help("Write one JSON object instead of lines for people");
+    Ok(
+        Command::new(alloc, "examples_links")
+            .about("Reports links in written pages that lead nowhere, and repeated ids")
+            .arg(paths)?
+            .arg(root)?
+            .arg(json)?,
+    )
 }

@@ -32,11 +32,7 @@ pub fn scheme_of(address: &str) -> Option<&str> {
 }
 
 fn is_scheme(text: &str) -> bool {
-    let mut characters = text.chars();
-    match characters.next() {
-        Some(first) => first.is_ascii_alphabetic() && characters.all(is_in_scheme),
-        None => false,
-    }
+    text.starts_with(|c: char| c.is_ascii_alphabetic()) && text.chars().all(is_in_scheme)
 }
 
 fn is_in_scheme(c: char) -> bool {
@@ -44,34 +40,21 @@ fn is_in_scheme(c: char) -> bool {
 }
 
 fn has_host(address: &str) -> bool {
-    let mut characters = address.chars();
-    is_slash(characters.next()) && is_slash(characters.next())
-}
-
-fn is_slash(c: Option<char>) -> bool {
-    matches!(c, Some('/' | '\\'))
+    let is_slash = |c: char| matches!(c, '/' | '\\');
+    address
+        .strip_prefix(is_slash)
+        .is_some_and(|behind| behind.starts_with(is_slash))
 }
 
 /// Returns the text after the first `#`, without a directive (`:~:` and all after it).
 pub fn fragment_of(address: &str) -> Option<&str> {
     let (_, fragment) = address.split_once('#')?;
-    match fragment.split_once(":~:") {
-        Some((fragment, _)) => Some(fragment),
-        None => Some(fragment),
-    }
-}
-
-/// Returns the text before the first such character, or all of it.
-fn front(text: &str, end: char) -> &str {
-    match text.split_once(end) {
-        Some((front, _)) => front,
-        None => text,
-    }
+    fragment.split(":~:").next()
 }
 
 /// Returns the decoded path of a relative address.
 fn path_of(alloc: Global, address: &str) -> Result<String, AllocError> {
-    let path = front(front(address, '#'), '?');
+    let path = address.split(['#', '?']).next().unwrap_or_default();
     let path = path.replace(alloc, '\\', "/")?;
     let decoded = percent_decode(path.as_bytes()).decode_utf8_lossy(alloc)?;
     decoded.into_owned(alloc)
@@ -109,9 +92,6 @@ fn path_from<'a>(alloc: Global, folder: &'a str, path: &'a str) -> Result<String
 }
 
 fn ends_with_folder(path: &str) -> bool {
-    let last = match path.rsplit_once('/') {
-        Some((_, last)) => last,
-        None => path,
-    };
+    let last = path.rsplit_once('/').map_or(path, |(_, last)| last);
     matches!(last, "" | "." | "..")
 }

@@ -65,16 +65,12 @@ impl<'a> Listing<'a> {
             self.add_left(rt, root)
         } else {
             self.files.put(input.path.clone()?, Entry::Page { root })?;
-            self.add_beside(rt, folder_of(input.path.as_str()))
+            let folder = folder_of(input.path.as_str());
+            if self.listed.insert(folder)? {
+                self.add_folder(rt, folder, None)?;
+            }
+            Ok(())
         }
-    }
-
-    /// Adds the files beside a page, unless its folder is listed already.
-    fn add_beside(&mut self, rt: &HostRuntime, folder: &'a str) -> Result<(), AllocError> {
-        if self.listed.insert(folder)? {
-            self.add_folder(rt, folder, None)?;
-        }
-        Ok(())
     }
 
     /// Adds the folders that are left, and everything in them, at any depth.
@@ -167,8 +163,7 @@ fn entry_of<'a>(name: &str, behind: &fs::Metadata, root: Option<&'a str>) -> Ent
 
 /// Returns whether a file with that name is a page.
 fn is_page_name(name: &str) -> bool {
-    match name.rsplit_once('.') {
-        Some((_, end)) => end.eq_ignore_ascii_case("html") || end.eq_ignore_ascii_case("htm"),
-        None => false,
-    }
+    name.rsplit_once('.').is_some_and(|(_, end)| {
+        end.eq_ignore_ascii_case("html") || end.eq_ignore_ascii_case("htm")
+    })
 }

@@ -105,22 +105,9 @@ impl<'a> Way<'a> {
     }
 
     /// Returns the path, without empty parts.
-    pub fn into_path(self, alloc: Global) -> Result<String, AllocError> {
-        let mut path = String::new(alloc);
-        if self.is_absolute {
-            path.push('/')?;
-        }
-        let mut is_first = true;
-        for part in &self.parts {
-            if part.is_empty() {
-                continue;
-            }
-            if !is_first {
-                path.push('/')?;
-            }
-            path.push_str(part)?;
-            is_first = false;
-        }
-        Ok(path)
+    pub fn into_path(mut self, alloc: Global) -> Result<String, AllocError> {
+        self.parts.retain(|part| !part.is_empty());
+        let start = if self.is_absolute { "/" } else { "" };
+        format!(in alloc; "{start}{}", self.parts.join(alloc, "/")?)
     }
 }

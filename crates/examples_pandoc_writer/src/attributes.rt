@@ -26,8 +26,11 @@ impl Writer {
         let [id, classes, others] = fields::<3>(attr)?;
         let id = self.new_id(text(id)?)?;
         let elem = with_words(elem, attr::id, id.unwrap_or_default())?;
-        let elem = with_classes(self.alloc, elem, classes)?;
-        let elem = self.with_others(elem, array(others)?)?;
+        let mut elem = with_words(elem, attr::class, &joined(self.alloc, classes, "")?)?;
+        for other in array(others)? {
+            let (name, value) = two_texts(other)?;
+            elem = self.with_other(elem, name, value)?;
+        }
         match (id, dest) {
             (None, None) => Ok(self.list.element(elem)?),
             (Some(id), None) => Ok(self.list.place(&mut self.places, id, elem)?),
@@ -78,14 +81,6 @@ impl Writer {
         Ok(())
     }
 
-    fn with_others(&mut self, mut elem: HtmlElem, others: &[Value]) -> Result<HtmlElem> {
-        for other in others {
-            let (name, value) = two_texts(other)?;
-            elem = self.with_other(elem, name, value)?;
-        }
-        Ok(elem)
-    }
-
     /// Adds an attribute to the element. A width or height with a unit becomes a css property.
     fn with_other(&mut self, mut elem: HtmlElem, name: &str, value: &str) -> Result<HtmlElem> {
         if matches!(name, "width" | "height") && !value.ends_with(char::is_numeric) {
@@ -113,11 +108,6 @@ fn id_of(value: &Value) -> Option<&str> {
         (id, Some(_), Some(_)) => Some(id),
         _ => None,
     }
-}
-
-fn with_classes(alloc: Global, elem: HtmlElem, classes: &Value) -> Result<HtmlElem> {
-    let classes = joined(alloc, classes, "")?;
-    with_words(elem, attr::class, &classes)
 }
 
 /// Returns the name under which an attribute is written. An unknown one, and so any future one,

@@ -56,15 +56,11 @@ impl<'a> Site<'a> {
 impl Site<'_> {
     /// Makes the document of a page, with anchors for its headings.
     pub fn document(&self, page: &Page) -> Result<HtmlDocument> {
-        let mut document = self.document_without_anchors(page)?;
+        let (items, info) = (self.items(page)?, self.info(page)?);
+        let mut document = html_document_for_bundle(self.alloc, &items, &info, &[], DEEPEST)?;
         let anchors = create_link_anchors(self.alloc, &mut document, &page.headings)?;
         document.introspector_mut().set_anchors(anchors);
         Ok(document)
-    }
-
-    fn document_without_anchors(&self, page: &Page) -> Result<HtmlDocument> {
-        let (items, info) = (self.items(page)?, self.info(page)?);
-        Ok(html_document_for_bundle(self.alloc, &items, &info, &[], DEEPEST)?)
     }
 
     /// Makes the visible part of a page.
@@ -104,26 +100,14 @@ impl Site<'_> {
         let name = utf8_percent_encode(&page.name, RESERVED);
         let file = format!(in self.alloc; "{name}.html")?;
         for heading in &page.headings {
-            if let Some(href) = self.heading_href(&file, document, *heading)? {
+            if let Some(anchor) = document.introspector().anchor(*heading) {
+                let fragment = href_to(self.alloc, anchor)?;
+                let href = format!(in self.alloc; "{file}{fragment}")?;
                 let _ = hrefs.insert(*heading, href)?;
             }
         }
         let _ = hrefs.insert(page.location, file)?;
         Ok(())
-    }
-
-    /// Returns the address of a heading, if it has an anchor in the document of that file.
-    fn heading_href(
-        &self,
-        file: &str,
-        document: &HtmlDocument,
-        heading: Location,
-    ) -> Result<Option<String>> {
-        let Some(anchor) = document.introspector().anchor(heading) else {
-            return Ok(None);
-        };
-        let fragment = href_to(self.alloc, anchor)?;
-        Ok(Some(format!(in self.alloc; "{file}{fragment}")?))
     }
 
     /// Returns a line for each node that browsers would move in the document of a page, with its
@@ -150,7 +134,9 @@ impl Site<'_> {
         options: &HtmlOptions,
     ) -> Result<String> {
         resolve_links(self.alloc, &mut document)?;
-        set_hrefs(self.alloc, document.root_mut(), hrefs)?;
+        let root = document.root_mut();
+        let children = mem::replace(&mut root.children, Vec::new(self.alloc));
+        root.children = nodes_with_hrefs(self.alloc, children, hrefs)?;
         self.ensure_links_lead(page, &document)?;
         let made = html(self.alloc, &document, options, &());
         let span = made.as_ref().err().map_or(Span(0), |fault| fault.span());
@@ -177,13 +163,6 @@ fn entry(alloc: Global, page: &Page, is_current: bool) -> Result<HtmlElem> {
     let (mut items, dest) = (Vec::new(alloc), Some(page.location));
     push_located(&mut items, Location(0), None, dest, Item::from(link))?;
     Ok(HtmlElem::new(alloc, tag::li).with_body(items))
-}
-
-/// Gives each link below a root that has no `href` the one of its destination.
-fn set_hrefs(alloc: Global, root: &mut HtmlElement, hrefs: &Hrefs) -> Result<()> {
-    let children = mem::replace(&mut root.children, Vec::new(alloc));
-    root.children = nodes_with_hrefs(alloc, children, hrefs)?;
-    Ok(())
 }
 
 /// Gives each link in the nodes that has no `href` the one of its destination.

@@ -1,14 +1,14 @@
 -- What was added, taken off again, gives the old tree.
-use Rattle.std.proofs.Common.{◌≡◌, ℕ, ◌-◌, Bool, true, false, List, [], ◌∷◌, ◌++◌, length, take, drop, Option, Some, None, refl, ap, ◌∙◌, append_assoc, subst}
-use Rattle.std.{proofs.lemmas.List.{append-nil, drop_at}, specs.Prelude.{if◌then◌else◌, is_some}}
+use Rattle.std.proofs.Common.{◌≡◌, ℕ, Bool, true, false, List, [], ◌∷◌, ◌++◌, length, Option, Some, None, refl, ap, ◌∙◌, append_assoc}
+use Rattle.std.{proofs.lemmas.List.{append-nil, drop_at}, specs.Prelude.{is_some}}
 use Rattle.html_dom_tree.{proofs.Basics.{or_else-none}, specs.Attributes.{or_else}, specs.Frames.{HtmlFrameView}}
 use Rattle.html_dom_tree.specs.Tree.{Head, starts, ends, tag_node, text_node, element_node, frame_node, NodesView, none, node}
-use Rattle.html_names_core.{proofs.Basics.{last_taken}, specs.Names.{stands_in}}
-use Rattle.html_links.specs.TreeNames.{Name, first_id, element_names}
-use Rattle.html_anchors.proofs.States.{Groups, naming_at, step, finished, makes, makes_is, makes-append, drop-events, length-events}
+use Rattle.html_names_core.proofs.Basics.{last_taken}
+use Rattle.html_links.specs.TreeNames.{Name, first_id}
+use Rattle.html_anchors.proofs.States.{Groups, at_start, naming_at, step, finished, makes, makes_is, makes-append, drop-events, length-events}
 use Rattle.html_anchors.specs.Anchors.{with_id, text_in_span, span_before, named_frame, nodes_size, nodes_with_anchors, element_with_anchors}
 use Rattle.html_anchors.specs.Events.{Start, Event, end_tag, element, text, html_frame, Targets, start_event, frame_starts, events}
-use Rattle.html_anchors.specs.{Groups.{is_in_group, first_label, label_of}, Namings.{Naming, made_for}}
+use Rattle.html_anchors.specs.{Groups.{first_label}, Namings.{Naming, made_for}}
 use Rattle.html_anchors.specs.Undone.{without_id, old_id, unnamed_frame, nodes_undone, ComesBack}
 
 end_back : (made : Option Name) (es : List Event) (cs : List Naming) (rest : NodesView) →
@@ -38,13 +38,7 @@ id_back None label used (s ∷ ss) = refl
 
 frame_back : (f : HtmlFrameView) (c : Naming) → old_id c.made (or_else f.id c.made) ≡ f.id →
     unnamed_frame c (named_frame c.made c.pairs f) ≡ f
-frame_back f c e =
-    let anchors = f.anchors ++ c.pairs in
-    ap (λ i. record f {
-      id = i;
-      anchors = take (length anchors - length c.pairs) anchors;
-    }) e
-    ∙ ap (λ a. record f { anchors = a }) (last_taken f.anchors c.pairs (length c.pairs) refl)
+frame_back f c e = rw (e, last_taken f.anchors c.pairs (length c.pairs) refl) refl
 
 start_back : (is_target : Bool) (l : ℕ) (label : Option Name) (dest : Option ℕ) (g : Groups)
     (es : List Event) (cs : List Naming) (rest : NodesView) →
@@ -63,69 +57,40 @@ all_back : (x : Targets) (ns : NodesView) (g : Groups) (es : List Event) (cs : L
 unfolding nodes_undone nodes_with_anchors events
 all_back x none g es cs = refl
 all_back x (node (tag_node (starts l label dest)) ns) g es cs =
-    let t = step g (start_event (x.is_target l) l label) in
-    let later = makes t (events x ns) ++ cs in
-    start_back (x.is_target l) l label dest g (events x ns ++ es) later (nodes_with_anchors later ns)
-    ∙ ap (node (tag_node (starts l label dest))) (all_back x ns t es cs)
+    start_back (x.is_target l) l label dest g (events x ns ++ es) _ _
+    ∙ ap (node (tag_node (starts l label dest))) (all_back x ns (step g (start_event (x.is_target l) l label)) es cs)
 all_back x (node (tag_node (ends l)) ns) g es cs =
-    let t = step g (end_tag l) in
-    let q = if is_in_group l g.queue then g.queue else [] in
-    let made = made_for None (label_of l q) g.used q in
-    let later = makes t (events x ns) ++ cs in
-    ap (node (tag_node (ends l)))
-    (end_back made (events x ns ++ es) later (nodes_with_anchors later ns) ∙ all_back x ns t es cs)
+    ap (node (tag_node (ends l))) (end_back (naming_at g (end_tag l)).made (events x ns ++ es) _ _
+    ∙ all_back x ns (step g (end_tag l)) es cs)
 all_back x (node (text_node s span) ns) g es cs =
-    let t = step g text in
-    let made = made_for None (first_label g.queue) g.used g.queue in
-    let later = makes t (events x ns) ++ cs in
-    text_back made s span (events x ns ++ es) (naming_at g text) later (nodes_with_anchors later ns)
-    ∙ ap (node (text_node s span)) (all_back x ns t es cs)
+    text_back (naming_at g text).made s span (events x ns ++ es) (naming_at g text) _ _
+    ∙ ap (node (text_node s span)) (all_back x ns (step g text) es cs)
 all_back x (node (element_node h kids) ns) g es cs =
-    let made = made_for (first_id h) (first_label g.queue) g.used g.queue in
     let t = step g (element (first_id h)) in
     let ek = events x kids in
     let en = events x ns in
     let u = finished t ek in
-    let inside = makes t ek in
     let after = makes u en in
-    let rest = nodes_with_anchors (after ++ cs) ns in
-    let joined : NodesView → NodesView = λ i. node
-    (element_node (without_id made (with_id made h)) i) (nodes_undone false
-    (drop (nodes_size i) (ek ++ (en ++ es)))
-    (drop (nodes_size i) (inside ++ (after ++ cs))) rest) in
     rw (
       makes-append ek en t,
-      append_assoc inside after cs,
+      append_assoc (makes t ek) after cs,
       append_assoc ek en es,
       drop-events x kids t (after ++ cs),
-    )
-    (ap joined (all_back x kids t (en ++ es) (after ++ cs))
-    ∙ (rw (
+      all_back x kids t (en ++ es) (after ++ cs),
       drop_at ek (en ++ es) (nodes_size kids) (length-events x kids),
       drop-events x kids t (after ++ cs),
-      head_back made h,
-    )
-    (ap (node (element_node h kids)) (all_back x ns u es cs))))
+      head_back (naming_at g (element (first_id h))).made h,
+    ) (ap (node (element_node h kids)) (all_back x ns u es cs))
 all_back x (node (frame_node f) ns) g es cs =
     let e = html_frame f.id (frame_starts x f.inner) in
-    let c = naming_at g e in
-    let t = step g e in
-    let later = makes t (events x ns) ++ cs in
-    ap (λ d. node (frame_node d)
-    (nodes_undone false (events x ns ++ es) later (nodes_with_anchors later ns)))
-    (frame_back f c (id_back f.id (first_label g.queue) g.used g.queue))
-    ∙ ap (node (frame_node f)) (all_back x ns t es cs)
+    rw (
+      frame_back f (naming_at g e) (id_back f.id (first_label g.queue) g.used g.queue),
+      all_back x ns (step g e) es cs,
+    ) refl
 
 pub comes_back : ComesBack
 unfolding element_with_anchors
 comes_back x e =
-    let g : Groups = record {
-      queue = [];
-      used = stands_in (element_names e);
-      answers = λ l. None;
-    } in
+    let g = at_start e in
     let es = events x e.1 in
-    subst (λ cs. nodes_undone false es cs (nodes_with_anchors cs e.1) ≡ e.1) (makes_is es g)
-    (subst (λ cs. nodes_undone false es cs (nodes_with_anchors cs e.1) ≡ e.1) (append-nil (makes g es))
-    (subst (λ fs. nodes_undone false fs (makes g es ++ []) (nodes_with_anchors (makes g es ++ []) e.1)
-    ≡ e.1) (append-nil es) (all_back x e.1 g [] [])))
+    rw (← makes_is es g) (rw (append-nil es, append-nil (makes g es)) at (all_back x e.1 g [] []))

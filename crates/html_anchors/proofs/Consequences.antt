@@ -1,5 +1,5 @@
 -- What follows for trees without frames, and for locations that are no targets.
-use Rattle.std.proofs.Common.{◌≡◌, ℕ, Bool, true, false, List, [], ◌∷◌, ◌++◌, drop, Option, Some, None, refl, ap, sym, ◌∙◌, subst}
+use Rattle.std.proofs.Common.{◌≡◌, ℕ, Bool, false, List, [], ◌∷◌, drop, Option, Some, None, refl, ap, sym, ◌∙◌}
 use Rattle.std.proofs.lemmas.List.{append-nil}
 use Rattle.html_dom_tree.{proofs.Basics.{or_else-none}, specs.FrameFree.{NodeIsFrameFree, NodesAreFrameFree}}
 use Rattle.html_dom_tree.specs.Frames.{PointView, FrameView, frame, FrameItemsView, no_frame_items, placed_item, tag_item, group_item, link_item, other_item}
@@ -46,8 +46,7 @@ shown_first (node (frame_node b) ns) f = absurd f.0
 
 pub answers_are_first_ids : AnswersAreFirstIds
 answers_are_first_ids x e f l n is =
-    subst (λ ns. stands_in ns n ≡ true)
-    (shown_first (element_with_anchors x e).1 (stays_frame_free x e f)) (answers_are_shown x e l n is)
+    rw (shown_first _ (stays_frame_free x e f)) at (answers_are_shown x e l n is)
 
 module _ (x : Targets) (none_is : (l : ℕ) → x.is_target l ≡ false) where
   no_items_starts : (is : FrameItemsView) → items_starts x is ≡ []
@@ -79,13 +78,7 @@ module _ (x : Targets) (none_is : (l : ℕ) → x.is_target l ≡ false) where
   idle_walk (node (element_node h kids) ns) used =
       rw (idle_walk kids used, idle_walk ns used) refl
   idle_walk (node (frame_node f) ns) used =
-      rw (no_frame_starts f.inner, idle_walk ns used)
-      (ap (λ i. (
-        node (frame_node (record f { id = i; anchors = f.anchors ++ [] })) ns,
-        at_first used,
-      )) (or_else-none f.id)
-      ∙ ap (λ a. (node (frame_node (record f { anchors = a })) ns, at_first used))
-      (append-nil f.anchors))
+      rw (no_frame_starts f.inner, idle_walk ns used, or_else-none f.id, append-nil f.anchors) refl
 
 pub no_target_no_change : NoTargetNoChange
 no_target_no_change x e h =

@@ -1,19 +1,19 @@
 -- How often a name comes in a tree with anchors: as often as before, and as often as it was made.
-use Rattle.std.proofs.Common.{◌≡◌, ℕ, ◌+◌, ◌≤◌, Bool, true, false, ◌||◌, cond, List, [], ◌∷◌, ◌++◌, Option, Some, None, bytes_eq, refl, ap, sym, ◌∙◌, append_assoc, subst, arith}
-use Rattle.std.{proofs.lemmas.List.{append-nil, map-append}, specs.Prelude.{if◌then◌else◌, option_to_list}}
-use Rattle.html_names_core.{proofs.Basics.{bytes_eq-same}, specs.Names.{stands_in}}
+use Rattle.std.proofs.Common.{◌≡◌, ℕ, ◌+◌, ◌≤◌, Bool, true, false, cond, List, [], ◌∷◌, ◌++◌, Option, Some, None, inl, inr, bytes_eq, refl, ap, sym, ◌∙◌, append_assoc, arith}
+use Rattle.std.{proofs.lemmas.Bool.{cases_Bool}, proofs.lemmas.List.{append-nil, map-append}, specs.Prelude.{option_to_list}}
+use Rattle.html_names_core.proofs.Basics.{bytes_eq-same}
 use Rattle.html_dom_tree.specs.{Attributes.{or_else}, Frames.{PointView}}
 use Rattle.html_dom_tree.specs.Tree.{Head, NodeView, starts, ends, tag_node, text_node, element_node, frame_node, NodesView, none, node, ElementView}
-use Rattle.html_anchors.proofs.States.{Groups, naming_at, step, finished, makes, makes_is, makes-append, drop-events}
+use Rattle.html_anchors.proofs.States.{Groups, at_start, naming_at, step, finished, makes, makes_is, makes-append, drop-events}
 use Rattle.html_anchors.specs.Anchors.{with_id, text_in_span, span_before, nodes_with_anchors, element_namings, element_with_anchors}
 use Rattle.html_anchors.specs.DistinctIds.{AnchorsStayDistinct, AllNamesStay}
 use Rattle.html_anchors.specs.Events.{Start, Targets, start_event, end_tag, text, element, html_frame, frame_starts, events}
-use Rattle.html_anchors.specs.{Fresh.{AreNew, all_made, names_made}, Groups.{is_in_group, first_label, label_of}}
+use Rattle.html_anchors.specs.{Fresh.{AreNew, all_made, names_made}, Groups.{first_label}}
 use Rattle.html_anchors.specs.Links.{Hrefs, attrs_with_href, dest_before, head_with_link, href_of, node_with_links, nodes_with_links, open_dest}
 use Rattle.html_anchors.specs.Namings.{Naming, made_for, start_pairs, with_made}
 use Rattle.html_links.proofs.Differing.{at_most_one, distinct_once, occurrences-append, occurrences-cons, occurrences-none, once_distinct, one_if}
 use Rattle.html_links.specs.Distinct.{occurrences}
-use Rattle.html_links.specs.TreeNames.{Name, all_ids, anchor_names, element_names, first_id, frame_names, nodes_names, gathered_names, with_used_name}
+use Rattle.html_links.specs.TreeNames.{Name, all_ids, anchor_names, element_names, first_id, nodes_names, gathered_names, with_used_name}
 
 made-append : (as' bs : List Naming) → all_made (as' ++ bs) ≡ all_made as' ++ all_made bs
 made-append [] bs = refl
@@ -46,15 +46,7 @@ module _ (n : Name) where
   -- names that were made before others
   more_count : (made old new later : List Name) → count new ≡ count old + count later →
       count (made ++ new) ≡ count old + count ((made ++ []) ++ later)
-  more_count made old new later so =
-      omega (
-        arith,
-        occurrences-append made new n,
-        occurrences-append (made ++ []) later n,
-        occurrences-append made [] n,
-        occurrences-none n,
-        so,
-      )
+  more_count made old new later so = simp (occurrences-append, occurrences-none) (omega arith)
 
   -- those of an element, of its children and of what is behind it
   element_count : (made own kids kids' inside ns ns' after : List Name) →
@@ -62,20 +54,7 @@ module _ (n : Name) where
       count ((made ++ own) ++ (kids' ++ ns'))
       ≡ count (own ++ (kids ++ ns)) + count ((made ++ []) ++ (inside ++ after))
   element_count made own kids kids' inside ns ns' after within behind =
-      omega (
-        arith,
-        within,
-        behind,
-        occurrences-append (made ++ own) (kids' ++ ns') n,
-        occurrences-append made own n,
-        occurrences-append kids' ns' n,
-        occurrences-append own (kids ++ ns) n,
-        occurrences-append kids ns n,
-        occurrences-append (made ++ []) (inside ++ after) n,
-        occurrences-append made [] n,
-        occurrences-append inside after n,
-        occurrences-none n,
-      )
+      simp (occurrences-append, occurrences-none) (omega arith)
 
   -- a name is made only where there is none
   own_count : (own label : Option Name) (used : Name → Bool) (q : List Start) →
@@ -93,18 +72,7 @@ module _ (n : Name) where
       count ((own' ++ (anchors ++ pairs)) ++ ns')
       ≡ count ((own ++ anchors) ++ ns) + count ((made ++ pairs) ++ later)
   frame_count own own' made anchors pairs ns ns' later named behind =
-      omega (
-        arith,
-        named,
-        behind,
-        occurrences-append (own' ++ (anchors ++ pairs)) ns' n,
-        occurrences-append own' (anchors ++ pairs) n,
-        occurrences-append anchors pairs n,
-        occurrences-append (own ++ anchors) ns n,
-        occurrences-append own anchors n,
-        occurrences-append (made ++ pairs) later n,
-        occurrences-append made pairs n,
-      )
+      simp occurrences-append (omega arith)
 
   start_counts : (is_target : Bool) (l : ℕ) (label : Option Name) (g : Groups) (ns : NodesView)
       (old later : List Name) → let c = naming_at g (start_event is_target l label) in
@@ -119,24 +87,18 @@ module _ (n : Name) where
   unfolding events nodes_with_anchors gathered_names
   all_count x none g more = omega (arith, occurrences-none n)
   all_count x (node (tag_node (starts l label dest)) ns) g more =
-      let later = makes (step g (start_event (x.is_target l) l label)) (events x ns) in
-      start_counts (x.is_target l) l label g (nodes_with_anchors (later ++ more) ns) (nodes_names ns)
-      (all_made later) (all_count x ns (step g (start_event (x.is_target l) l label)) more)
+      let b = x.is_target l in
+      start_counts b l label g _ _ _ (all_count x ns (step g (start_event b l label)) more)
   all_count x (node (tag_node (ends l)) ns) g more =
       let later = makes (step g (end_tag l)) (events x ns) in
-      let q = if is_in_group l g.queue then g.queue else [] in
-      let made = made_for None (label_of l q) g.used q in
-      let rest = nodes_with_anchors (later ++ more) ns in
-      ap count (names_before made rest)
-      ∙ more_count (option_to_list made) (nodes_names ns) (nodes_names rest) (all_made later)
-      (all_count x ns (step g (end_tag l)) more)
+      let made = (naming_at g (end_tag l)).made in
+      ap count (names_before made (nodes_with_anchors (later ++ more) ns))
+      ∙ more_count (option_to_list made) _ _ _ (all_count x ns (step g (end_tag l)) more)
   all_count x (node (text_node s span) ns) g more =
       let later = makes (step g text) (events x ns) in
-      let made = made_for None (first_label g.queue) g.used g.queue in
-      let rest = nodes_with_anchors (later ++ more) ns in
-      ap count (names_around made s span rest)
-      ∙ more_count (option_to_list made) (nodes_names ns) (nodes_names rest) (all_made later)
-      (all_count x ns (step g text) more)
+      let made = (naming_at g text).made in
+      ap count (names_around made s span (nodes_with_anchors (later ++ more) ns))
+      ∙ more_count (option_to_list made) _ _ _ (all_count x ns (step g text) more)
   all_count x (node (element_node h kids) ns) g more =
       let own = first_id h in
       let made = made_for own (first_label g.queue) g.used g.queue in
@@ -144,8 +106,6 @@ module _ (n : Name) where
       let u = finished t (events x kids) in
       let inside = makes t (events x kids) in
       let after = makes u (events x ns) in
-      let kids' = nodes_with_anchors (inside ++ (after ++ more)) kids in
-      let rest = nodes_with_anchors (after ++ more) ns in
       rw (
         makes-append (events x kids) (events x ns) t,
         append_assoc inside after more,
@@ -153,19 +113,15 @@ module _ (n : Name) where
         made-append inside after,
         ids_with made h,
       )
-      (element_count (option_to_list made) (all_ids h.attrs) (nodes_names kids)
-      (nodes_names kids') (all_made inside) (nodes_names ns) (nodes_names rest) (all_made after)
+      (element_count (option_to_list made) (all_ids h.attrs) _ _ _ _ _ _
       (all_count x kids t (after ++ more)) (all_count x ns u more))
   all_count x (node (frame_node f) ns) g more =
       let ss = frame_starts x f.inner in
       let made = made_for f.id (first_label g.queue) g.used g.queue in
       let pairs = start_pairs (with_made made g.used) ss in
-      let later = makes (step g (html_frame f.id ss)) (events x ns) in
-      let rest = nodes_with_anchors (later ++ more) ns in
       rw (map-append (λ (a : PointView × Name). a.1) f.anchors pairs)
       (frame_count (option_to_list f.id) (option_to_list (or_else f.id made))
-      (option_to_list made) (anchor_names f.anchors) (anchor_names pairs) (nodes_names ns)
-      (nodes_names rest) (all_made later)
+      (option_to_list made) (anchor_names f.anchors) (anchor_names pairs) _ _ _
       (own_count f.id (first_label g.queue) g.used g.queue)
       (all_count x ns (step g (html_frame f.id ss)) more))
 
@@ -174,57 +130,34 @@ module _ (n : Name) where
       ≡ count (element_names e) + count (all_made (element_namings x e))
   unfolding element_with_anchors
   counted x e =
-      let g : Groups = record {
-        queue = [];
-        used = stands_in (element_names e);
-        answers = λ l. None;
-      } in
-      let made = makes g (events x e.1) in
-      let ids = all_ids e.0.attrs in
-      let whole : count (nodes_names (nodes_with_anchors made e.1))
-      ≡ count (nodes_names e.1) + count (all_made made) =
-      subst (λ cs. count (nodes_names (nodes_with_anchors cs e.1))
-      ≡ count (nodes_names e.1) + count (all_made made)) (append-nil made)
-      (all_count x e.1 g []) in
-      subst (λ cs. count (ids ++ nodes_names (nodes_with_anchors cs e.1))
-      ≡ count (ids ++ nodes_names e.1) + count (all_made cs)) (makes_is (events x e.1) g)
-      (omega (
-        arith,
-        whole,
-        occurrences-append ids (nodes_names (nodes_with_anchors made e.1)) n,
-        occurrences-append ids (nodes_names e.1) n,
-      ))
+      let g = at_start e in
+      let es = events x e.1 in
+      let whole = rw (append-nil (makes g es), makes_is es g) at (all_count x e.1 g []) in
+      simp occurrences-append (omega (arith, whole))
 
 -- a new name comes once, and only where it is not in use
 new_once : (ms : List Name) (used : Name → Bool) (n : Name) → AreNew used ms →
     occurrences ms n + cond (used n) 1 0 ≤ 1
 new_once [] used n new = omega (arith, occurrences-none n, at_most_one (used n))
-new_once (m ∷ ms) used n new = by (bytes_eq m n) refl (new_once ms (with_used_name m used) n new.1)
-  where
-    by : (b : Bool) → bytes_eq m n ≡ b →
-        occurrences ms n + cond (b || used n) 1 0 ≤ 1 →
-        occurrences (m ∷ ms) n + cond (used n) 1 0 ≤ 1
-    by true is so =
-        let free : used n ≡ false = ap used (sym (bytes_eq-same m n is)) ∙ new.0 in
-        omega (
-          arith,
-          occurrences-cons m ms n,
-          ap one_if is,
-          so,
-          ap one_if free,
-        )
-    by false is so =
-        omega (arith, occurrences-cons m ms n, ap one_if is, so)
+new_once (m ∷ ms) used n new =
+    let more = occurrences-cons m ms n in
+    let so = new_once ms (with_used_name m used) n new.1 in
+    elim (cases_Bool (bytes_eq m n)) [
+      | inl is ↦
+          let free : used n ≡ false = ap used (sym (bytes_eq-same m n is)) ∙ new.0 in
+          let here = rw is at so in
+          omega (arith, more, ap one_if is, here, ap one_if free)
+      | inr is ↦ let here = rw is at so in omega (arith, more, ap one_if is, here)
+    ]
 
 -- names that are new leave all different
 pub anchors_stay_distinct : AnchorsStayDistinct
 anchors_stay_distinct x e new distinct =
     let made = all_made (element_namings x e) in
-    once_distinct (element_names (element_with_anchors x e)) (λ n.
-    omega (
+    once_distinct (element_names (element_with_anchors x e)) (λ n. omega (
       arith,
       counted n x e,
-      new_once made (stands_in (element_names e)) n new,
+      new_once made _ n new,
       distinct_once (element_names e) n distinct,
     ))
 
@@ -250,7 +183,7 @@ nodes_stay hrefs before (node (element_node h kids) ns) =
       nodes_stay hrefs (element_node h kids ∷ before) ns,
     ) refl
 nodes_stay hrefs before (node (frame_node f) ns) =
-    ap (λ names. frame_names f ++ names) (nodes_stay hrefs (frame_node f ∷ before) ns)
+    rw (nodes_stay hrefs (frame_node f ∷ before) ns) refl
 
 pub all_names_stay : AllNamesStay
-all_names_stay hrefs e = ap (λ names. all_ids e.0.attrs ++ names) (nodes_stay hrefs [] e.1)
+all_names_stay hrefs e = rw (nodes_stay hrefs [] e.1) refl

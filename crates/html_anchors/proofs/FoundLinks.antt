@@ -1,6 +1,6 @@
 -- Links that a browser follows: those to anchors that it finds.
-use Rattle.std.proofs.Common.{◌≡◌, ℕ, Bool, true, false, List, [], ◌∷◌, ◌++◌, All, Option, Some, None, refl, sym, ap, subst, ◌∙◌, arith}
-use Rattle.std.proofs.Math.Path.{fun_ext}
+use Rattle.std.proofs.Common.{◌≡◌, ℕ, Bool, true, false, List, [], ◌∷◌, ◌++◌, All, Option, Some, None, inl, inr, refl, sym, ap, ◌∙◌, arith}
+use Rattle.std.proofs.{Math.Path.{fun_ext}, lemmas.Bool.{cases_Bool}}
 use Rattle.std.proofs.lemmas.List.Elements.{All-append, All-cons, All-contains_itself, All-head, All-nil, All-weaker, Contains-append_left, Contains-append_right}
 use Rattle.std.specs.{List.{Contains}, Option.{option_and_then}, Prelude.{codes, if◌then◌else◌, is_some}}
 use Rattle.html_names_core.specs.Names.{stands_in}
@@ -17,19 +17,16 @@ use Rattle.html_anchors.specs.DeadLinks.{dead_links_view}
 use Rattle.html_anchors.specs.FoundAnchors.{EveryLinkLeads, LeadsToFound, LiveLinksLead, anchors_found, document_dead_links, is_found, live_hrefs}
 use Rattle.html_anchors.specs.GivenLinks.{AnchorsAreTexts, GivenLink, KnownAnchorsArePlaces, document_given_links, given_by, given_link, node_given_links, nodes_given_links}
 use Rattle.html_anchors.specs.LinkLaws.{DeadAreLeft, LeftLinksAreDead}
-use Rattle.html_anchors.specs.Links.{Anchors, DeadLinkView, Hrefs, anchor_hrefs, dead_link, dead_without, dest_before, document_hrefs, document_links_left, document_with_links, head_with_link, is_open, node_dead_links, node_with_links, nodes_dead_links, nodes_with_links, open_dest, root_with_links}
+use Rattle.html_anchors.specs.Links.{Anchors, DeadLinkView, Hrefs, anchor_hrefs, dead_link, dead_without, dest_before, document_hrefs, document_with_links, is_open, node_dead_links, node_with_links, nodes_dead_links, nodes_with_links, open_dest, root_with_links}
 use Rattle.html_anchors.specs.declared.dead.DeadLink.{DeadLink}
 
 -- a name that is found is one of the tree
 pub found_in_tree : (e : ElementView) (name : Name) → is_found e name ≡ true →
     stands_in (element_places e) name ≡ true
-found_in_tree e name = by (base_is_elsewhere e) refl
-  where
-    by : (b : Bool) → base_is_elsewhere e ≡ b →
-        (if b then (λ (n : Name). false) else stands_in (document_places e)) name ≡ true →
-        stands_in (element_places e) name ≡ true
-    by true is there = cc
-    by false is there = place_in_tree e name there
+found_in_tree e name is = elim (cases_Bool (base_is_elsewhere e)) [
+  | inl b ↦ let none = rw b at is in cc
+  | inr b ↦ place_in_tree e name (rw b at is)
+]
 
 -- a link changes neither places nor the base
 pub found_stay : (hrefs : Hrefs) (e : ElementView) → is_found (root_with_links hrefs e) ≡ is_found e
@@ -38,27 +35,7 @@ found_stay hrefs e =
     let places : document_places (root_with_links hrefs e) ≡ document_places e =
     ap element_places (document_links hrefs e)
     ∙ ap (λ names. place_names d.0.name d.0.attrs ++ names) (names_stay hrefs [] d.1).places in
-    let own = place_names e.0.name e.0.attrs in
-    ap (λ b. if b then (λ (n : Name). false) else stands_in (document_places (root_with_links hrefs e)))
-    (base_stays_elsewhere hrefs e)
-    ∙ ap (λ places. if base_is_elsewhere e then (λ (n : Name). false) else stands_in places) places
-
--- the name of an anchor that is not empty, if it is found
-pub found_some : (is_found : Name → Bool) (known : Option Name) →
-    some_name (option_and_then (if_place is_found) known)
-    ≡ option_and_then (if_place is_found) (some_name known)
-found_some is_found None = refl
-found_some is_found (Some []) = by (is_found [])
-  where
-    by : (b : Bool) → some_name (if b then Some [] else None) ≡ None
-    by true = refl
-    by false = refl
-found_some is_found (Some (c ∷ cs)) = by (is_found (c ∷ cs))
-  where
-    by : (b : Bool) → some_name (if b then Some (c ∷ cs) else None)
-        ≡ (if b then Some (c ∷ cs) else None)
-    by true = refl
-    by false = refl
+    rw (base_stays_elsewhere hrefs e, places) refl
 
 module _ (anchor : Anchors) (places : List Name) (found : Name → Bool) where
   abbrev live : Hrefs
@@ -80,13 +57,8 @@ module _ (anchor : Anchors) (places : List Name) (found : Name → Bool) where
           IsLive dest href
       chosen_from name known false is chosen = cc
       chosen_from [] known true is chosen = cc
-      chosen_from (c ∷ cs) known true is chosen = record {
-        name = c ∷ cs;
-        known = known;
-        named = refl;
-        there = is;
-        chosen = chosen;
-      }
+      chosen_from (c ∷ cs) known true is chosen =
+          record { name = c ∷ cs; known = known; named = refl; there = is; chosen = chosen }
 
       by : (known : Option Name) → anchor dest ≡ known →
           leading_href (stands_in places) (some_name (option_and_then (if_place found) known))
@@ -98,8 +70,7 @@ module _ (anchor : Anchors) (places : List Name) (found : Name → Bool) where
       anchor_hrefs (stands_in places) anchor dest ≡ Some href
   live_is_given dest href is =
       let l = what_is_live dest href is in
-      ap (λ known. leading_href (stands_in places) (some_name known)) l.known
-      ∙ (ap (leading_href (stands_in places)) l.named ∙ l.chosen)
+      rw (l.known, l.named) l.chosen
 
   module _ (texts : AnchorsAreTexts anchor)
       (among : (n : Name) → found n ≡ true → stands_in places n ≡ true) where
@@ -110,7 +81,7 @@ module _ (anchor : Anchors) (places : List Name) (found : Name → Bool) where
         record {
           name = l.name;
           leads = leads_within found (stands_in places) among l.name l.there href
-              (leading_hrefs_lead (stands_in places) l.name href (texts dest l.name l.known) l.named
+              (leading_hrefs_lead _ l.name href (texts dest l.name l.known) l.named
               (among l.name l.there) l.chosen);
           is_anchor = l.known;
         }
@@ -124,13 +95,9 @@ module _ (anchor : Anchors) (places : List Name) (found : Name → Bool) where
         by : (o : Option (List ℕ)) → live dest ≡ o → is_some o ≡ true →
             LeadsToFound anchor found (dest, href)
         by None is some = cc
-        by (Some other) is some =
-            let again = live_is_given dest other is in
-            let same : other ≡ href = cc in
-            live_leads dest href (is ∙ ap Some same)
+        by (Some other) is some = let again = live_is_given dest other is in live_leads dest href cc
 
 -- the same in a document
-
 module _ (d : DocumentView) where
   abbrev the_root : ElementView
   the_root = document_root d
@@ -143,44 +110,31 @@ module _ (d : DocumentView) where
   -- where all known anchors are found, each `href` is live
   pub all_are_live : base_is_elsewhere the_root ≡ false → KnownAnchorsArePlaces d →
       (dest : ℕ) → live_hrefs d dest ≡ document_hrefs d dest
-  all_are_live here are dest = by (d.introspector.anchor dest) refl
+  all_are_live here are dest =
+      ap (leading_href _) (ap some_name (by (d.introspector.anchor dest) refl))
     where
-      chosen : Option Name → Option (List ℕ)
-      chosen known = leading_href (stands_in (element_places the_root)) (some_name known)
-
       by : (known : Option Name) → d.introspector.anchor dest ≡ known →
-          chosen (option_and_then (if_place (is_found the_root)) known) ≡ chosen known
+          option_and_then (if_place (is_found the_root)) known ≡ known
       by None known = refl
-      by (Some name) known =
-          let there = are dest name known in
-          ap (λ b. chosen (if (if b then (λ (n : Name). false)
-          else stands_in (document_places the_root)) name then Some name else None)) here
-          ∙ ap (λ b. chosen (if b then Some name else None)) there
+      by (Some name) known = rw (here, are dest name known) refl
 
 -- links that are dead without more of the `href`s
-
 module _ (few many : Hrefs)
     (among : (dest : ℕ) (href : List ℕ) → few dest ≡ Some href → many dest ≡ Some href) where
   dead_among : (wanted : Option ℕ) (span : ℕ) →
       All (Contains (dead_link few wanted span)) (dead_link many wanted span)
   dead_among None span = All-nil _
-  dead_among (Some dest) span = by (few dest) refl
+  dead_among (Some dest) span = by (few dest) (many dest) (among dest)
     where
-      by : (o : Option (List ℕ)) → few dest ≡ o →
-          All (Contains (dead_link few (Some dest) span)) (dead_link many (Some dest) span)
-      by None is =
-          rw is (at_all (many dest))
-        where
-          at_all : (m : Option (List ℕ)) →
-              All (Contains ((span, dest) ∷ [])) (dead_without m span dest)
-          at_all None = All-contains_itself ((span, dest) ∷ [])
-          at_all (Some href) = All-nil _
-      by (Some href) is = rw (among dest href is) (All-nil _)
+      by : (f m : Option (List ℕ)) → ((href : List ℕ) → f ≡ Some href → m ≡ Some href) →
+          All (Contains (dead_without f span dest)) (dead_without m span dest)
+      by None None is = All-contains_itself ((span, dest) ∷ [])
+      by None (Some href) is = All-nil (Contains ((span, dest) ∷ []))
+      by (Some href) m is = rw (is href refl) (All-nil (Contains []))
 
   both_contained : (as' bs cs ds : List DeadLinkView) → All (Contains as') cs →
       All (Contains bs) ds → All (Contains (as' ++ bs)) (cs ++ ds)
-  both_contained as' bs cs ds left right =
-      All-append (Contains (as' ++ bs)) cs ds
+  both_contained as' bs cs ds left right = All-append (Contains (as' ++ bs)) cs ds
       (All-weaker (Contains as') (Contains (as' ++ bs)) (Contains-append_left as' bs) cs left)
       (All-weaker (Contains bs) (Contains (as' ++ bs)) (Contains-append_right as' bs) ds right)
 
@@ -191,17 +145,13 @@ module _ (few many : Hrefs)
   more_are_dead before (node (tag_node t) ns) = more_are_dead (tag_node t ∷ before) ns
   more_are_dead before (node (text_node s span) ns) = more_are_dead (text_node s span ∷ before) ns
   more_are_dead before (node (element_node h kids) ns) =
-      let wanted = open_dest h (dest_before before) in
-      both_contained (dead_link few wanted h.span ++ nodes_dead_links few [] kids) _
-      (dead_link many wanted h.span ++ nodes_dead_links many [] kids) _
-      (both_contained (dead_link few wanted h.span) _ (dead_link many wanted h.span) _
-      (dead_among wanted h.span) (more_are_dead [] kids))
-      (more_are_dead (element_node h kids ∷ before) ns)
+      both_contained _ _ _ _
+      (both_contained _ _ _ _ (dead_among (open_dest h (dest_before before)) h.span)
+      (more_are_dead [] kids)) (more_are_dead (element_node h kids ∷ before) ns)
   more_are_dead before (node (frame_node f) ns) = more_are_dead (frame_node f ∷ before) ns
 
 pub left_links_are_dead : LeftLinksAreDead
-left_links_are_dead d =
-    more_are_dead (live_hrefs d) (document_hrefs d) (live_is_document_href d) [] (document_root d).1
+left_links_are_dead d = more_are_dead _ _ (live_is_document_href d) [] (document_root d).1
 
 pub dead_are_left : DeadAreLeft
 dead_are_left d here are =
@@ -212,7 +162,6 @@ none_of_none [] all = refl
 none_of_none (l ∷ ls) all = absurd (omega (arith, (All-head (Contains []) l ls all).1))
 
 -- where no link is dead, each that got an `href` is live
-
 module _ (live many : Hrefs) where
   abbrev IsLink : GivenLink → Type 0
   IsLink link = is_some (live link.0) ≡ true
@@ -247,20 +196,13 @@ module _ (live many : Hrefs) where
   all_given_live before (node (text_node s span) ns) e =
       all_given_live (text_node s span ∷ before) ns e
   all_given_live before (node (element_node h kids) ns) e =
-      let dest = dest_before before in
-      let own = dead_link live (open_dest h dest) h.span in
-      let apart = both_none (own ++ nodes_dead_links live [] kids) _ e in
-      let here = both_none own (nodes_dead_links live [] kids) apart.0 in
-      let below = nodes_given_links [] kids (nodes_with_links many [] kids) in
-      let given = given_link dest h (head_with_link many dest h) in
-      All-append IsLink (given ++ below) _
-      (All-append IsLink given below (given_live dest h (head_with_link many dest h) here.0)
-      (all_given_live [] kids here.1))
-      (all_given_live (element_node h kids ∷ before) ns apart.1)
+      let apart = both_none _ _ e in
+      let here = both_none _ _ apart.0 in
+      All-append IsLink _ _ (All-append IsLink _ _ (given_live (dest_before before) h _ here.0)
+      (all_given_live [] kids here.1)) (all_given_live (element_node h kids ∷ before) ns apart.1)
   all_given_live before (node (frame_node f) ns) e = all_given_live (frame_node f ∷ before) ns e
 
 -- and leads
-
 abbrev LeadsIfLive : DocumentView → (found : Name → Bool) → GivenLink → Type 0
 LeadsIfLive d found link =
     is_some (live_hrefs d link.0) ≡ true → LeadsToFound d.introspector.anchor found link
@@ -272,25 +214,18 @@ live_links_lead d new texts is =
     let hrefs = document_hrefs d in
     let given = nodes_given_links [] root.1 (nodes_with_links hrefs [] root.1) in
     let here : All (LeadsIfLive d (is_found root)) given =
-    all_given hrefs (LeadsIfLive d (is_found root))
-    (given_leads d.introspector.anchor (element_places root) (is_found root) texts (found_in_tree root))
-    [] root.1 in
-    subst (LiveLinksLead d) (sym is)
-    (subst (λ (e : ElementView). All (LeadsIfLive d (is_found e)) (nodes_given_links [] root.1 e.1))
-    (sym (root_has_links d))
-    (subst (λ (found : Name → Bool). All (LeadsIfLive d found) given) (sym (found_stay hrefs root)) here))
+    all_given hrefs (LeadsIfLive d _)
+    (given_leads _ (element_places root) _ texts (found_in_tree root)) [] root.1 in
+    rw (is, root_has_links d, found_stay hrefs root) here
 
 pub document_live_links_lead : (old : HtmlDocument) (new : DocumentView) →
     new ≡ document_with_links (document_view old) → LiveLinksLead (document_view old) new
-document_live_links_lead old new =
-    live_links_lead (document_view old) new (texts_in old.introspector.anchors)
+document_live_links_lead old new = live_links_lead _ new (texts_in old.introspector.anchors)
 
 all_are_live_links : (d : DocumentView) → document_dead_links d ≡ [] →
     All (λ (link : GivenLink). is_some (live_hrefs d link.0) ≡ true)
     (document_given_links d (document_with_links d))
-all_are_live_links d nothing =
-    subst (λ (e : ElementView). All (λ (link : GivenLink). is_some (live_hrefs d link.0) ≡ true)
-    (nodes_given_links [] (document_root d).1 e.1)) (sym (root_has_links d))
+all_are_live_links d nothing = rw (root_has_links d)
     (all_given_live (live_hrefs d) (document_hrefs d) [] (document_root d).1 nothing)
 
 pub every_link_leads : (d : HtmlDocument) (dead : List DeadLink) →
@@ -300,11 +235,10 @@ every_link_leads d dead agrees nothing =
     let v = document_view d in
     let new = document_with_links v in
     let none_dead : document_dead_links v ≡ [] = sym agrees ∙ ap dead_links_view nothing in
-    let led = document_live_links_lead d new refl in
-    let live = all_are_live_links v none_dead in
     record {
-      none_left = left_in_document v new refl ∙ none_of_none (document_links_left v)
-          (subst (λ ls. All (Contains ls) (document_links_left v)) none_dead (left_links_are_dead v));
-      found = λ k link within. led k link within (live k link within);
+      none_left = left_in_document v new refl
+          ∙ none_of_none _ (rw none_dead at (left_links_are_dead v));
+      found = λ k link within. document_live_links_lead d new refl k link within
+          (all_are_live_links v none_dead k link within);
       given = document_links_lead d new refl;
     }

@@ -1,8 +1,8 @@
 -- Each link that was given an `href` leads to a name of the tree.
-use Rattle.std.proofs.Common.{◌≡◌, ℕ, List, [], ◌∷◌, ◌++◌, All, Bool, true, false, not, ◌&&◌, ◌||◌, Option, None, Some, chars, codes, refl, sym, ap, subst, ◌∙◌, String, Global}
-use Rattle.std.proofs.{Math.Bool.{or-true}, lemmas.Bool.{and_parts}, lemmas.Str.{IsUtf8-string_bytes, chars-encodes}}
+use Rattle.std.proofs.Common.{◌≡◌, ℕ, List, [], ◌∷◌, All, Bool, true, false, not, ◌&&◌, ◌||◌, Option, None, Some, chars, codes, refl, sym, ap, ◌∙◌, String, Global, arith}
+use Rattle.std.proofs.{lemmas.Bool.{and_parts, or_right}, lemmas.Str.{IsUtf8-string_bytes, chars-encodes}}
 use Rattle.std.proofs.lemmas.List.Elements.{All-nil, All-cons, All-append, All-weaker}
-use Rattle.std.specs.{BTreeMap.{BTreeMap, get}, Prelude.{if◌then◌else◌, is_some, option_map, option_to_list}}
+use Rattle.std.specs.{BTreeMap.{BTreeMap, get}, Prelude.{if◌then◌else◌, is_some, option_map}}
 use lib.Utf8.{scalars}
 use Rattle.html_names_core.specs.{Names.{stands_in}, Texts.{text_view}}
 use Rattle.html_dom_tree.specs.Attributes.{first, has_name}
@@ -11,9 +11,9 @@ use Rattle.html_dom_tree.specs.declared.introspection.Location.{Location}
 use Rattle.html_dom_document.specs.{Documents.{DocumentView, document_root}, Introspectors.{location_cmp, location_text}}
 use Rattle.html_dom_document.specs.{Views.{document_view}, declared.document.HtmlDocument.{HtmlDocument}}
 use Rattle.html_links.proofs.{Gathering.{stands-append}, ShownNames.{shown_once}, SpelledNames.{leading_hrefs_lead}}
-use Rattle.html_links.specs.{Distinct.{are_distinct}, Indicated.{element_places, link_name, nodes_places, place_names}}
+use Rattle.html_links.specs.Indicated.{element_places, nodes_places, place_names}
 use Rattle.html_links.specs.Spellings.{some_name, leading_href}
-use Rattle.html_links.specs.TreeNames.{shown_names, Name, element_names, first_id, frame_names, gathered_names}
+use Rattle.html_links.specs.TreeNames.{shown_names, Name, element_names, frame_names, gathered_names}
 use Rattle.html_anchors.proofs.{ChangedRoots.{root_has_links}, Counting.{all_names_stay}, LeadingLinks.{left_are_dead, names_stay}}
 use Rattle.html_anchors.specs.DistinctIds.{IdsAreDistinct, GivenLinksLeadToOne, LeadsToOne}
 use Rattle.html_anchors.specs.GivenLinks.{KnownAnchorsAreShown, AnchorsAreTexts, GivenLink, GivenLinksLead, LeadsAmong, given_by, given_link, links_without, node_given_links, nodes_given_links}
@@ -26,7 +26,7 @@ known_name (Some (c ∷ cs)) name e = e
 
 pub no_href : (is_a : Bool) (attrs : List TextPair) →
     (is_a && not (has_name attrs (codes "href"))) ≡ true → first attrs (codes "href") ≡ None
-no_href is_a attrs e = by (first attrs (codes "href")) (and_parts is_a _ e).1
+no_href is_a attrs e = by (first attrs (codes "href")) (and_parts _ _ e).1
   where
     by : (href : Option (List ℕ)) → not (is_some href) ≡ true → href ≡ None
     by None e = refl
@@ -36,23 +36,10 @@ no_href is_a attrs e = by (first attrs (codes "href")) (and_parts is_a _ e).1
 
 or_grows : (i l k n k' n' : Bool) → (k ≡ true → k' ≡ true) → (n ≡ true → n' ≡ true) →
     (i || (k || n)) ≡ true → ((i || l) || (k' || n')) ≡ true
-or_grows true l k n k' n' ks ns e = refl
-or_grows false true k n k' n' ks ns e = refl
-or_grows false false true n k' n' ks ns e = rw (ks refl) refl
-or_grows false false false n k' n' ks ns e = ap (λ b. k' || b) (ns e) ∙ or-true k'
+or_grows i l k n k' n' ks ns e = grind arith
 
 or_passes : (b k k' : Bool) → (k ≡ true → k' ≡ true) → (b || k) ≡ true → (b || k') ≡ true
-or_passes true k k' ks e = refl
-or_passes false k k' ks e = ks e
-
-in_two : (as' bs : List Name) (n : Name) (b : Bool) →
-    (stands_in as' n || stands_in bs n) ≡ b → stands_in (as' ++ bs) n ≡ b
-in_two as' bs n b e = stands-append as' bs n ∙ e
-
-in_three : (as' bs cs : List Name) (n : Name) →
-    stands_in (as' ++ (bs ++ cs)) n ≡ (stands_in as' n || (stands_in bs n || stands_in cs n))
-in_three as' bs cs n =
-    stands-append as' (bs ++ cs) n ∙ ap (λ b. stands_in as' n || b) (stands-append bs cs n)
+or_passes b k k' ks e = grind arith
 
 shown_are_places : (ns : NodesView) (n : Name) → stands_in (shown_names ns) n ≡ true →
     stands_in (nodes_places ns) n ≡ true
@@ -61,28 +48,16 @@ shown_are_places none n e = e
 shown_are_places (node (tag_node t) ns) n e = shown_are_places ns n e
 shown_are_places (node (text_node s span) ns) n e = shown_are_places ns n e
 shown_are_places (node (element_node h kids) ns) n e =
-    let ids = option_to_list (first_id h) in
-    let own = option_to_list (link_name h.name h.attrs) in
-    in_three (place_names h.name h.attrs) (nodes_places kids) (nodes_places ns) n
-    ∙ (ap (λ b. b || (stands_in (nodes_places kids) n || stands_in (nodes_places ns) n))
-    (stands-append ids own n)
-    ∙ or_grows (stands_in ids n) (stands_in own n) (stands_in (shown_names kids) n)
-    (stands_in (shown_names ns) n) (stands_in (nodes_places kids) n) (stands_in (nodes_places ns) n)
-    (shown_are_places kids n) (shown_are_places ns n)
-    (sym (in_three ids (shown_names kids) (shown_names ns) n) ∙ e))
+    simp stands-append (or_grows _ _ _ _ _ _ (shown_are_places kids n) (shown_are_places ns n)
+    (simp stands-append at e))
 shown_are_places (node (frame_node f) ns) n e =
-    let own = stands_in (frame_names f) n in
-    stands-append (frame_names f) (nodes_places ns) n
-    ∙ or_passes own (stands_in (shown_names ns) n) (stands_in (nodes_places ns) n)
-    (shown_are_places ns n)
-    (sym (stands-append (frame_names f) (shown_names ns) n) ∙ e)
+    stands-append (frame_names f) _ n ∙ or_passes _ _ _ (shown_are_places ns n)
+    (sym (stands-append (frame_names f) _ n) ∙ e)
 
 pub shown_is_place : (e : ElementView) (n : Name) → stands_in (shown_names e.1) n ≡ true →
     stands_in (element_places e) n ≡ true
 shown_is_place e n there =
-    in_two (place_names e.0.name e.0.attrs) (nodes_places e.1) n true
-    (ap (λ b. stands_in (place_names e.0.name e.0.attrs) n || b) (shown_are_places e.1 n there)
-    ∙ or-true (stands_in (place_names e.0.name e.0.attrs) n))
+    stands-append (place_names e.0.name e.0.attrs) _ n ∙ or_right _ _ (shown_are_places e.1 n there)
 
 -- each link that got an `href` has what each `href` of a location has
 module _ (hrefs : Hrefs) (P : GivenLink → Type 0)
@@ -115,11 +90,8 @@ module _ (hrefs : Hrefs) (P : GivenLink → Type 0)
   all_given before (node (tag_node t) ns) = all_given (tag_node t ∷ before) ns
   all_given before (node (text_node s span) ns) = all_given (text_node s span ∷ before) ns
   all_given before (node (element_node h kids) ns) =
-      let dest = dest_before before in
-      let below = nodes_given_links [] kids (nodes_with_links hrefs [] kids) in
-      let own = given_link dest h (head_with_link hrefs dest h) in
-      All-append P (own ++ below) _
-      (All-append P own below (head_given dest h) (all_given [] kids))
+      All-append P _ _
+      (All-append P _ _ (head_given (dest_before before) h) (all_given [] kids))
       (all_given (element_node h kids ∷ before) ns)
   all_given before (node (frame_node f) ns) = all_given (frame_node f ∷ before) ns
 
@@ -139,7 +111,7 @@ module _ (anchor : Anchors) (places ids : List Name) (texts : AnchorsAreTexts an
       let there = shown dest name known in
       record {
         name = name;
-        leads = leading_hrefs_lead (stands_in places) name href (texts dest name known)
+        leads = leading_hrefs_lead _ name href (texts dest name known)
             (ap some_name (sym known) ∙ named) (among name there) is;
         is_anchor = known;
         stands = there;
@@ -176,37 +148,21 @@ texts_in map location name is = by (get location_cmp map (record { 0 = location 
 pub given_links_lead : (d new : DocumentView) → AnchorsAreTexts d.introspector.anchor →
     new ≡ document_with_links d → KnownAnchorsAreShown d → GivenLinksLead d new
 given_links_lead d new texts is shown =
-    let anchor = d.introspector.anchor in
     let root = document_root d in
-    let hrefs = document_hrefs d in
-    let made = nodes_with_links hrefs [] root.1 in
-    let given = nodes_given_links [] root.1 made in
-    let stay = names_stay hrefs [] root.1 in
-    let places : element_places (root.0, made) ≡ element_places root =
-    ap (λ names. place_names root.0.name root.0.attrs ++ names) stay.places in
-    let led : All (LeadsAmong anchor (element_places root) (shown_names root.1)) given =
-    nodes_lead anchor (element_places root) (shown_names root.1) texts shown
-    (shown_is_place root) [] root.1 in
-    let there : All (LeadsAmong anchor (element_places (root.0, made)) (shown_names made)) given =
-    subst (λ names. All (LeadsAmong anchor names (shown_names made)) given) (sym places)
-    (subst (λ names. All (LeadsAmong anchor (element_places root) names) given) (sym stay.shown) led) in
-    subst (GivenLinksLead d) (sym is)
-    (subst (λ (e : ElementView). All (LeadsAmong anchor (element_places e) (shown_names e.1))
-    (nodes_given_links [] root.1 e.1)) (sym (root_has_links d)) there)
+    let stay = names_stay (document_hrefs d) [] root.1 in
+    rw (is, root_has_links d, stay.places, stay.shown) (nodes_lead d.introspector.anchor
+    (element_places root) (shown_names root.1) texts shown (shown_is_place root) [] root.1)
 
 pub document_links_lead : (old : HtmlDocument) (new : DocumentView) →
     new ≡ document_with_links (document_view old) → KnownAnchorsAreShown (document_view old) →
     GivenLinksLead (document_view old) new
-document_links_lead old new =
-    given_links_lead (document_view old) new (texts_in old.introspector.anchors)
+document_links_lead old new = given_links_lead _ new (texts_in old.introspector.anchors)
 
 -- names that differ do so with links too
 pub links_stay_distinct : (d new : DocumentView) → new ≡ document_with_links d → IdsAreDistinct d →
     IdsAreDistinct new
 links_stay_distinct d new is distinct =
-    ap (λ (v : DocumentView). are_distinct (element_names (document_root v))) is
-    ∙ (ap (λ (e : ElementView). are_distinct (element_names e)) (root_has_links d)
-    ∙ (ap are_distinct (all_names_stay (document_hrefs d) (document_root d)) ∙ distinct))
+    rw (is, root_has_links d, all_names_stay (document_hrefs d) (document_root d)) distinct
 
 -- and then each link leads to one name
 pub links_lead_to_one : (old : HtmlDocument) (new : DocumentView) →
@@ -225,6 +181,4 @@ links_lead_to_one old new is shown was_distinct =
 pub left_in_document : (d new : DocumentView) → new ≡ document_with_links d →
     links_without (document_root new).1 ≡ document_links_left d
 left_in_document d new is =
-    ap (λ v. links_without (document_root v).1) is
-    ∙ (ap (λ (e : ElementView). links_without e.1) (root_has_links d)
-    ∙ left_are_dead (document_hrefs d) (document_root d).1)
+    rw (is, root_has_links d) (left_are_dead (document_hrefs d) (document_root d).1)

@@ -1,12 +1,13 @@
 -- Each name that is answered stands in the new tree.
-use Rattle.std.proofs.Common.{◌≡◌, ℕ, Bool, true, false, ◌||◌, ◌==◌, List, [], ◌∷◌, ◌++◌, Option, Some, None, refl, ap, sym, ◌∙◌, append_assoc, bytes_eq, subst}
-use Rattle.std.proofs.{Math.Bool.{or-true}, lemmas.List.{append-nil}, lemmas.Slice.Eq.{bytes_eq-Decides}}
+use Rattle.std.proofs.Common.{◌≡◌, ℕ, Bool, true, false, ◌||◌, ◌==◌, List, [], ◌∷◌, ◌++◌, Option, Some, None, refl, ap, sym, ◌∙◌, append_assoc, subst}
+use Rattle.std.proofs.{lemmas.Bool.{or_right}, lemmas.List.{append-nil}, lemmas.Slice.Eq.{bytes_eq-Decides}}
 use Rattle.std.specs.Prelude.{if◌then◌else◌, option_to_list}
 use Rattle.html_dom_tree.specs.{Attributes.{or_else}, Frames.{PointView}}
 use Rattle.html_dom_tree.specs.Tree.{Head, starts, ends, tag_node, text_node, element_node, frame_node, NodesView, none, node}
 use Rattle.html_names_core.{proofs.Ascending.{stands_in-append}, specs.Names.{stands_in}}
-use Rattle.html_links.specs.TreeNames.{Name, with_used_name, anchor_names, first_id, element_names, gathered_names, shown_names}
-use Rattle.html_anchors.proofs.States.{Groups, naming_at, step, finished, makes, makes_is, makes-append, drop-events}
+use Rattle.html_links.proofs.Gathering.{stands-append}
+use Rattle.html_links.specs.TreeNames.{Name, with_used_name, anchor_names, first_id, gathered_names, shown_names}
+use Rattle.html_anchors.proofs.States.{Groups, at_start, naming_at, step, finished, makes, makes_is, makes-append, drop-events}
 use Rattle.html_anchors.specs.Anchors.{with_id, text_in_span, span_before, nodes_with_anchors, element_namings, element_with_anchors, anchor_of}
 use Rattle.html_anchors.specs.Answered.{AnswersAreShown}
 use Rattle.html_anchors.specs.Events.{Start, FrameStart, end_tag, element, text, html_frame, Targets, start_event, frame_starts, events}
@@ -21,10 +22,7 @@ AreAmong (a ∷ as') names = (stands_in names a.1 ≡ true) × AreAmong as' name
 
 pub among-right : (as' bs : List Name) (n : Name) → stands_in bs n ≡ true →
     stands_in (as' ++ bs) n ≡ true
-unfolding stands_in
-among-right [] bs n e = e
-among-right (a ∷ as') bs n e =
-    ap (λ b. bytes_eq a n || b) (among-right as' bs n e) ∙ or-true (bytes_eq a n)
+among-right as' bs n e = stands-append as' bs n ∙ or_right _ _ e
 
 all-left : (xs : List (ℕ × Name)) (as' bs : List Name) → AreAmong xs as' → AreAmong xs (as' ++ bs)
 all-left [] as' bs h = tt
@@ -62,11 +60,7 @@ starts_among : (ss : List FrameStart) (used : Name → Bool) →
 starts_among [] used = tt
 starts_among (s ∷ ss) used =
     let n = new_name s.label used in
-    let names = anchor_names (start_pairs (with_used_name n used) ss) in (
-      itself n names,
-      all-right (start_answers (with_used_name n used) ss) (n ∷ []) names
-          (starts_among ss (with_used_name n used)),
-    )
+    (itself n _, all-right _ (n ∷ []) _ (starts_among ss (with_used_name n used)))
 
 pub answers-append : (as' bs : List Naming) →
     all_answers (as' ++ bs) ≡ all_answers as' ++ all_answers bs
@@ -89,22 +83,9 @@ head_shows h None label used [] e = tt
 head_shows h (Some n) label used [] e = tt
 head_shows h None label used (s ∷ ss) e = answered_among (Some (new_name label used)) (s ∷ ss)
 head_shows h (Some n) label used (s ∷ ss) e =
-    subst (λ o. AreAmong (group_answers (Some n) (s ∷ ss)) (option_to_list o)) (sym e)
-    (answered_among (Some n) (s ∷ ss))
+    rw e (answered_among (Some n) (s ∷ ss))
 
--- so does a text in a new element, and a new element after an end tag
-text_shows : (label : Option Name) (used : Name → Bool) (q : List Start) (s : List ℕ) (span : ℕ)
-    (ns : NodesView) (xs : List (ℕ × Name)) → let made = made_for None label used q in
-    AreAmong xs (shown_names ns) →
-    AreAmong ((group_answers made q ++ []) ++ xs) (shown_names (node (text_in_span made s span) ns))
-unfolding gathered_names
-text_shows label used [] t span ns xs h = h
-text_shows label used (s ∷ ss) t span ns xs h =
-    let n = Some (new_name label used) in
-    with_nil (group_answers n (s ∷ ss)) xs (option_to_list n ++ shown_names ns)
-    (joined (group_answers n (s ∷ ss)) xs (option_to_list n) (shown_names ns)
-    (answered_among n (s ∷ ss)) h)
-
+-- so does a new element after an end tag, and a text in a new element
 end_shows : (label : Option Name) (used : Name → Bool) (q : List Start)
     (ns : NodesView) (xs : List (ℕ × Name)) → let made = made_for None label used q in
     AreAmong xs (shown_names ns) →
@@ -116,6 +97,14 @@ end_shows label used (s ∷ ss) ns xs h =
     with_nil (group_answers n (s ∷ ss)) xs (option_to_list n ++ shown_names ns)
     (joined (group_answers n (s ∷ ss)) xs (option_to_list n) (shown_names ns)
     (answered_among n (s ∷ ss)) h)
+
+text_shows : (label : Option Name) (used : Name → Bool) (q : List Start) (s : List ℕ) (span : ℕ)
+    (ns : NodesView) (xs : List (ℕ × Name)) → let made = made_for None label used q in
+    AreAmong xs (shown_names ns) →
+    AreAmong ((group_answers made q ++ []) ++ xs) (shown_names (node (text_in_span made s span) ns))
+unfolding gathered_names
+text_shows label used [] t span ns xs h = h
+text_shows label used (s ∷ ss) t span ns xs h = end_shows label used (s ∷ ss) ns xs h
 
 start_shows : (is_target : Bool) (l : ℕ) (label : Option Name) (g : Groups) (ns : NodesView)
     (xs : List (ℕ × Name)) → let c = naming_at g (start_event is_target l label) in
@@ -130,18 +119,13 @@ all_shown : (x : Targets) (ns : NodesView) (g : Groups) (more : List Naming) →
 unfolding events nodes_with_anchors gathered_names
 all_shown x none g more = tt
 all_shown x (node (tag_node (starts l label dest)) ns) g more =
-    let later = makes (step g (start_event (x.is_target l) l label)) (events x ns) in
-    start_shows (x.is_target l) l label g (nodes_with_anchors (later ++ more) ns) (all_answers later)
+    start_shows (x.is_target l) l label g _ _
     (all_shown x ns (step g (start_event (x.is_target l) l label)) more)
 all_shown x (node (tag_node (ends l)) ns) g more =
-    let later = makes (step g (end_tag l)) (events x ns) in
     let q = if is_in_group l g.queue then g.queue else [] in
-    end_shows (label_of l q) g.used q (nodes_with_anchors (later ++ more) ns) (all_answers later)
-    (all_shown x ns (step g (end_tag l)) more)
+    end_shows (label_of l q) g.used q _ _ (all_shown x ns (step g (end_tag l)) more)
 all_shown x (node (text_node s span) ns) g more =
-    let later = makes (step g text) (events x ns) in
-    text_shows (first_label g.queue) g.used g.queue s span (nodes_with_anchors (later ++ more) ns)
-    (all_answers later) (all_shown x ns (step g text) more)
+    text_shows (first_label g.queue) g.used g.queue s span _ _ (all_shown x ns (step g text) more)
 all_shown x (node (element_node h kids) ns) g more =
     let own = first_id h in
     let made = made_for own (first_label g.queue) g.used g.queue in
@@ -150,8 +134,6 @@ all_shown x (node (element_node h kids) ns) g more =
     let u = finished t (events x kids) in
     let inside = makes t (events x kids) in
     let after = makes u (events x ns) in
-    let kids' = nodes_with_anchors (inside ++ (after ++ more)) kids in
-    let rest = nodes_with_anchors (after ++ more) ns in
     let names = option_to_list (first_id (with_id made h)) in
     let here : AreAmong (group ++ []) names =
     rw (append-nil group) (head_shows h own (first_label g.queue) g.used g.queue refl) in
@@ -161,58 +143,39 @@ all_shown x (node (element_node h kids) ns) g more =
       drop-events x kids t (after ++ more),
       answers-append inside after,
     )
-    (joined (group ++ []) (all_answers inside ++ all_answers after) names
-    (shown_names kids' ++ shown_names rest) here
-    (joined (all_answers inside) (all_answers after) (shown_names kids') (shown_names rest)
-    (all_shown x kids t (after ++ more)) (all_shown x ns u more)))
+    (joined (group ++ []) _ names _ here
+    (joined _ _ _ _ (all_shown x kids t (after ++ more)) (all_shown x ns u more)))
 all_shown x (node (frame_node f) ns) g more =
     let ss = frame_starts x f.inner in
     let made = made_for f.id (first_label g.queue) g.used g.queue in
     let used = with_made made g.used in
-    let pairs = start_pairs used ss in
-    let later = makes (step g (html_frame f.id ss)) (events x ns) in
-    let own = option_to_list (or_else f.id made) in
-    let group = group_answers (or_else f.id made) g.queue in
-    let inside = start_answers used ss in
-    let paired : AreAmong inside (anchor_names (f.anchors ++ pairs)) =
-    rw (names-append f.anchors pairs)
-    (all-right inside (anchor_names f.anchors) (anchor_names pairs) (starts_among ss used)) in
-    joined (group ++ inside) (all_answers later) (own ++ anchor_names (f.anchors ++ pairs))
-    (shown_names (nodes_with_anchors (later ++ more) ns))
-    (joined group inside own (anchor_names (f.anchors ++ pairs))
-    (answered_among (or_else f.id made) g.queue) paired)
+    let name = or_else f.id made in
+    let anchors = f.anchors ++ start_pairs used ss in
+    let paired : AreAmong (start_answers used ss) (anchor_names anchors) =
+    rw (names-append f.anchors (start_pairs used ss))
+    (all-right _ (anchor_names f.anchors) _ (starts_among ss used)) in
+    joined (group_answers name g.queue ++ start_answers used ss) _
+    (option_to_list name ++ anchor_names anchors) _
+    (joined _ _ _ _ (answered_among name g.queue) paired)
     (all_shown x ns (step g (html_frame f.id ss)) more)
 
 from_answer : (as' : List (ℕ × Name)) (names : List Name) (l : ℕ) (n : Name) →
     AreAmong as' names → last_name as' l ≡ Some n → stands_in names n ≡ true
 from_answer [] names l n h e = cc
 from_answer (a ∷ as') names l n h e =
-    by_rest (last_name as' l) refl (a.0 == l) e (from_answer as' names l n h.1)
+    by_rest (last_name as' l) (a.0 == l) e (from_answer as' names l n h.1)
   where
-    or_that : Option Name → Name
-    or_that None = n
-    or_that (Some m) = m
-
-    by_rest : (o : Option Name) → last_name as' l ≡ o → (b : Bool) →
-        or_else o (if b then Some a.1 else None) ≡ Some n →
-        (last_name as' l ≡ Some n → stands_in names n ≡ true) → stands_in names n ≡ true
-    by_rest (Some m) s b e so = so (s ∙ e)
-    by_rest None s true e so = subst (λ m. stands_in names m ≡ true) (ap or_that e) h.0
-    by_rest None s false e so = cc
+    by_rest : (o : Option Name) (b : Bool) → or_else o (if b then Some a.1 else None) ≡ Some n →
+        (o ≡ Some n → stands_in names n ≡ true) → stands_in names n ≡ true
+    by_rest (Some m) b e so = so e
+    by_rest None true e so = let same : a.1 ≡ n = cc in rw (← same) h.0
+    by_rest None false e so = cc
 
 pub answers_are_shown : AnswersAreShown
 unfolding element_with_anchors anchor_of
 answers_are_shown x e l n is =
-    let g : Groups = record {
-      queue = [];
-      used = stands_in (element_names e);
-      answers = λ l. None;
-    } in
-    let made = makes g (events x e.1) in
-    let all : AreAmong (all_answers made) (shown_names (nodes_with_anchors made e.1)) =
-    subst (λ cs. AreAmong (all_answers made) (shown_names (nodes_with_anchors cs e.1)))
-    (append-nil made) (all_shown x e.1 g []) in
+    let g = at_start e in
+    let es = events x e.1 in
     from_answer (all_answers (element_namings x e))
     (shown_names (nodes_with_anchors (element_namings x e) e.1)) l n
-    (subst (λ cs. AreAmong (all_answers cs) (shown_names (nodes_with_anchors cs e.1)))
-    (makes_is (events x e.1) g) all) is
+    (rw (append-nil (makes g es), makes_is es g) at (all_shown x e.1 g [])) is

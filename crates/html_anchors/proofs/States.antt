@@ -1,18 +1,23 @@
 -- The cuts and namings of events, with the state of groups between two events.
-use Rattle.std.proofs.Common.{◌≡◌, ℕ, suc, Bool, true, false, ◌||◌, ◌==◌, List, [], ◌∷◌, ◌++◌, length, drop, Option, Some, None, refl, ap, sym, ◌∙◌, length-append}
+use Rattle.std.proofs.Common.{◌≡◌, ℕ, suc, Bool, ◌==◌, List, [], ◌∷◌, ◌++◌, length, drop, Option, Some, None, refl, ap, sym, ◌∙◌, length-append}
 use Rattle.std.{proofs.lemmas.List.{drop_at}, specs.Prelude.{if◌then◌else◌}}
 use Rattle.html_dom_tree.{proofs.Basics.{or_else-assoc, or_else-none}, specs.Attributes.{or_else}}
-use Rattle.html_dom_tree.specs.Tree.{starts, ends, tag_node, text_node, element_node, frame_node, NodesView, none, node}
-use Rattle.html_links.specs.TreeNames.{Name}
+use Rattle.html_dom_tree.specs.Tree.{starts, ends, tag_node, text_node, element_node, frame_node, NodesView, none, node, ElementView}
+use Rattle.html_names_core.specs.Names.{stands_in}
+use Rattle.html_links.specs.TreeNames.{Name, element_names}
 use Rattle.html_anchors.specs.{Anchors.{nodes_size}, Events.{Start, Event, Targets, events}}
-use Rattle.html_anchors.specs.Groups.{is_in_group, waiting_after, cut_at, cuts}
-use Rattle.html_anchors.specs.Namings.{Naming, group_answers, naming, used_after, namings, all_answers, last_name}
+use Rattle.html_anchors.specs.Groups.{waiting_after, cut_at, cuts}
+use Rattle.html_anchors.specs.Namings.{Naming, naming, used_after, namings, all_answers, last_name}
 
 -- the group that waits, the names in use, and the last name of each location
 pub record Groups : Type 0 where
   pub queue : List Start
   pub used : Name → Bool
   pub answers : ℕ → Option Name
+
+-- nothing waits, and nothing is named yet
+abbrev pub at_start : ElementView → Groups
+at_start e = record { queue = []; used = stands_in (element_names e); answers = λ l. None }
 
 abbrev pub naming_at : Groups → Event → Naming
 naming_at g e = naming g.used (cut_at g.queue e)
@@ -85,21 +90,3 @@ finished_answers (e ∷ es) g l =
     finished_answers es (step g e) l
     ∙ (sym (or_else-assoc (last_name later l) (last_name now l) (g.answers l))
     ∙ ap (λ a. or_else a (g.answers l)) (sym (last_name-append now later l)))
-
-abbrev pub named_if : Bool → Name → Option Name → Option Name
-named_if waits n old = if waits then Some n else old
-
-pub answered_is : (n : Name) (ss : List Start) (old : Option Name) (l : ℕ) →
-    or_else (last_name (group_answers (Some n) ss) l) old ≡ named_if (is_in_group l ss) n old
-answered_is n [] old l = refl
-answered_is n (s ∷ ss) old l =
-    let here = if s.location == l then Some n else None in
-    or_else-assoc (last_name (group_answers (Some n) ss) l) here old
-    ∙ (answered_is n ss (or_else here old) l ∙ by_first (is_in_group l ss) (s.location == l))
-  where
-    by_first : (a b : Bool) →
-        named_if a n (or_else (if b then Some n else None) old) ≡ named_if (b || a) n old
-    by_first true true = refl
-    by_first true false = refl
-    by_first false true = refl
-    by_first false false = refl

@@ -1,16 +1,15 @@
 -- One walk gives the tree and the names that the groups give.
-use Rattle.std.proofs.Common.{◌≡◌, ℕ, Bool, true, false, ◌||◌, ◌==◌, List, [], ◌∷◌, ◌++◌, Option, Some, None, refl, ap, sym, ◌∙◌, append_assoc}
-use Rattle.std.{proofs.Math.Path.{fun_ext}, proofs.lemmas.Bool.{eq-eqb}, proofs.lemmas.List.{append-nil}, specs.Prelude.{if◌then◌else◌}}
+use Rattle.std.proofs.Common.{◌≡◌, ℕ, Bool, true, false, ◌==◌, List, [], ◌∷◌, ◌++◌, Option, Some, None, inl, inr, refl, ap, sym, ◌∙◌, append_assoc}
+use Rattle.std.{proofs.Math.Path.{fun_ext}, proofs.lemmas.Bool.{cases_Bool, eq-eqb}, proofs.lemmas.List.{append-nil}, specs.Prelude.{if◌then◌else◌}}
 use Rattle.html_dom_tree.{proofs.Basics.{or_else-assoc, or_else-none}, specs.Attributes.{or_else}}
-use Rattle.html_dom_tree.specs.Tree.{starts, ends, NodeView, tag_node, text_node, element_node, frame_node, NodesView, none, node}
-use Rattle.html_names_core.specs.Names.{stands_in}
-use Rattle.html_links.specs.TreeNames.{Name, with_used_name, first_id, element_names}
-use Rattle.html_anchors.proofs.States.{Groups, named_if, naming_at, step, finished, makes, makes_is, makes-append, finished-append, drop-events, last_name-append, finished_answers, answered_is}
-use Rattle.html_anchors.specs.AnchorWalk.{WalkState, after_tag_start, first_waiting, put_each, with_answers, made_now, after_server, after_starts, Walked, node_before, walk, OneWalkServes}
-use Rattle.html_anchors.specs.Anchors.{with_id, text_in_span, span_before, named_frame, nodes_with_anchors, element_with_anchors, anchor_of}
+use Rattle.html_dom_tree.specs.Tree.{starts, ends, tag_node, text_node, element_node, frame_node, NodesView, none, node}
+use Rattle.html_links.specs.TreeNames.{Name, first_id}
+use Rattle.html_anchors.proofs.States.{Groups, at_start, naming_at, step, finished, makes, makes_is, makes-append, finished-append, drop-events, last_name-append, finished_answers}
+use Rattle.html_anchors.specs.AnchorWalk.{WalkState, with_entry, after_tag_start, first_waiting, put_each, with_answers, made_now, after_server, after_start, after_starts, Walked, walk, OneWalkServes}
+use Rattle.html_anchors.specs.Anchors.{nodes_with_anchors, element_with_anchors, anchor_of}
 use Rattle.html_anchors.specs.Events.{Start, FrameStart, end_tag, element, text, html_frame, Targets, start_event, frame_starts, events}
 use Rattle.html_anchors.specs.Groups.{is_in_group, Cut, first_label, label_of}
-use Rattle.html_anchors.specs.Namings.{made_for, group_answers, start_pairs, start_answers, used_after_starts, with_made, Naming, naming, used_after, all_answers, last_name}
+use Rattle.html_anchors.specs.Namings.{made_for, group_answers, start_answers, used_after_starts, with_made, Naming, naming, used_after, all_answers, last_name}
 use Rattle.html_anchors.specs.NewNames.{new_name}
 
 -- the group that waits, as the walk carries it
@@ -41,35 +40,23 @@ locations_more (t ∷ q) s = ap (λ ls. t.location ∷ ls) (locations_more q s)
 labels_more : (q : List Start) (s : Start) (k : ℕ) →
     or_else (labels_of q k) (if s.location == k then Some s.label else None)
     ≡ labels_of (q ++ s ∷ []) k
-labels_more [] s k = alone (s.location == k)
-  where
-    alone : (b : Bool) → (if b then Some s.label else None)
-        ≡ (if b || false then Some (if b then s.label else None) else None)
-    alone true = refl
-    alone false = refl
-labels_more (t ∷ q) s k = by_first (t.location == k) (labels_more q s k)
-  where
-    by_first : (b : Bool) →
-        or_else (labels_of q k) (if s.location == k then Some s.label else None)
-        ≡ labels_of (q ++ s ∷ []) k →
-        or_else (if b || is_in_group k q then Some (if b then t.label else label_of k q) else None)
-        (if s.location == k then Some s.label else None)
-        ≡ (if b || is_in_group k (q ++ s ∷ [])
-        then Some (if b then t.label else label_of k (q ++ s ∷ [])) else None)
-    by_first true so = refl
-    by_first false so = so
+labels_more [] s k = elim (cases_Bool (s.location == k)) [
+  | inl e ↦ rw e refl
+  | inr e ↦ rw e refl
+]
+labels_more (t ∷ q) s k = elim (cases_Bool (t.location == k)) [
+  | inl e ↦ rw e refl
+  | inr e ↦ rw e (labels_more q s k)
+]
 
 started_is : (is_target : Bool) (l : ℕ) (label : Option Name) (g : Groups) →
     after_tag_start is_target l label (walk_state g) ≡ walk_state (step g (start_event is_target l label))
 started_is false l label g = refl
 started_is true l label g =
     let s : Start = record { location = l; label = label } in
-    ap (λ f. record (walk_state g) {
-      waiting = f;
-      labels = λ k. or_else (labels_of g.queue k) (if l == k then Some label else None);
-    }) (locations_more g.queue s)
-    ∙ ap (λ ls. record (walk_state g) { waiting = locations_of (g.queue ++ s ∷ []); labels = ls })
-    (fun_ext (labels_more g.queue s))
+    rw (locations_more g.queue s)
+    (ap (λ ls. record (walk_state g) { waiting = locations_of (g.queue ++ s ∷ []); labels = ls })
+    (fun_ext (labels_more g.queue s)))
 
 first_waiting_is : (g : Groups) → first_waiting (walk_state g) ≡ waiting_in g.queue
 first_waiting_is g = by_queue g.queue
@@ -86,48 +73,38 @@ made_is None (s ∷ ss) used = refl
 made_is (Some n) (s ∷ ss) used = refl
 
 -- the state when a group was served
-abbrev served_group :
-    (own made : Option Name) → List Start → (answers : List (ℕ × Name)) → Groups → WalkState
-served_group own made q more g = record {
+abbrev served_group : (own made : Option Name) → List Start → Groups → WalkState
+served_group own made q g = record {
   waiting = [];
   labels = λ l. None;
   used = with_made made g.used;
-  answers = λ l. or_else (last_name (group_answers (or_else own made) q ++ more) l) (g.answers l);
+  answers = λ l. or_else (last_name (group_answers (or_else own made) q ++ []) l) (g.answers l);
 }
 
-put_each_is : (n : Name) (q : List Start) (answers : ℕ → Option Name) (l : ℕ) →
-    put_each n (locations_of q) answers l ≡ named_if (is_in_group l q) n (answers l)
-put_each_is n [] answers l = refl
-put_each_is n (s ∷ ss) answers l =
-    put_each_is n ss (λ k. if s.location == k then Some n else answers k) l
-    ∙ by_first (is_in_group l ss) (s.location == l)
-  where
-    by_first : (a b : Bool) → named_if a n (if b then Some n else answers l)
-        ≡ named_if (b || a) n (answers l)
-    by_first true true = refl
-    by_first true false = refl
-    by_first false true = refl
-    by_first false false = refl
+-- of two names of one location the later one counts
+entry_more : (n : Name) (later : Option Name) (b : Bool) (old : Option Name) →
+    or_else later (if b then Some n else old)
+    ≡ or_else (or_else later (if b then Some n else None)) old
+entry_more n (Some m) b old = refl
+entry_more n None true old = refl
+entry_more n None false old = refl
 
-named_is : (n : Name) (g : Groups) (l : ℕ) →
-    put_each n (locations_of g.queue) g.answers l
-    ≡ or_else (last_name (group_answers (Some n) g.queue ++ []) l) (g.answers l)
-named_is n g l =
-    put_each_is n g.queue g.answers l
-    ∙ (sym (answered_is n g.queue (g.answers l) l)
-    ∙ ap (λ as'. or_else (last_name as' l) (g.answers l))
-    (sym (append-nil (group_answers (Some n) g.queue))))
+put_each_is : (n : Name) (q : List Start) (answers : ℕ → Option Name) (l : ℕ) →
+    put_each n (locations_of q) answers l
+    ≡ or_else (last_name (group_answers (Some n) q) l) (answers l)
+put_each_is n [] answers l = refl
+put_each_is n (s ∷ ss) answers l = put_each_is n ss (with_entry s.location n answers) l
+    ∙ entry_more n (last_name (group_answers (Some n) ss) l) (s.location == l) (answers l)
 
 served_is : (n : Name) (made : Option Name) (g : Groups) →
     with_answers n (record (walk_state g) { used = with_made made g.used })
-    ≡ served_group (Some n) made g.queue [] g
-served_is n made g =
-    ap (λ f. record {
-      waiting = [];
-      labels = λ l. None;
-      used = with_made made g.used;
-      answers = f;
-    }) (fun_ext (named_is n g))
+    ≡ served_group (Some n) made g.queue g
+served_is n made g = rw (append-nil (group_answers (Some n) g.queue)) (ap (λ f. record {
+  waiting = [];
+  labels = λ l. None;
+  used = with_made made g.used;
+  answers = f;
+}) (fun_ext (put_each_is n g.queue g.answers)))
 
 abbrev groups : List Start → (Name → Bool) → (ℕ → Option Name) → Groups
 groups q used answers = record { queue = q; used = used; answers = answers }
@@ -135,7 +112,7 @@ groups q used answers = record { queue = q; used = used; answers = answers }
 after_group : (own label : Option Name) (s : Start) (ss : List Start) (used : Name → Bool)
     (answers : ℕ → Option Name) → let g = groups (s ∷ ss) used answers in
     after_server (Some label) own (walk_state g)
-    ≡ served_group own (made_for own label used (s ∷ ss)) (s ∷ ss) [] g
+    ≡ served_group own (made_for own label used (s ∷ ss)) (s ∷ ss) g
 after_group (Some n) label s ss used answers = served_is n None (groups (s ∷ ss) used answers)
 after_group None label s ss used answers =
     served_is (new_name label used) (Some (new_name label used)) (groups (s ∷ ss) used answers)
@@ -144,17 +121,15 @@ after_group None label s ss used answers =
 after_any : (own : Option Name) (q : List Start) (used : Name → Bool)
     (answers : ℕ → Option Name) → let g = groups q used answers in
     after_server (waiting_in q) own (walk_state g)
-    ≡ served_group own (made_for own (first_label q) used q) q [] g
+    ≡ served_group own (made_for own (first_label q) used q) q g
 after_any None [] used answers = refl
 after_any (Some n) [] used answers = refl
 after_any own (s ∷ ss) used answers = after_group own s.label s ss used answers
 
 server_is : (own : Option Name) (g : Groups) →
     after_server (first_waiting (walk_state g)) own (walk_state g)
-    ≡ served_group own (made_for own (first_label g.queue) g.used g.queue) g.queue [] g
-server_is own g =
-    ap (λ w. after_server w own (walk_state g)) (first_waiting_is g)
-    ∙ after_any own g.queue g.used g.answers
+    ≡ served_group own (made_for own (first_label g.queue) g.used g.queue) g.queue g
+server_is own g = rw (first_waiting_is g) (after_any own g.queue g.used g.answers)
 
 -- the start tags of a frame
 starts_is : (ss : List FrameStart) (st : WalkState) → after_starts ss st ≡ record st {
@@ -163,21 +138,11 @@ starts_is : (ss : List FrameStart) (st : WalkState) → after_starts ss st ≡ r
 }
 starts_is [] st = refl
 starts_is (s ∷ ss) st =
-    let n = new_name s.label st.used in
-    let used = with_used_name n st.used in
-    starts_is ss (record st {
-      used = used;
-      answers = λ l. if s.location == l then Some n else st.answers l;
-    })
-    ∙ ap (λ f. record st { used = used_after_starts used ss; answers = f })
-    (fun_ext (λ l. either n (last_name (start_answers used ss) l) (s.location == l) (st.answers l)))
-  where
-    either : (n : Name) (later : Option Name) (b : Bool) (old : Option Name) →
-        or_else later (if b then Some n else old)
-        ≡ or_else (or_else later (if b then Some n else None)) old
-    either n (Some m) b old = refl
-    either n None true old = refl
-    either n None false old = refl
+    let next = after_start s st in
+    starts_is ss next
+    ∙ ap (λ f. record st { used = used_after_starts next.used ss; answers = f }) (fun_ext (λ l.
+    entry_more (new_name s.label st.used) (last_name (start_answers next.used ss) l)
+    (s.location == l) (st.answers l)))
 
 frame_is : (own : Option Name) (ss : List FrameStart) (g : Groups) →
     after_starts ss (after_server (first_waiting (walk_state g)) own (walk_state g))
@@ -188,7 +153,7 @@ frame_is own ss g =
     let group = group_answers (or_else own made) g.queue in
     let inside = start_answers used ss in
     ap (after_starts ss) (server_is own g)
-    ∙ (starts_is ss (served_group own made g.queue [] g)
+    ∙ (starts_is ss (served_group own made g.queue g)
     ∙ ap (λ f. record {
       waiting = [];
       labels = λ l. None;
@@ -231,8 +196,7 @@ made_at_end true l (s ∷ ss) used e = refl
 made_any : (own : Option Name) (g : Groups) →
     made_now (first_waiting (walk_state g)) own g.used
     ≡ made_for own (first_label g.queue) g.used g.queue
-made_any own g =
-    ap (λ w. made_now w own g.used) (first_waiting_is g) ∙ made_is own g.queue g.used
+made_any own g = rw (first_waiting_is g) (made_is own g.queue g.used)
 
 no_name : (is_target : Bool) (l : ℕ) (label : Option Name) (g : Groups) →
     (naming_at g (start_event is_target l label)).made ≡ None
@@ -249,68 +213,47 @@ pub walk_is : (x : Targets) (ns : NodesView) (g : Groups) (more : List Naming) �
 unfolding walk events nodes_with_anchors
 walk_is x none g more = refl
 walk_is x (node (tag_node (starts l label dest)) ns) g more =
-    let e = start_event (x.is_target l) l label in
-    let t = tag_node (starts l label dest) in
-    let rest = by_groups x ns (step g e) more in
-    ap (λ st. node_before t (walk x ns st)) (started_is (x.is_target l) l label g)
-    ∙ (ap (node_before t) (walk_is x ns (step g e) more)
-    ∙ ap (λ n. (node t (span_before n rest.0), rest.1)) (sym (no_name (x.is_target l) l label g)))
+    let b = x.is_target l in
+    rw (
+      started_is b l label g,
+      walk_is x ns (step g (start_event b l label)) more,
+      no_name b l label g,
+    ) refl
 walk_is x (node (tag_node (ends l)) ns) g more =
-    let t = tag_node (ends l) in
-    let rest = by_groups x ns (step g (end_tag l)) more in
-    let joined : Walked → Walked =
-    λ r. (node t (span_before (made_now (labels_of g.queue l) None g.used) r.0), r.1) in
-    ap (λ st. joined (walk x ns st)) (end_is l g)
-    ∙ (ap joined (walk_is x ns (step g (end_tag l)) more)
-    ∙ ap (λ n. (node t (span_before n rest.0), rest.1))
-    (made_at_end (is_in_group l g.queue) l g.queue g.used refl))
+    rw (
+      end_is l g,
+      walk_is x ns (step g (end_tag l)) more,
+      made_at_end (is_in_group l g.queue) l g.queue g.used refl,
+    ) refl
 walk_is x (node (text_node s span) ns) g more =
-    let rest = by_groups x ns (step g text) more in
-    let first = text_in_span (made_now (first_waiting (walk_state g)) None g.used) s span in
-    ap (λ st. node_before first (walk x ns st)) (server_is None g)
-    ∙ (ap (node_before first) (walk_is x ns (step g text) more)
-    ∙ ap (λ n. node_before (text_in_span n s span) rest) (made_any None g))
+    rw (server_is None g, walk_is x ns (step g text) more, made_any None g) refl
 walk_is x (node (element_node h kids) ns) g more =
-    let own = first_id h in
-    let made = made_now (first_waiting (walk_state g)) own g.used in
-    let t = step g (element own) in
+    let t = step g (element (first_id h)) in
     let u = finished t (events x kids) in
-    let inside = makes t (events x kids) in
     let after = makes u (events x ns) in
-    let kids' = nodes_with_anchors (inside ++ (after ++ more)) kids in
-    let rest = by_groups x ns u more in
-    let joined : Walked → Walked =
-    λ r. node_before (element_node (with_id made h) r.0) (walk x ns r.1) in
-    ap (λ st. joined (walk x kids st)) (server_is own g)
-    ∙ (ap joined (walk_is x kids t (after ++ more))
-    ∙ (ap (node_before (element_node (with_id made h) kids')) (walk_is x ns u more)
-    ∙ (ap (λ n. node_before (element_node (with_id n h) kids') rest) (made_any own g)
-    ∙ rw (
+    rw (
+      server_is (first_id h) g,
+      walk_is x kids t (after ++ more),
+      walk_is x ns u more,
+      made_any (first_id h) g,
       makes-append (events x kids) (events x ns) t,
       finished-append (events x kids) (events x ns) t,
-      append_assoc inside after more,
+      append_assoc (makes t (events x kids)) after more,
       drop-events x kids t (after ++ more),
-    ) refl)))
+    ) refl
 walk_is x (node (frame_node f) ns) g more =
     let ss = frame_starts x f.inner in
-    let st = walk_state g in
-    let after = after_server (first_waiting st) f.id st in
-    let rest = by_groups x ns (step g (html_frame f.id ss)) more in
-    let made = made_now (first_waiting st) f.id g.used in
-    let named : Option Name → (Name → Bool) → NodeView =
-    λ n used. frame_node (named_frame n (start_pairs used ss) f) in
-    ap (λ s. node_before (named made after.used) (walk x ns s)) (frame_is f.id ss g)
-    ∙ (ap (node_before (named made after.used)) (walk_is x ns (step g (html_frame f.id ss)) more)
-    ∙ (ap (λ s. node_before (named made s.used) rest) (server_is f.id g)
-    ∙ ap (λ n. node_before
-    (named n (with_made (made_for f.id (first_label g.queue) g.used g.queue) g.used)) rest)
-    (made_any f.id g)))
+    rw (
+      frame_is f.id ss g,
+      walk_is x ns (step g (html_frame f.id ss)) more,
+      server_is f.id g,
+      made_any f.id g,
+    ) refl
 
 pub one_walk_serves : OneWalkServes
 unfolding element_with_anchors anchor_of
 one_walk_serves x e =
-    let used = stands_in (element_names e) in
-    let g = groups [] used (λ l. None) in
+    let g = at_start e in
     let es = events x e.1 in
     let whole = walk_is x e.1 g [] in
     let all = append-nil (makes g es) ∙ makes_is es g in (

@@ -15,7 +15,7 @@ abbrev pub event_dest : Event → Option ℕ → Option ℕ
 event_dest (tag t) dest = tag_dest t dest
 event_dest (text content span) dest = None
 event_dest (frame f) dest = None
-event_dest (enter h) dest = None
+event_dest (enter h kids) dest = None
 event_dest leave dest = None
 
 -- the dead link at an event, if there is one
@@ -23,5 +23,5 @@ abbrev pub event_dead_links : Hrefs → Option ℕ → Event → List DeadLinkVi
 event_dead_links hrefs dest (tag t) = []
 event_dead_links hrefs dest (text content span) = []
 event_dead_links hrefs dest (frame f) = []
-event_dead_links hrefs dest (enter h) = dead_link hrefs (open_dest h dest) h.span
+event_dead_links hrefs dest (enter h kids) = dead_link hrefs (open_dest h dest) h.span
 event_dead_links hrefs dest leave = []

@@ -125,35 +125,29 @@ fn add_link(
     Ok(())
 }
 
-/// Returns the destination that counts right after a visit, given the one right before it.
-fn visit_dest(visit: Visit<'_>, dest: Option<Location>) -> Option<Location>
-    ensures { option_map (λ l. l.0) result
-        ≡ event_dest (event_of visit.entry) (option_map (λ l. l.0) dest) }
-{
-    match visit {
-        Visit::Tag(tag) => tag_dest(tag, dest),
-        Visit::Text(_, _) | Visit::Frame(_) | Visit::Enter(_) | Visit::Leave => None,
-    }
-}
-
 /// Appends the link of an element that is entered, if it is dead after tags with that destination.
+/// Returns the destination that counts right after the visit.
 fn add_visited(
     visit: Visit<'_>,
     alloc: Global,
     found: FoundTargets<'_>,
     dest: Option<Location>,
     dead: &mut Vec<DeadLink>,
-) -> Result<(), AllocError>
-    ensures { OnOk result (dead_links_view dead.new.items ≡ dead_links_view dead.old.items
+) -> Result<Option<Location>, AllocError>
+    ensures dead { OnOk result (dead_links_view dead.new.items ≡ dead_links_view dead.old.items
         ++ event_dead_links (live_hrefs_view found.entry) (option_map (λ l. l.0) dest)
         (event_of visit.entry)) }
+    ensures dest { IfOk result (λ later. option_map (λ l. l.0) later
+        ≡ event_dest (event_of visit.entry) (option_map (λ l. l.0) dest)) }
 {
     match visit {
+        Visit::Tag(tag) => return Ok(tag_dest(tag, dest)),
         Visit::Enter(element) => {
-            add_link(alloc, found, open_dest(element, dest), element.span, dead)
+            add_link(alloc, found, open_dest(element, dest), element.span, dead)?;
         }
-        Visit::Tag(_) | Visit::Text(_, _) | Visit::Frame(_) | Visit::Leave => Ok(()),
+        Visit::Text(_, _) | Visit::Frame(_) | Visit::Leave => {}
     }
+    Ok(None)
 }
 
 /// Appends the dead links of nodes, in document order.
@@ -169,8 +163,7 @@ fn add_nodes(
     let mut dest = None;
     let mut walk = Walk::over(alloc, nodes);
     while let Some(visit) = walk.next()? {
-        add_visited(visit, alloc, found, dest, dead)?;
-        dest = visit_dest(visit, dest);
+        dest = add_visited(visit, alloc, found, dest, dead)?;
     }
     Ok(())
 }

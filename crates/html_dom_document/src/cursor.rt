@@ -1,6 +1,6 @@
 //! The cursor of a walk along siblings, which gives each its DOM index.
 
-ghost use Rattle.std.specs.Prelude.{◌≡◌, ◌<◌, ◌^◌, IsTrue, suc};
+ghost use Rattle.std.specs.Prelude.{◌≡◌, ◌<◌, ◌^◌, suc};
 ghost use Rattle.html_dom_tree.specs.Views.{node_view};
 ghost use Rattle.html_dom_document.specs.Cursor.{element_index, index_at, cursor_after, past_element, first_cursor};
 
@@ -10,8 +10,8 @@ use html_dom_tree::HtmlNode;
 #[derive(Clone, Copy)]
 pub(crate) struct Cursor {
     /// The number of elements, frames and ended runs of texts so far.
-    pub(crate) passed: usize,
-    pub(crate) after_text: bool,
+    passed: usize,
+    after_text: bool,
 }
 
 impl Cursor {
@@ -39,30 +39,13 @@ impl Cursor {
         }
     }
 
-    /// Returns whether two more indices are numbers, as in any list that memory holds.
-    pub(crate) fn has_room(self) -> bool
-        ensures { IsTrue result → suc (element_index self) < 2 ^ 64 }
-    {
-        self.passed < usize::MAX - 1
-    }
-
-    pub(crate) fn element_index(self) -> usize
-        requires { suc (element_index self) < 2 ^ 64 }
-        ensures { result ≡ element_index self }
-    {
-        if self.after_text {
-            self.passed + 1
-        } else {
-            self.passed
-        }
-    }
-
-    pub(crate) fn pass_element(&mut self) -> usize
+    fn pass_element(&mut self) -> usize
         requires { suc (element_index self.old) < 2 ^ 64 }
         ensures index { result ≡ element_index self.old }
         ensures cursor { self.new ≡ past_element self.old }
     {
-        let index = self.element_index();
+        let ended = if self.after_text { 1 } else { 0 };
+        let index = self.passed + ended;
         *self = Cursor {
             passed: index + 1,
             after_text: false,

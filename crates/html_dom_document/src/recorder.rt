@@ -1,9 +1,9 @@
 //! What is recorded of a tree: its start tags, and the links in its frames.
 
-ghost use Rattle.std.specs.Prelude.{◌≡◌, ◌<◌, ◌^◌, [], IfOk, option_map, suc};
+ghost use Rattle.std.specs.Prelude.{◌≡◌, [], IfOk, OnOk, option_map};
 ghost use Rattle.html_dom_tree.specs.{FrameViews.{point_view, tag_view, frame_view, frame_item_view}, Views.{nodes_view}};
 ghost use Rattle.html_dom_walk.specs.Walks.{event_of};
-ghost use Rattle.html_dom_document.specs.{Cursor.{element_index}, DomWalks.{event_links, event_places, path_view, siblings_view}};
+ghost use Rattle.html_dom_document.specs.DomWalks.{event_links, event_places, path_view, siblings_past, siblings_view};
 ghost use Rattle.html_dom_document.specs.Places.{document_places, frame_links, frame_places, item_links, item_places, link_targets, nodes_links, tag_places};
 ghost use Rattle.html_dom_document.specs.Records.{Records, location_view, locations_view, places_view};
 
@@ -88,20 +88,34 @@ impl Recorder {
         }
     }
 
-    fn add_visited(&mut self, visit: Visit<'_>, siblings: &Siblings) -> Result<(), AllocError>
-        requires { suc (element_index siblings.now.cursor) < 2 ^ 64 }
-        ensures { Records result self.old self.new
-            (event_places (siblings_view siblings.now) (event_of visit.entry))
+    /// Records what the walk comes to, and goes past it.
+    fn add_visited<'a>(
+        &mut self,
+        visit: Visit<'a>,
+        siblings: &mut Siblings<'a>,
+    ) -> Result<(), AllocError>
+        ensures recorded { Records result self.old self.new
+            (event_places (siblings_view siblings.old) (event_of visit.entry))
             (event_links (event_of visit.entry)) }
+        ensures passed { OnOk result (siblings_view siblings.new
+            ≡ siblings_past (siblings_view siblings.old) (event_of visit.entry)) }
     {
         match visit {
-            Visit::Tag(tag) => self.add_tag(tag, siblings.path(siblings.cursor.passed), None),
-            Visit::Frame(frame) => {
-                let index = siblings.cursor.element_index();
-                self.add_frame(&frame.inner, siblings.path(index))
+            Visit::Enter(element) => return siblings.enter(element),
+            Visit::Leave => siblings.leave(),
+            Visit::Tag(tag) => {
+                let index = siblings.pass();
+                self.add_tag(tag, siblings.path(index), None)?;
             }
-            Visit::Text(_, _) | Visit::Enter(_) | Visit::Leave => Ok(()),
+            Visit::Frame(frame) => {
+                let index = siblings.pass();
+                self.add_frame(&frame.inner, siblings.path(index))?;
+            }
+            Visit::Text(_, _) => {
+                let _ = siblings.pass();
+            }
         }
+        Ok(())
     }
 
     /// Records the nodes of a document.
@@ -115,14 +129,10 @@ impl Recorder {
             places: Vec::new(alloc),
             links: Vec::new(alloc),
         };
-        let mut siblings = Siblings::new(alloc);
+        let mut siblings = Siblings::of(alloc, nodes);
         let mut walk = Walk::over(alloc, nodes);
         while let Some(visit) = walk.next()? {
-            if !siblings.cursor.has_room() {
-                return Err(AllocError);
-            }
-            recorder.add_visited(visit, &siblings)?;
-            siblings.pass(visit)?;
+            recorder.add_visited(visit, &mut siblings)?;
         }
         Ok(recorder)
     }

@@ -1,14 +1,14 @@
 //! The siblings that a walk over a tree is among, with their place in a browser's tree.
 
-ghost use Rattle.std.specs.Prelude.{◌≡◌, ◌<◌, ◌^◌, ◌++◌, ◌∷◌, [], suc, IfOk, OnOk};
-ghost use Rattle.html_dom_tree.specs.Views.{element_view};
-ghost use Rattle.html_dom_walk.specs.{Events.{enter, leave}, Walks.{event_of}};
-ghost use Rattle.html_dom_document.specs.{Cursor.{element_index}, DomWalks.{first_siblings, path_view, siblings_past, siblings_view}};
+ghost use Rattle.std.specs.Prelude.{◌≡◌, ◌++◌, ◌∷◌, [], IfOk, OnOk};
+ghost use Rattle.html_dom_tree.specs.Views.{element_view, nodes_view};
+ghost use Rattle.html_dom_walk.specs.Events.{enter, leave};
+ghost use Rattle.html_dom_document.specs.{DomIndices.{dom_indices}, IndexWalks.{indices_left}};
+ghost use Rattle.html_dom_document.specs.DomWalks.{first_siblings, index_next, past_next, path_view, siblings_past, siblings_view};
 
-use crate::cursor::Cursor;
+use crate::dom_indices::{DomIndices, HtmlSliceExt};
 use crate::element::is_named_html;
-use html_dom_tree::HtmlElement;
-use html_dom_walk::Visit;
+use html_dom_tree::{HtmlElement, HtmlNode};
 use std::alloc::{AllocError, Global};
 
 /// The path of a node: that of its parent, and its own DOM index.
@@ -31,30 +31,37 @@ impl NodePath<'_> {
 
 /// An element that is open.
 #[derive(Clone, Copy)]
-pub(crate) struct Outer {
-    /// The cursor behind it.
-    pub(crate) cursor: Cursor,
+pub(crate) struct Outer<'a> {
+    /// The siblings behind it.
+    pub(crate) left: DomIndices<'a>,
     /// The length of the path of its parent.
     pub(crate) depth: usize,
 }
 
 /// The siblings that a walk is among.
 #[derive(Drop)]
-pub(crate) struct Siblings {
-    /// The cursor at the next of them.
-    pub(crate) cursor: Cursor,
+pub(crate) struct Siblings<'a> {
+    /// Those that the walk comes to next.
+    left: DomIndices<'a>,
     /// The path of their parent, without `html` elements.
     parent: Vec<usize>,
     /// The open elements, the innermost last.
-    outer: Vec<Outer>,
+    outer: Vec<Outer<'a>>,
 }
 
-impl Siblings {
-    pub(crate) fn new(alloc: Global) -> Siblings
-        ensures { siblings_view result ≡ first_siblings }
+/// Returns the iterator over nodes with their DOM indices.
+fn numbered(nodes: &[HtmlNode]) -> DomIndices<'_>
+    ensures { indices_left result ≡ dom_indices (nodes_view nodes.now) }
+{
+    nodes.iter_with_dom_indices()
+}
+
+impl<'a> Siblings<'a> {
+    pub(crate) fn of(alloc: Global, nodes: &'a [HtmlNode]) -> Siblings<'a>
+        ensures { siblings_view result ≡ first_siblings (nodes_view nodes.now) }
     {
         Siblings {
-            cursor: Cursor::new(),
+            left: numbered(nodes),
             parent: Vec::new(alloc),
             outer: Vec::new(alloc),
         }
@@ -69,46 +76,38 @@ impl Siblings {
         }
     }
 
-    /// Goes past what the walk comes to.
-    pub(crate) fn pass(&mut self, visit: Visit<'_>) -> Result<(), AllocError>
-        requires { suc (element_index self.old.cursor) < 2 ^ 64 }
-        ensures { OnOk result (siblings_view self.new
-            ≡ siblings_past (siblings_view self.old) (event_of visit.entry)) }
+    /// Goes past the next of them, and returns its DOM index.
+    pub(crate) fn pass(&mut self) -> usize
+        ensures index { result ≡ index_next (siblings_view self.old) }
+        ensures past { siblings_view self.new ≡ past_next (siblings_view self.old) }
     {
-        match visit {
-            Visit::Tag(_) => {}
-            Visit::Text(_, _) => self.cursor.after_text = true,
-            Visit::Frame(_) => {
-                self.cursor.pass_element();
-            }
-            Visit::Enter(element) => self.enter(element)?,
-            Visit::Leave => self.leave(),
+        match self.left.next() {
+            Some((_, index)) => index,
+            None => 0,
         }
-        Ok(())
     }
 
-    fn enter(&mut self, element: &HtmlElement) -> Result<(), AllocError>
-        requires { suc (element_index self.old.cursor) < 2 ^ 64 }
-        ensures { OnOk result (siblings_view self.new
-            ≡ siblings_past (siblings_view self.old) (enter (element_view element.now).0)) }
+    pub(crate) fn enter(&mut self, element: &'a HtmlElement) -> Result<(), AllocError>
+        ensures { let e = element_view element.now in OnOk result (siblings_view self.new
+            ≡ siblings_past (siblings_view self.old) (enter e.0 e.1)) }
     {
-        let index = self.cursor.pass_element();
+        let index = self.pass();
         self.outer.push(Outer {
-            cursor: self.cursor,
+            left: self.left,
             depth: self.parent.len(),
         })?;
-        self.cursor = Cursor::new();
+        self.left = numbered(&element.children);
         if !is_named_html(element) {
             self.parent.push(index)?;
         }
         Ok(())
     }
 
-    fn leave(&mut self)
+    pub(crate) fn leave(&mut self)
         ensures { siblings_view self.new ≡ siblings_past (siblings_view self.old) leave }
     {
-        if let Some(Outer { cursor, depth }) = self.outer.pop() {
-            self.cursor = cursor;
+        if let Some(Outer { left, depth }) = self.outer.pop() {
+            self.left = left;
             self.parent.truncate(depth);
         }
     }

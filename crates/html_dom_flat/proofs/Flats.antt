@@ -10,10 +10,8 @@ joined (node n ns) ms = node n (joined ns ms)
 
 pub count_some : (n : NodeView) → 0 < node_count n
 unfolding node_count
-count_some (tag_node t) = omega arith
-count_some (text_node s span) = omega arith
 count_some (element_node h ns) = omega arith
-count_some (frame_node f) = omega arith
+count_some n = omega arith
 
 pub joined_none : (ns : NodesView) → joined ns none ≡ ns
 joined_none none = refl
@@ -86,14 +84,11 @@ mutual
   unfolding node_flat node_count
 
   pub length_one : (index : ℕ) (n : NodeView) → length (node_flat index n) ≡ node_count n
-  length_one index (element_node h ns) =
-      let inside = length_all (index + 1) ns in omega (arith, inside)
+  length_one index (element_node h ns) = omega (arith, length_all (index + 1) ns)
   length_one index x = refl
 
   pub length_all : (index : ℕ) (ns : NodesView) → length (nodes_flat index ns) ≡ nodes_count ns
   length_all index none = refl
   length_all index (node n ns) =
-      let one = length_one index n in
-      let others = length_all (index + node_count n) ns in
       length-append (node_flat index n) (nodes_flat (index + node_count n) ns)
-      ∙ omega (arith, one, others)
+      ∙ omega (arith, length_one index n, length_all (index + node_count n) ns)

@@ -69,10 +69,8 @@ pairs_stay old new (p ∷ ps) attrs grows made =
       given = and_from (is_pair_given new p) _ (lt-ltb _ _ here.0) others.given;
     }
 
-pairs_more :
-    {E : Type 0} (old new : NamesView) (pairs : List FlatPair) (attrs : List TextPair)
-    (attr : List ℕ) (number : ℕ) (value : String Global) →
-    ArePairsOf old pairs attrs →
+pairs_more : {E : Type 0} (old new : NamesView) (pairs : List FlatPair) (attrs : List TextPair)
+    (attr : List ℕ) (number : ℕ) (value : String Global) → ArePairsOf old pairs attrs →
     Numbers {E = E} (Ok number) old.attrs new.attrs attr old new (with_attr old attr) →
     ArePairsOf new (pairs ++ (number, value) ∷ []) (attrs ++ (attr, text_view value) ∷ [])
 pairs_more {E} old new pairs attrs attr number value made asked =
@@ -83,15 +81,12 @@ pairs_more {E} old new pairs attrs attr number value made asked =
       same = rw (map-append, kept.same, table, asked.number, name_at-added old.attrs attr) refl;
       given = list_all-append (is_pair_given new) pairs ((number, value) ∷ [])
           ∙ and_from (list_all (is_pair_given new) pairs) _ kept.given
-          (and_from (is_pair_given new (number, value)) true
-          (lt-ltb _ _ asked.below) refl);
+          (and_from (is_pair_given new (number, value)) true (lt-ltb _ _ asked.below) refl);
     }
 
-pub numbered_more :
-    {E : Type 0} (old new : NamesView) (pairs : List FlatPair)
+pub numbered_more : {E : Type 0} (old new : NamesView) (pairs : List FlatPair)
     (seen : List (HtmlAttr × String Global)) (attr : HtmlAttr) (number : ℕ)
-    (value : String Global) →
-    ArePairsOf old pairs (map pair_view seen) →
+    (value : String Global) → ArePairsOf old pairs (map pair_view seen) →
     Numbers {E = E} (Ok number) old.attrs new.attrs attr old new (with_attr old attr) →
     ArePairsOf new (pairs ++ (number, value) ∷ []) (map pair_view (seen ++ (attr, value) ∷ []))
 numbered_more {E} old new pairs seen attr number value made asked =

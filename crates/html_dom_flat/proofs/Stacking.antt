@@ -1,8 +1,8 @@
 -- The stack at the start of a list holds the nodes that the list spells.
-use Rattle.std.proofs.Common.{◌≡◌, ℕ, zero, suc, ◌+◌, ◌-◌, ◌<◌, Bool, true, false, if◌then◌else◌, nat_lt, List, [], ◌∷◌, ◌++◌, refl, ap, subst, sym, ◌∙◌, arith, length, drop, get_or, None}
-use Rattle.std.proofs.lemmas.{Bool.{ltb-true, lt-ltb}, List.{map-append, reverse-append}}
+use Rattle.std.proofs.Common.{◌≡◌, ℕ, zero, suc, ◌+◌, ◌-◌, ◌<◌, Bool, true, false, if◌then◌else◌, nat_lt, List, [], ◌∷◌, ◌++◌, refl, subst, sym, ◌∙◌, arith, length, drop, get_or, None}
+use Rattle.std.proofs.lemmas.{Bool.{ltb-true, lt-ltb}, List.{drop_all, drop_more, drop-map, length-map, map-append, reverse-append}}
 use Rattle.html_names_table.specs.NameTables.{NamesView}
-use Rattle.html_dom_tree.specs.{Tree.{NodeView, NodesView, none, node}, Views.{nodes_of}, declared.node.HtmlNode.{HtmlNode}}
+use Rattle.html_dom_tree.specs.{Tree.{NodeView, NodesView, none}, Views.{nodes_of}, declared.node.HtmlNode.{HtmlNode}}
 use Rattle.html_dom_flat.specs.Flat.{FlatNodeView, flat_tag, flat_text, flat_frame, flat_element, node_count, nodes_count, front, back, spelled_nodes}
 use Rattle.html_dom_flat.specs.FlatViews.{flat_node_view, flat_nodes_view}
 use Rattle.html_dom_flat.specs.Stacks.{IndexedView, indexed_view, stack_view, stack_nodes, is_top_before, stacked_before, IsPopped, rest_after, made_of, list_stack}
@@ -30,8 +30,7 @@ unfolding back
 back_none zero = refl
 back_none (suc count) = refl
 
-taken_step :
-    (past index : ℕ) (x : IndexedView) (xs : List IndexedView) (b : Bool) (count : ℕ) →
+taken_step : (past index : ℕ) (x : IndexedView) (xs : List IndexedView) (b : Bool) (count : ℕ) →
     nat_lt x.0 past ≡ b → past - index ≡ count → IsLaid index (x ∷ xs) →
     Taken (past - (index + node_count x.1)) (index + node_count x.1) (stack_nodes xs)
     (stacked_before past xs) (rest_after past xs) →
@@ -45,8 +44,8 @@ taken_step past index x xs true (suc count) test is laid later =
     let counted : index + node_count x.1 + nodes_count (nodes_of (stacked_before past xs))
     ≡ index + (node_count x.1 + nodes_count (nodes_of (stacked_before past xs))) = omega arith in
     record {
-      first = ap (node x.1) (later.first ∙ ap (λ k. front k (stack_nodes xs)) less);
-      others = later.others ∙ ap (λ k. back k (stack_nodes xs)) less;
+      first = rw (later.first, less) refl;
+      others = rw (later.others, less) refl;
       laid = subst (λ p. IsLaid p (rest_after past xs)) counted later.laid;
     }
 taken_step past index x xs false zero test is laid later =
@@ -63,11 +62,8 @@ taken : (past index : ℕ) (xs : List IndexedView) → IsLaid index xs →
     Taken (past - index) index (stack_nodes xs) (stacked_before past xs) (rest_after past xs)
 unfolding stacked_before rest_after
 taken past index [] laid =
-    record {
-      first = sym (front_none (past - index));
-      others = sym (back_none (past - index));
-      laid = tt;
-    }
+    let k = past - index in
+    record { first = sym (front_none k); others = sym (back_none k); laid = tt }
 taken past index (x ∷ xs) laid =
     taken_step past index x xs (nat_lt x.0 past) (past - index) refl refl laid
     (taken past (index + node_count x.1) xs laid.1)
@@ -110,16 +106,12 @@ stack_push stack x = rw (map-append, reverse-append) refl
 drop_at : (names : NamesView) (nodes : List FlatNode) (index : ℕ) (d : FlatNode) →
     index < length nodes → drop index (flat_nodes_view names nodes)
     ≡ flat_node_view names (get_or nodes index d) ∷ drop (index + 1) (flat_nodes_view names nodes)
-drop_at names [] index d below = absurd (omega arith)
-drop_at names (n ∷ ns) zero d below = refl
-drop_at names (n ∷ ns) (suc index) d below =
-    let next : suc index + 1 ≡ suc (index + 1) = omega arith in
-    rw next (drop_at names ns index d (omega arith))
+drop_at names nodes index d below =
+    let f = flat_node_view names in
+    rw (drop-map f index nodes, drop-map f (index + 1) nodes, drop_more nodes index d below) refl
 
-pub stacked_more :
-    (names : NamesView) (nodes : List FlatNode) (index : ℕ) (d : FlatNode)
-    (old mid new : List (ℕ × HtmlNode)) (made : HtmlNode) →
-    index < length nodes →
+pub stacked_more : (names : NamesView) (nodes : List FlatNode) (index : ℕ) (d : FlatNode)
+    (old mid new : List (ℕ × HtmlNode)) (made : HtmlNode) → index < length nodes →
     stack_view old ≡ list_stack (index + 1) (drop (index + 1) (flat_nodes_view names nodes)) →
     ((indexed_view (index, made)).1, stack_view mid)
     ≡ made_of (flat_node_view names (get_or nodes index d)) (stack_view old) →
@@ -146,12 +138,8 @@ unfolding stacked_before rest_after
 none_popped past [] test = (refl, refl, refl)
 none_popped past (x ∷ xs) test = (rw test refl, rw test refl, refl)
 
-drop_all : (names : NamesView) (nodes : List FlatNode) →
-    drop (length nodes) (flat_nodes_view names nodes) ≡ []
-drop_all names [] = refl
-drop_all names (n ∷ ns) = drop_all names ns
-
 pub stacked_none : (names : NamesView) (nodes : List FlatNode) →
     list_stack (length nodes) (drop (length nodes) (flat_nodes_view names nodes)) ≡ []
 unfolding list_stack
-stacked_none names nodes = rw (drop_all names nodes) refl
+stacked_none names nodes = rw (drop_all (length nodes) (flat_nodes_view names nodes)
+    (omega (arith, length-map nodes (flat_node_view names)))) refl

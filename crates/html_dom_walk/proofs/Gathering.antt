@@ -28,7 +28,7 @@ module _ {A : Type 0} where
       let path = parent ++ index ∷ [] in
       let rest = events_of parent (suc index) ns later in
       let others = nodes_gathered f parent (suc index) ns in
-      in_front (f (path, enter h)) (nodes_gathered f path 0 kids) (f (path, leave) ++ others)
+      in_front (f (path, enter h kids)) (nodes_gathered f path 0 kids) (f (path, leave) ++ others)
       (gathered f later) _
       (gathered_is f path 0 kids ((path, leave) ∷ rest)
       ∙ ap (λ l. nodes_gathered f path 0 kids ++ l)
@@ -47,9 +47,10 @@ module _ {A : Type 0} where
   gathered_found f parent index (node (frame_node g) ns) =
       ap (λ l. f (frame g) ++ l) (gathered_found f parent (suc index) ns)
   gathered_found f parent index (node (element_node h kids) ns) =
-      ap (λ l. f (enter h) ++ (l ++ (f leave ++ nodes_gathered (λ e. f e.1) parent (suc index) ns)))
+      ap (λ l. f (enter h kids)
+      ++ (l ++ (f leave ++ nodes_gathered (λ e. f e.1) parent (suc index) ns)))
       (gathered_found f (parent ++ index ∷ []) 0 kids)
-      ∙ ap (λ l. f (enter h) ++ (nodes_found f kids ++ (f leave ++ l)))
+      ∙ ap (λ l. f (enter h kids) ++ (nodes_found f kids ++ (f leave ++ l)))
       (gathered_found f parent (suc index) ns)
 
   pub found_is : FoundIs A

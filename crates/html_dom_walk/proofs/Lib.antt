@@ -1,6 +1,6 @@
 pub mod Events
 pub mod Gathering
-pub mod Levels
 pub mod Passing
 pub mod Skipping
+pub mod Turning
 pub mod Turns

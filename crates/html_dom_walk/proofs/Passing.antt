@@ -28,7 +28,7 @@ module _ {S : Type 0} (step : S → Placed → S) (skips : S → Head → Bool) 
   ends_hidden hidden s [] = refl
   ends_hidden zero s ((path, leave) ∷ later) = refl
   ends_hidden (suc hidden) s ((path, leave) ∷ later) = ends_hidden hidden s later
-  ends_hidden hidden s ((path, enter h) ∷ later) = ends_hidden (suc hidden) s later
+  ends_hidden hidden s ((path, enter h kids) ∷ later) = ends_hidden (suc hidden) s later
   ends_hidden hidden s ((path, tag t) ∷ later) = ends_hidden hidden s later
   ends_hidden hidden s ((path, text x span) ∷ later) = ends_hidden hidden s later
   ends_hidden hidden s ((path, frame f) ∷ later) = ends_hidden hidden s later
@@ -38,7 +38,7 @@ module _ {S : Type 0} (step : S → Placed → S) (skips : S → Head → Bool) 
       (parent : List ℕ) (index : ℕ) (s : S) (h : Head) (kids ns : NodesView)
       (rest later : List Placed) (is_skipped : Bool) → skips s h ≡ is_skipped →
       let path = parent ++ index ∷ [] in
-      let inside = step s (path, enter h) in
+      let inside = step s (path, enter h kids) in
       (past step skips 0 inside (events_of path 0 kids ((path, leave) ∷ rest))
       ≡ past step skips 0 (nodes_past path 0 inside kids) ((path, leave) ∷ rest)) →
       ((t : S) → past step skips 0 t rest
@@ -48,13 +48,13 @@ module _ {S : Type 0} (step : S → Placed → S) (skips : S → Head → Bool) 
       ≡ past step skips 0 (nodes_past parent index s (node (element_node h kids) ns)) later
   element_past nodes_past goes parent index s h kids ns rest later true is within after =
       let path = parent ++ index ∷ [] in
-      let inside = step s (path, enter h) in
+      let inside = step s (path, enter h kids) in
       hidden_past 0 inside path 0 kids ((path, leave) ∷ rest)
       ∙ (after (step inside (path, leave))
       ∙ ap (λ t. past step skips 0 t later) (sym (goes.at_skipped parent index s h kids ns is)))
   element_past nodes_past goes parent index s h kids ns rest later false is within after =
       let path = parent ++ index ∷ [] in
-      within ∙ (after (step (nodes_past path 0 (step s (path, enter h)) kids) (path, leave))
+      within ∙ (after (step (nodes_past path 0 (step s (path, enter h kids)) kids) (path, leave))
       ∙ ap (λ t. past step skips 0 t later) (sym (goes.at_element parent index s h kids ns is)))
 
 pub skipped_is : {S : Type 0} → SkippedIs S
@@ -80,5 +80,6 @@ past_is step skips nodes_past goes parent index s (node (element_node h kids) ns
     let path = parent ++ index ∷ [] in
     let rest = events_of parent (suc index) ns later in
     element_past step skips nodes_past goes parent index s h kids ns rest later (skips s h) refl
-    (past_is step skips nodes_past goes path 0 (step s (path, enter h)) kids ((path, leave) ∷ rest))
+    (past_is step skips nodes_past goes path 0 (step s (path, enter h kids)) kids
+    ((path, leave) ∷ rest))
     (λ t. past_is step skips nodes_past goes parent (suc index) t ns later)

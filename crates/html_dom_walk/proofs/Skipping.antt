@@ -1,8 +1,9 @@
 -- What is left if the rest of an element is left out, and how many elements are open.
-use Rattle.std.proofs.Common.{◌≡◌, ℕ, zero, suc, ◌-◌, ◌≤◌, List, [], ◌∷◌, ◌++◌, length, refl, ap, ◌∙◌, arith}
+use Rattle.std.proofs.Common.{◌≡◌, ℕ, zero, suc, ◌-◌, ◌≤◌, List, [], ◌∷◌, ◌++◌, true, drop, length, reverse, refl, ap, ◌∙◌, arith}
 use Rattle.html_dom_tree.specs.Tree.{tag_node, text_node, element_node, frame_node, NodesView, none, node}
+use Rattle.html_dom_tree.specs.{Views.{nodes_view}, declared.node.HtmlNode.{HtmlNode}}
 use Rattle.html_dom_walk.specs.{Events.{Placed, tag, text, frame, enter, leave, events_of, from_end, ends}, WalkLaws.{SkipsBelow}}
-use Rattle.html_dom_walk.specs.Walks.{LevelView, events_after, path_in}
+use Rattle.html_dom_walk.specs.Walks.{events_after, next_in, parent_in}
 
 -- nodes are whole: what is behind them counts
 pub past_nodes : (opened : ℕ) (parent : List ℕ) (index : ℕ) (ns : NodesView) (later : List Placed) →
@@ -23,21 +24,22 @@ past_nodes opened parent index (node (element_node h kids) ns) later =
 pub skips_below : SkipsBelow
 skips_below parent index ns path later = past_nodes 0 parent index ns ((path, leave) ∷ later)
 
-pub skipped_to : (above : List LevelView) → from_end 0 (events_after above) ≡ events_after above
-skipped_to [] = refl
-skipped_to (l ∷ above) = refl
+pub skipped_to : (above : List (List HtmlNode)) (back : List ℕ) →
+    from_end 0 (events_after above back) ≡ events_after above back
+skipped_to [] back = refl
+skipped_to (ns ∷ above) back = refl
 
 pub no_more : (opened : ℕ) (es : List Placed) → length (from_end opened es) ≤ length es
 no_more opened [] = omega arith
 no_more zero ((path, leave) ∷ later) = omega arith
 no_more (suc opened) ((path, leave) ∷ later) = omega (arith, no_more opened later)
-no_more opened ((path, enter h) ∷ later) = omega (arith, no_more (suc opened) later)
+no_more opened ((path, enter h kids) ∷ later) = omega (arith, no_more (suc opened) later)
 no_more opened ((path, tag t) ∷ later) = omega (arith, no_more opened later)
 no_more opened ((path, text s span) ∷ later) = omega (arith, no_more opened later)
 no_more opened ((path, frame f) ∷ later) = omega (arith, no_more opened later)
 
 -- whole nodes end no more elements than they enter
-ends_later : (parent : List ℕ) (index : ℕ) (ns : NodesView) (later : List Placed) →
+pub ends_later : (parent : List ℕ) (index : ℕ) (ns : NodesView) (later : List Placed) →
     ends (events_of parent index ns later) ≡ ends later
 unfolding events_of
 ends_later parent index none later = refl
@@ -51,12 +53,10 @@ ends_later parent index (node (element_node h kids) ns) later =
     ap (λ n. n - 1) (ends_later path 0 kids ((path, leave) ∷ rest))
     ∙ (back ∙ ends_later parent (suc index) ns later)
 
-ends_above : (above : List LevelView) → ends (events_after above) ≡ length above
-ends_above [] = refl
-ends_above (l ∷ above) =
-    ap suc (ends_later (path_in above) l.0 l.1 (events_after above) ∙ ends_above above)
-
-pub ends_are : (index : ℕ) (ns : NodesView) (above : List LevelView) →
-    ends (events_of (path_in above) index ns (events_after above)) ≡ length above
-ends_are index ns above = ends_later (path_in above) index ns (events_after above)
-    ∙ ends_above above
+pub ends_above : (above : List (List HtmlNode)) (back : List ℕ) →
+    ends (events_after above back) ≡ length above
+ends_above [] back = refl
+ends_above (ns ∷ above) back =
+    let next = next_in true back in
+    ap suc (ends_later (reverse (parent_in true back)) next (nodes_view (drop next ns))
+    (events_after above (parent_in true back)) ∙ ends_above above (parent_in true back))

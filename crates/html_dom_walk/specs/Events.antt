@@ -8,7 +8,7 @@ pub data Event : Type 0 where
   tag : TagView → Event
   text : (content : List ℕ) (span : ℕ) → Event
   frame : HtmlFrameView → Event
-  enter : Head → Event
+  enter : (head : Head) (children : NodesView) → Event
   leave : Event
 
 -- an event and the path of its node
@@ -22,7 +22,7 @@ unfoldable mutual
   node_events path (tag_node t) later = (path, tag t) ∷ later
   node_events path (text_node s span) later = (path, text s span) ∷ later
   node_events path (element_node h kids) later =
-      (path, enter h) ∷ events_of path 0 kids ((path, leave) ∷ later)
+      (path, enter h kids) ∷ events_of path 0 kids ((path, leave) ∷ later)
   node_events path (frame_node f) later = (path, frame f) ∷ later
 
   pub events_of : (parent : List ℕ) (index : ℕ) → NodesView → (later : List Placed) → List Placed
@@ -37,7 +37,7 @@ abbrev pub from_end : (opened : ℕ) → List Placed → List Placed
 from_end opened [] = []
 from_end zero ((path, leave) ∷ later) = (path, leave) ∷ later
 from_end (suc opened) ((path, leave) ∷ later) = from_end opened later
-from_end opened ((path, enter h) ∷ later) = from_end (suc opened) later
+from_end opened ((path, enter h kids) ∷ later) = from_end (suc opened) later
 from_end opened ((path, tag t) ∷ later) = from_end opened later
 from_end opened ((path, text s span) ∷ later) = from_end opened later
 from_end opened ((path, frame f) ∷ later) = from_end opened later
@@ -46,7 +46,7 @@ from_end opened ((path, frame f) ∷ later) = from_end opened later
 abbrev pub ends : List Placed → ℕ
 ends [] = 0
 ends ((path, leave) ∷ later) = suc (ends later)
-ends ((path, enter h) ∷ later) = ends later - 1
+ends ((path, enter h kids) ∷ later) = ends later - 1
 ends ((path, tag t) ∷ later) = ends later
 ends ((path, text s span) ∷ later) = ends later
 ends ((path, frame f) ∷ later) = ends later

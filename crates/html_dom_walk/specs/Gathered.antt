@@ -17,7 +17,7 @@ nodes_gathered of_event parent index (node (text_node s span) ns) =
     of_event (parent ++ index ∷ [], text s span) ++ nodes_gathered of_event parent (suc index) ns
 nodes_gathered of_event parent index (node (element_node h kids) ns) =
     let path = parent ++ index ∷ [] in
-    of_event (path, enter h) ++ (nodes_gathered of_event path 0 kids
+    of_event (path, enter h kids) ++ (nodes_gathered of_event path 0 kids
     ++ (of_event (path, leave) ++ nodes_gathered of_event parent (suc index) ns))
 nodes_gathered of_event parent index (node (frame_node f) ns) =
     of_event (parent ++ index ∷ [], frame f) ++ nodes_gathered of_event parent (suc index) ns
@@ -29,6 +29,6 @@ nodes_found of_event (node (tag_node t) ns) = of_event (tag t) ++ nodes_found of
 nodes_found of_event (node (text_node s span) ns) =
     of_event (text s span) ++ nodes_found of_event ns
 nodes_found of_event (node (element_node h kids) ns) =
-    of_event (enter h) ++ (nodes_found of_event kids
+    of_event (enter h kids) ++ (nodes_found of_event kids
     ++ (of_event leave ++ nodes_found of_event ns))
 nodes_found of_event (node (frame_node f) ns) = of_event (frame f) ++ nodes_found of_event ns

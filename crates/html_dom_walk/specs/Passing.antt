@@ -9,8 +9,8 @@ use Rattle.html_dom_walk.specs.Events.{Placed, tag, text, frame, enter, leave}
 abbrev pub past : {S : Type 0} → (step : S → Placed → S) (skips : S → Head → Bool)
     (hidden : ℕ) → S → List Placed → S
 past step skips hidden s [] = s
-past step skips zero s ((path, enter h) ∷ later) =
-    past step skips (if skips s h then 1 else 0) (step s (path, enter h)) later
+past step skips zero s ((path, enter h kids) ∷ later) =
+    past step skips (if skips s h then 1 else 0) (step s (path, enter h kids)) later
 past step skips zero s ((path, leave) ∷ later) = past step skips 0 (step s (path, leave)) later
 past step skips zero s ((path, tag t) ∷ later) = past step skips 0 (step s (path, tag t)) later
 past step skips zero s ((path, text x span) ∷ later) =
@@ -20,7 +20,7 @@ past step skips (suc zero) s ((path, leave) ∷ later) =
     past step skips 0 (step s (path, leave)) later
 past step skips (suc (suc hidden)) s ((path, leave) ∷ later) =
     past step skips (suc hidden) s later
-past step skips (suc hidden) s ((path, enter h) ∷ later) =
+past step skips (suc hidden) s ((path, enter h kids) ∷ later) =
     past step skips (suc (suc hidden)) s later
 past step skips (suc hidden) s ((path, tag t) ∷ later) = past step skips (suc hidden) s later
 past step skips (suc hidden) s ((path, text x span) ∷ later) = past step skips (suc hidden) s later
@@ -42,8 +42,8 @@ pub record Goes {S : Type 0} (step : S → Placed → S) (skips : S → Head →
   pub at_element : (parent : List ℕ) (index : ℕ) (s : S) (h : Head) (kids ns : NodesView) →
       skips s h ≡ false → let path = parent ++ index ∷ [] in
       nodes_past parent index s (node (element_node h kids) ns) ≡ nodes_past parent (suc index)
-      (step (nodes_past path 0 (step s (path, enter h)) kids) (path, leave)) ns
+      (step (nodes_past path 0 (step s (path, enter h kids)) kids) (path, leave)) ns
   pub at_skipped : (parent : List ℕ) (index : ℕ) (s : S) (h : Head) (kids ns : NodesView) →
       skips s h ≡ true → let path = parent ++ index ∷ [] in
       nodes_past parent index s (node (element_node h kids) ns)
-      ≡ nodes_past parent (suc index) (step (step s (path, enter h)) (path, leave)) ns
+      ≡ nodes_past parent (suc index) (step (step s (path, enter h kids)) (path, leave)) ns

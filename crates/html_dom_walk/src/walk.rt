@@ -1,9 +1,9 @@
 //! The walk over a tree, and what it comes to.
 
-ghost use Rattle.std.specs.Prelude.{◌≡◌, ◌≤◌, ◌∷◌, [], IfNone, IfOk, IfSome, OnOk, OnErr, length};
+ghost use Rattle.std.specs.Prelude.{◌≡◌, ◌≤◌, ◌∷◌, [], true, false, IfNone, IfOk, IfSome, OnOk, OnErr, drop, length, min};
 ghost use Rattle.html_dom_tree.specs.Views.{nodes_view};
 ghost use Rattle.html_dom_walk.specs.Events.{ends, events_of, from_end};
-ghost use Rattle.html_dom_walk.specs.Walks.{above_view, Comes, events_left, level_view, path_before, path_in, path_of, visits_left};
+ghost use Rattle.html_dom_walk.specs.Walks.{above_view, back, Comes, events_left, next_in, parent_in, path_of, visits_left};
 
 use html_dom_tree::{HtmlElement, HtmlFrame, HtmlNode, Span, Tag};
 use std::alloc::{AllocError, Global};
@@ -23,44 +23,75 @@ pub enum Visit<'a> {
     Leave,
 }
 
-/// A list of siblings, and how many of them were visited.
-#[derive(Clone, Copy)]
-struct Level<'a> {
-    nodes: &'a [HtmlNode],
-    next: usize,
+/// The path of the node that was visited last, and whether that is one of the siblings that are
+/// visited now, or else their parent.
+#[derive(Drop)]
+struct Place {
+    path: Vec<usize>,
+    begun: bool,
 }
 
-impl<'a> Level<'a> {
-    /// Appends the index of the node that was visited last.
-    fn add_to(self, path: &mut Vec<usize>) -> Result<(), AllocError>
-        ensures { OnOk result (path.new.items ≡ path_before path.old.items self.entry.next) }
+impl Place {
+    /// Returns the index of the sibling that comes next. The greatest index is that of no node, so
+    /// nothing comes after it.
+    fn next(&self) -> usize
+        ensures { result ≡ min (next_in self.now.begun (back self.now)) usize.MAX }
     {
-        if self.next > 0 {
-            path.push(self.next - 1)?;
+        match self.path.last() {
+            Some(last) if self.begun => last.saturating_add(1),
+            _ => 0,
         }
+    }
+
+    /// Goes to the sibling with that index.
+    fn go_to(&mut self, index: usize) -> Result<(), AllocError>
+        ensures begun { OnOk result (self.new.begun ≡ true) }
+        ensures path { OnOk result
+            (back self.new ≡ index ∷ parent_in self.old.begun (back self.old)) }
+        ensures stays { OnErr result (self.new.begun ≡ self.old.begun) }
+        ensures kept { OnErr result (self.new.path.items ≡ self.old.path.items) }
+    {
+        if self.begun && !self.path.is_empty() {
+            let last = self.path.len() - 1;
+            self.path[last] = index;
+            return Ok(());
+        }
+        self.path.push(index)?;
+        self.begun = true;
         Ok(())
+    }
+
+    /// Goes to the parent of the siblings.
+    fn leave(&mut self)
+        ensures begun { self.new.begun ≡ true }
+        ensures path { back self.new ≡ parent_in self.old.begun (back self.old) }
+    {
+        if self.begun {
+            let _ = self.path.pop();
+        }
+        self.begun = true;
     }
 }
 
 /// The siblings of each open element, the innermost last.
 #[derive(Drop)]
 struct Above<'a> {
-    items: Vec<Level<'a>>,
+    items: Vec<&'a [HtmlNode]>,
 }
 
 impl<'a> Above<'a> {
-    fn push(&mut self, level: Level<'a>) -> Result<(), AllocError>
+    fn push(&mut self, siblings: &'a [HtmlNode]) -> Result<(), AllocError>
         ensures pushed { OnOk result
-            (above_view self.new ≡ level_view level.entry ∷ above_view self.old) }
+            (above_view self.new ≡ siblings.now ∷ above_view self.old) }
         ensures kept { OnErr result (above_view self.new ≡ above_view self.old) }
     {
-        self.items.push(level)?;
+        self.items.push(siblings)?;
         Ok(())
     }
 
-    fn pop(&mut self) -> Option<Level<'a>>
-        ensures some { IfSome result (λ level.
-            above_view self.old ≡ level_view level ∷ above_view self.new) }
+    fn pop(&mut self) -> Option<&'a [HtmlNode]>
+        ensures some { IfSome result (λ siblings.
+            above_view self.old ≡ siblings.now ∷ above_view self.new) }
         ensures none { IfNone result ((above_view self.old ≡ []) × (above_view self.new ≡ [])) }
     {
         self.items.pop()
@@ -70,16 +101,6 @@ impl<'a> Above<'a> {
         ensures { result ≡ length (above_view self.now) }
     {
         self.items.len()
-    }
-
-    fn path(&self) -> Result<Vec<usize>, AllocError>
-        ensures { IfOk result (λ path. path.items ≡ path_in (above_view self.now)) }
-    {
-        let mut path = Vec::new(*self.items.allocator());
-        for level in &self.items {
-            level.add_to(&mut path)?;
-        }
-        Ok(path)
     }
 }
 
@@ -97,7 +118,7 @@ impl<'a> Above<'a> {
 /// assert!(rt; matches!(walk.next()?, Some(Visit::Enter(_))));
 /// assert!(rt; matches!(walk.next()?, Some(Visit::Enter(_))));
 /// assert!(rt; matches!(walk.next()?, Some(Visit::Text(_, _))));
-/// assert!(rt; walk.path()?.as_slice() == [0, 0, 0].as_slice());
+/// assert!(rt; walk.path() == [0, 0, 0].as_slice());
 /// assert_eq!(rt; walk.depth(), 2);
 /// assert!(rt; matches!(walk.next()?, Some(Visit::Leave)));
 /// assert!(rt; matches!(walk.next()?, Some(Visit::Leave)));
@@ -117,8 +138,9 @@ impl<'a> Above<'a> {
 /// and what it gathers is led back to a recursion over the tree by the [laws](crate::laws).
 #[derive(Drop)]
 pub struct Walk<'a> {
-    level: Level<'a>,
+    siblings: &'a [HtmlNode],
     above: Above<'a>,
+    place: Place,
 }
 
 impl<'a> Walk<'a> {
@@ -128,9 +150,13 @@ impl<'a> Walk<'a> {
         ensures path { path_of result ≡ [] }
     {
         Walk {
-            level: Level { nodes, next: 0 },
+            siblings: nodes,
             above: Above {
                 items: Vec::new(alloc),
+            },
+            place: Place {
+                path: Vec::new(alloc),
+                begun: false,
             },
         }
     }
@@ -143,45 +169,60 @@ impl<'a> Walk<'a> {
         ensures stays { OnErr result (events_left self.new ≡ events_left self.old) }
         ensures path { OnErr result (path_of self.new ≡ path_of self.old) }
     {
-        let Level { nodes, next } = self.level;
-        let Some(node) = nodes.get(next) else {
+        let index = self.place.next();
+        let Some(node) = self.siblings.get(index) else {
             return Ok(self.leave());
-        };
-        let behind = Level {
-            nodes,
-            next: next + 1,
         };
         match node {
             HtmlNode::Tag(tag) => {
-                self.level = behind;
+                self.place.go_to(index)?;
                 Ok(Some(Visit::Tag(tag)))
             }
             HtmlNode::Text(text, span) => {
-                self.level = behind;
+                self.place.go_to(index)?;
                 Ok(Some(Visit::Text(text, *span)))
             }
             HtmlNode::Frame(frame) => {
-                self.level = behind;
+                self.place.go_to(index)?;
                 Ok(Some(Visit::Frame(frame)))
             }
             HtmlNode::Element(element) => {
-                self.above.push(behind)?;
-                self.level = Level {
-                    nodes: &element.children,
-                    next: 0,
-                };
+                self.enter(element, index)?;
                 Ok(Some(Visit::Enter(element)))
             }
         }
     }
 
+    /// Goes to the element with that index, and to what is below it.
+    fn enter(&mut self, element: &'a HtmlElement, index: usize) -> Result<(), AllocError>
+        ensures siblings { OnOk result (self.new.siblings.now ≡ element.now.children.items) }
+        ensures begun { OnOk result (self.new.place.begun ≡ false) }
+        ensures path { OnOk result (back self.new.place
+            ≡ index ∷ parent_in self.old.place.begun (back self.old.place)) }
+        ensures above { OnOk result
+            (above_view self.new.above ≡ self.old.siblings.now ∷ above_view self.old.above) }
+        ensures stays { OnErr result (events_left self.new ≡ events_left self.old) }
+        ensures kept { OnErr result (path_of self.new ≡ path_of self.old) }
+    {
+        self.above.push(self.siblings)?;
+        if let Err(AllocError) = self.place.go_to(index) {
+            let _ = self.above.pop();
+            return Err(AllocError);
+        }
+        self.siblings = &element.children;
+        self.place.begun = false;
+        Ok(())
+    }
+
     fn leave(&mut self) -> Option<Visit<'a>>
-        requires { (level_view self.old.level).1 ≡ nodes_view [] }
+        requires { let p = self.old.place in
+            drop (next_in p.begun (back p)) self.old.siblings.now ≡ [] }
         ensures { Comes (events_left self.old) result (path_of self.new) (events_left self.new) }
     {
         match self.above.pop() {
-            Some(level) => {
-                self.level = level;
+            Some(siblings) => {
+                self.siblings = siblings;
+                self.place.leave();
                 Some(Visit::Leave)
             }
             None => None,
@@ -196,17 +237,15 @@ impl<'a> Walk<'a> {
         ensures path { path_of self.new ≡ path_of self.old }
         ensures fewer { visits_left self.new ≤ visits_left self.old }
     {
-        self.level.nodes = &[];
+        self.siblings = &[];
     }
 
     /// Returns the path of the node that was visited last: the index of each child on the way to it
-    /// from the nodes that are walked. It is empty at the start. Fails only if an allocation fails.
-    pub fn path(&self) -> Result<Vec<usize>, AllocError>
-        ensures { IfOk result (λ path. path.items ≡ path_of self.now) }
+    /// from the nodes that are walked. It is empty at the start.
+    pub fn path(&self) -> &[usize]
+        ensures { result.now ≡ path_of self.now }
     {
-        let mut path = self.above.path()?;
-        self.level.add_to(&mut path)?;
-        Ok(path)
+        &self.place.path
     }
 
     /// Returns how many elements are entered and not left.

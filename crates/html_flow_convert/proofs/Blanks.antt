@@ -50,25 +50,16 @@ ends_at_other : (made run left : List NodeView) (n : NodeView) → begins_with_t
     (is_blank_node n || is_tag n) ≡ false →
     runs_of made run (n ∷ left) ≡ runs_of ((made ++ run_nodes run) ++ n ∷ []) [] left
 unfolding blank_front after_front
-ends_at_other made run left n h other = rw (
-  other,
-  append-nil run,
-  run_is run h,
-  append_assoc (made ++ run_nodes run) (n ∷ []),
-  append_assoc made (run_nodes run),
-) refl
+ends_at_other made run left n h other =
+    rw (other, append-nil run, run_is run h, append_assoc (made ++ run_nodes run) (n ∷ []))
+    (rw (append_assoc made (run_nodes run)) refl)
 
-passes_tag : (made left : List NodeView) (n : NodeView) → is_tag n ≡ true →
-    is_blank_node n ≡ false →
-    runs_of made [] (n ∷ left) ≡ runs_of ((made ++ run_nodes []) ++ n ∷ []) [] left
-unfolding blank_front after_front
-passes_tag made left n tag other =
-    rw (other, tag, tag, append-nil made, append_assoc made (n ∷ [])) refl
-
+-- a tag, or another node, where no run is open
 ends_by : (tag : Bool) (made left : List NodeView) (n : NodeView) → is_tag n ≡ tag →
     is_blank_node n ≡ false →
     runs_of made [] (n ∷ left) ≡ runs_of ((made ++ run_nodes []) ++ n ∷ []) [] left
-ends_by true made left n e h = passes_tag made left n e h
+unfolding blank_front after_front
+ends_by true made left n e h = rw (h, e, e, append-nil made, append_assoc made (n ∷ [])) refl
 ends_by false made left n e h =
     ends_at_other made [] left n refl (or_from (is_blank_node n) (is_tag n) h e)
 

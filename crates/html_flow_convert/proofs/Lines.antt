@@ -3,7 +3,7 @@ use Rattle.std.proofs.Common.{◌≡◌, ℕ, ◌+◌, ◌-◌, ◌<◌, ◌≤�
 use Rattle.std.{proofs.Math.Seq.{drop-append_seam}, proofs.lemmas.List.{drop-map, drop_more, drop_all, drop-drop}, specs.List.{list_all}}
 use Rattle.html_names_core.specs.Characters.{is_ignorable}
 use Rattle.html_names_table.specs.NameTables.{NamesView}
-use Rattle.html_dom_tree.specs.Tree.{NodeView, tag_node, text_node, element_node, frame_node, NodesView, none, node}
+use Rattle.html_dom_tree.specs.Tree.{tag_node, text_node, element_node, frame_node, NodesView, none, node}
 use Rattle.html_dom_flat.proofs.Flats.{joined, length_all}
 use Rattle.html_dom_flat.specs.Flat.{FlatNodeView, flat_tag, flat_text, flat_frame, flat_element, node_count, nodes_count, node_flat, nodes_flat}
 use Rattle.html_dom_flat.specs.{FlatViews.{flat_node_view, flat_nodes_view}, declared.flat_node.FlatNode.{FlatNode}}
@@ -53,13 +53,12 @@ things_joined : (ns ms : NodesView) →
     nodes_things (joined ns ms) ≡ nodes_things ns ++ nodes_things ms
 unfolding nodes_things
 things_joined none ms = refl
-things_joined (node n ns) ms = ap (λ ts. node_things n ++ ts) (things_joined ns ms)
-    ∙ sym (append_assoc (node_things n) (nodes_things ns) (nodes_things ms))
+things_joined (node n ns) ms = rw (things_joined ns ms, append_assoc) refl
 
 turns_joined : (ns ms : NodesView) → nodes_turns (joined ns ms) ≡ nodes_turns ns + nodes_turns ms
 unfolding nodes_turns
 turns_joined none ms = omega arith
-turns_joined (node n ns) ms = let others = turns_joined ns ms in omega (arith, others)
+turns_joined (node n ns) ms = omega (arith, turns_joined ns ms)
 
 flat_joined : (place : ℕ) (ns ms : NodesView) → nodes_flat place (joined ns ms)
     ≡ nodes_flat place ns ++ nodes_flat (place + nodes_count ns) ms
@@ -69,10 +68,7 @@ flat_joined place none ms =
 flat_joined place (node n ns) ms =
     let same : (place + node_count n) + nodes_count ns ≡ place + (node_count n + nodes_count ns)
     = omega arith in
-    ap (λ fs. node_flat place n ++ fs) (flat_joined (place + node_count n) ns ms
-    ∙ ap (λ p. nodes_flat (place + node_count n) ns ++ nodes_flat p ms) same)
-    ∙ sym (append_assoc (node_flat place n) (nodes_flat (place + node_count n) ns)
-    (nodes_flat (place + (node_count n + nodes_count ns)) ms))
+    rw (← same, flat_joined (place + node_count n) ns ms, append_assoc) refl
 
 -- what is left after a node that is looked into, or not
 abbrev pub left_after : Bool → (kids others : NodesView) → NodesView
@@ -97,11 +93,9 @@ text_left true ignorable ts = refl
 text_left false true ts = refl
 text_left false false ts = refl
 
-text_not_inside : (one ignorable : Bool) →
-    is_inside (if one then look.Space else (if ignorable then look.Nothing else look.Visible)) ≡ false
-text_not_inside true ignorable = refl
-text_not_inside false true = refl
-text_not_inside false false = refl
+same_if : (b : Bool) (n : ℕ) → (if b then n else n) ≡ n
+same_if true n = refl
+same_if false n = refl
 
 -- the place after a node of a list
 abbrev pub place_behind : (place : ℕ) → FlatNodeView → ℕ
@@ -121,122 +115,87 @@ pub record Next (place : ℕ) (f : FlatNodeView) (fs : List FlatNodeView) (rest 
   pub things : nodes_things rest ≡ seen (flat_look f) (nodes_things left)
   pub turns : nodes_turns rest ≡ 1 + nodes_turns left
 
-next_by_one : (place next : ℕ) (fs : List FlatNodeView) (ns : NodesView) → next ≡ place + 1 →
-    fs ≡ nodes_flat (place + 1) ns → drop (next - (place + 1)) fs ≡ nodes_flat next ns
-next_by_one place next fs ns one e =
-    let zero_is : next - (place + 1) ≡ 0 = omega (arith, one) in rw (zero_is, one) e
+-- past a node that is one place
+next_one : (place : ℕ) (f g : FlatNodeView) (fs : List FlatNodeView) (rest ns : NodesView) →
+    f ∷ fs ≡ g ∷ nodes_flat (place + 1) ns → place_next place g ≡ place + 1 →
+    nodes_things rest ≡ seen (flat_look g) (nodes_things ns) →
+    nodes_turns rest ≡ 1 + nodes_turns ns → Next place f fs rest
+next_one place f g fs rest ns e one things turns =
+    let is : f ≡ g = cc in
+    let list : fs ≡ nodes_flat (place + 1) ns = cc in
+    let none : place + 1 - (place + 1) ≡ 0 = omega arith in
+    rw is (record {
+      left = ns;
+      later = omega (arith, one);
+      list_is = rw (one, none) list;
+      things = things;
+      turns = turns;
+    })
 
--- past what stands in an element
-next_past : (place past : ℕ) (fs : List FlatNodeView) (kids ns : NodesView) →
-    past ≡ place + 1 + nodes_count kids →
-    fs ≡ nodes_flat (place + 1) kids ++ nodes_flat (place + (1 + nodes_count kids)) ns →
-    drop (past - (place + 1)) fs ≡ nodes_flat past ns
-next_past place past fs kids ns is e =
-    let inside = nodes_flat (place + 1) kids in
-    let long = length_all (place + 1) kids in
-    let count : past - (place + 1) ≡ length inside = omega (arith, is, long) in
-    let same : place + (1 + nodes_count kids) ≡ past = omega (arith, is) in
-    rw (count, e) (drop-append_seam inside (nodes_flat (place + (1 + nodes_count kids)) ns)
-    ∙ ap (λ p. nodes_flat p ns) same)
-
-into_kids : (place : ℕ) (fs : List FlatNodeView) (kids ns : NodesView) →
-    fs ≡ nodes_flat (place + 1) kids ++ nodes_flat (place + (1 + nodes_count kids)) ns →
-    fs ≡ nodes_flat (place + 1) (joined kids ns)
-into_kids place fs kids ns e =
+-- into an element, or past what stands in it
+element_list : (b : Bool) (place next past : ℕ) (kids ns : NodesView) →
+    past ≡ place + 1 + nodes_count kids → next ≡ (if b then place + 1 else past) →
+    drop (next - (place + 1))
+    (nodes_flat (place + 1) kids ++ nodes_flat (place + (1 + nodes_count kids)) ns)
+    ≡ nodes_flat next (left_after b kids ns)
+element_list true place next past kids ns is e =
+    let none : next - (place + 1) ≡ 0 = omega (arith, e) in
     let same : place + (1 + nodes_count kids) ≡ place + 1 + nodes_count kids = omega arith in
-    e ∙ (ap (λ p. nodes_flat (place + 1) kids ++ nodes_flat p ns) same
-    ∙ sym (flat_joined (place + 1) kids ns))
+    rw (none, e, same, flat_joined (place + 1) kids ns) refl
+element_list false place next past kids ns is e =
+    let inside = nodes_flat (place + 1) kids in
+    let count : next - (place + 1) ≡ length inside
+    = omega (arith, e, is, length_all (place + 1) kids) in
+    let same : next ≡ place + (1 + nodes_count kids) = omega (arith, e, is) in
+    rw (count, same) (drop-append_seam inside (nodes_flat (place + (1 + nodes_count kids)) ns))
 
-abbrev element_next : (b : Bool) → (place past : ℕ) → ℕ
-element_next b place past = if b then place + 1 else past
-
-element_later : (b : Bool) (place past : ℕ) → place + 1 ≤ past → place + 1 ≤ element_next b place past
-element_later true place past h = omega arith
-element_later false place past h = h
-
-element_list : (b : Bool) (place past : ℕ) (fs : List FlatNodeView) (kids ns : NodesView) →
-    past ≡ place + 1 + nodes_count kids →
-    fs ≡ nodes_flat (place + 1) kids ++ nodes_flat (place + (1 + nodes_count kids)) ns →
-    drop (element_next b place past - (place + 1)) fs
-    ≡ nodes_flat (element_next b place past) (left_after b kids ns)
-element_list true place past fs kids ns is e =
-    next_by_one place (place + 1) fs (joined kids ns) refl (into_kids place fs kids ns e)
-element_list false place past fs kids ns is e = next_past place past fs kids ns is e
+later_by : (b : Bool) (place past : ℕ) → place + 1 ≤ past →
+    place + 1 ≤ (if b then place + 1 else past)
+later_by true place past h = omega arith
+later_by false place past h = h
 
 next_of : (rest : NodesView) (place : ℕ) (f : FlatNodeView) (fs : List FlatNodeView) →
     f ∷ fs ≡ nodes_flat place rest → Next place f fs rest
 unfolding node_flat node_count node_things node_turns
 next_of none place f fs e = cc
 next_of (node (tag_node t) ns) place f fs e =
-    let is : f ≡ flat_tag t = cc in
-    let list : fs ≡ nodes_flat (place + 1) ns = cc in
-    rw is (record {
-      left = ns;
-      later = omega arith;
-      list_is = next_by_one place (place + 1) fs ns refl list;
-      things = refl;
-      turns = refl;
-    })
+    next_one place f (flat_tag t) fs _ ns e refl refl refl
 next_of (node (frame_node b) ns) place f fs e =
-    let is : f ≡ flat_frame b = cc in
-    let list : fs ≡ nodes_flat (place + 1) ns = cc in
-    rw is (record {
-      left = ns;
-      later = omega arith;
-      list_is = next_by_one place (place + 1) fs ns refl list;
-      things = refl;
-      turns = refl;
-    })
+    next_one place f (flat_frame b) fs _ ns e refl refl refl
 next_of (node (text_node s span) ns) place f fs e =
-    let is : f ≡ flat_text s span = cc in
-    let list : fs ≡ nodes_flat (place + 1) ns = cc in
-    let same : place_next place (flat_text s span) ≡ place + 1
-    = ap (λ (b : Bool). if b then place + 1 else place + 1)
-    (text_not_inside (is_one 32 s) (list_all is_ignorable s)) in
-    rw is (record {
-      left = ns;
-      later = omega (arith, same);
-      list_is = next_by_one place (place_next place (flat_text s span)) fs ns same list;
-      things = text_left (is_one 32 s) (list_all is_ignorable s) (nodes_things ns);
-      turns = refl;
-    })
+    next_one place f (flat_text s span) fs _ ns e (same_if _ (place + 1))
+    (text_left (is_one 32 s) (list_all is_ignorable s) (nodes_things ns)) refl
 next_of (node (element_node h kids) ns) place f fs e =
     let past = place + 1 + nodes_count kids in
     let is : f ≡ flat_element h past = cc in
     let list : fs ≡ nodes_flat (place + 1) kids ++ nodes_flat (place + (1 + nodes_count kids)) ns = cc in
     let b = is_inside (head_look h) in
-    let behind : place + 1 ≤ past = omega arith in
     let entered = ap (λ (t : Bool). if t then nodes_turns kids else 0) (is_entered_by h) in
     let turned = turns_left b kids ns in
     rw is (record {
       left = left_after b kids ns;
-      later = element_later b place past behind;
-      list_is = element_list b place past fs kids ns refl list;
+      later = later_by b place past (omega arith);
+      list_is = rw list (element_list b place _ past kids ns refl refl);
       things = ap (λ ts. ts ++ nodes_things ns) (element_seen h (nodes_things kids))
           ∙ things_left (head_look h) kids ns;
       turns = omega (arith, entered, turned);
     })
 
-no_list : (place : ℕ) (m : NodeView) (ns : NodesView) → [] ≡ nodes_flat place (node m ns) → ⊥
-unfolding node_flat
-no_list place (tag_node t) ns e = cc
-no_list place (text_node s span) ns e = cc
-no_list place (element_node h kids) ns e = cc
-no_list place (frame_node b) ns e = cc
-
 nothing_stands : (place : ℕ) (rest : NodesView) → [] ≡ nodes_flat place rest → rest ≡ none
+unfolding node_flat
 nothing_stands place none e = refl
-nothing_stands place (node n ns) e = absurd (no_list place n ns e)
+nothing_stands place (node (tag_node t) ns) e = cc
+nothing_stands place (node (text_node s span) ns) e = cc
+nothing_stands place (node (element_node h kids) ns) e = cc
+nothing_stands place (node (frame_node b) ns) e = cc
 
 -- the same over the nodes of the program
 
 next_is : (names : NamesView) (place : ℕ) (n : FlatNode) (l : Look) →
     l ≡ flat_look (flat_node_view names n) →
     next_place place l n ≡ place_next place (flat_node_view names n)
-next_is names place (Element e) l is =
-    ap (λ (x : Look). if is_inside x then place + 1 else e.past) is
-next_is names place n l is =
-    ap (λ (x : Look). if is_inside x then place + 1 else place + 1) is
+next_is names place (Element e) l is = rw is refl
+next_is names place n l is = rw is refl
 
 module _ (names : NamesView) (nodes : List FlatNode) (whole : NodesView) where
   abbrev left : ℕ → List FlatNodeView
@@ -244,9 +203,7 @@ module _ (names : NamesView) (nodes : List FlatNode) (whole : NodesView) where
 
   left_first : (place : ℕ) (n : FlatNode) → place < length nodes → n ≡ get_or nodes place n →
       left place ≡ flat_node_view names n ∷ left (place + 1)
-  left_first place n below is =
-      ap (flat_nodes_view names) (drop_more nodes place n below)
-      ∙ ap (λ m. flat_node_view names m ∷ left (place + 1)) (sym is)
+  left_first place n below is = rw (drop_more nodes place n below, ← is) refl
 
   left_on : (place next : ℕ) → place + 1 ≤ next →
       drop (next - (place + 1)) (left (place + 1)) ≡ left next
@@ -256,24 +213,16 @@ module _ (names : NamesView) (nodes : List FlatNode) (whole : NodesView) where
       ∙ (ap (flat_nodes_view names) (drop-drop (next - (place + 1)) (place + 1) nodes)
       ∙ ap left count)
 
-  pub next_at : (place : ℕ) (n : FlatNode) (l : Last) (bare : List Bool) (turns : ℕ) →
-      place < length nodes → n ≡ get_or nodes place n → (s : Stands whole place (left place) l bare turns) →
-      Next place (flat_node_view names n) (left (place + 1)) s.rest
-  next_at place n l bare turns below is s =
-      next_of s.rest place (flat_node_view names n) (left (place + 1))
-      (sym (left_first place n below is) ∙ s.list_is)
-
   pub stands_next : (place next : ℕ) (n : FlatNode) (one : Look) (l : Last) (bare new_bare : List Bool)
       (turns : ℕ) → place < length nodes → n ≡ get_or nodes place n →
       one ≡ flat_look (flat_node_view names n) → next ≡ next_place place one n →
       new_bare ≡ bare ++ answer_before l one → Stands whole place (left place) l bare turns →
       (place < next) × Stands whole next (left next) (last_after l one) new_bare (turns + 1)
   stands_next place next n one l bare new_bare turns below is look_is next_are bare_is s =
-      let f = flat_node_view names n in
-      let on = next_at place n l bare turns below is s in
-      let to : next ≡ place_next place f = next_are ∙ next_is names place n one look_is in
-      let things : nodes_things s.rest ≡ seen one (nodes_things on.left)
-      = on.things ∙ ap (λ x. seen x (nodes_things on.left)) (sym look_is) in
+      let on = next_of s.rest place (flat_node_view names n) (left (place + 1))
+      (sym (left_first place n below is) ∙ s.list_is) in
+      let to : next ≡ place_next place (flat_node_view names n)
+      = next_are ∙ next_is names place n one look_is in
       let few = s.few in
       let later = on.later in
       let count = s.count in
@@ -283,11 +232,8 @@ module _ (names : NamesView) (nodes : List FlatNode) (whole : NodesView) where
         record {
           rest = on.left;
           list_is = sym (left_on place next behind) ∙ rw to on.list_is;
-          answers = ap (λ bs. bs ++ answers_left (last_after l one) (nodes_things on.left)) bare_is
-              ∙ (append_assoc bare (answer_before l one)
-              (answers_left (last_after l one) (nodes_things on.left))
-              ∙ (ap (λ bs. bare ++ bs) (answers_step l one (nodes_things on.left)
-              ∙ ap (answers_left l) (sym things)) ∙ s.answers));
+          answers = rw (bare_is, append_assoc, answers_step l one (nodes_things on.left))
+              (rw (look_is, ← on.things) s.answers);
           count = omega (arith, count, turned);
           few = omega (arith, few, behind);
         },
@@ -301,9 +247,7 @@ module _ (names : NamesView) (nodes : List FlatNode) (whole : NodesView) where
   stands_end place l bare new_bare turns beyond bare_is s =
       let empty : s.rest ≡ none = nothing_stands place s.rest
       (sym (ap (flat_nodes_view names) (drop_all place nodes beyond)) ∙ s.list_is) in
-      let nothing = ap nodes_turns empty in
       let count = s.count in (
-        bare_is ∙ (ap (λ bs. bare ++ bs) (answers_end l ∙ ap (λ ns. answers_left l (nodes_things ns)) (sym empty))
-            ∙ s.answers),
-        omega (arith, count, nothing),
+        bare_is ∙ (rw (answers_end l) (rw empty at s.answers)),
+        omega (arith, count, ap nodes_turns empty),
       )

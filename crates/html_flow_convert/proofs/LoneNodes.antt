@@ -1,12 +1,12 @@
 -- The lone node of a list by its place, texts in bytes, and lists of css.
-use Rattle.std.proofs.Common.{◌≡◌, ℕ, ◌+◌, ◌-◌, ◌<◌, ◌≤◌, List, [], ◌∷◌, length, get_or, take, drop, map, Bool, true, false, ◌&&◌, if◌then◌else◌, Option, Some, None, Bor, codes, chars, bytes_eq, IsUtf8, refl, sym, ap, ◌∙◌}
+use Rattle.std.proofs.Common.{◌≡◌, ℕ, ◌+◌, ◌-◌, ◌<◌, ◌≤◌, List, [], ◌∷◌, length, get_or, take, drop, map, Bool, true, false, ◌&&◌, if◌then◌else◌, None, Bor, codes, chars, bytes_eq, IsUtf8, refl, sym, ap, ◌∙◌}
 use Rattle.std.{proofs.lemmas.List.{at_drop_all, take_rest}, proofs.lemmas.List.Folds.{list_all-map}, specs.List.{list_all}}
 use Rattle.html_names_core.proofs.{Basics.{from_place}, Lists.{chars_ascii, bytes_eq-chars}}
 use Rattle.html_names_core.specs.{Names.{is_ascii}, Texts.{TextPair}}
 use Rattle.html_values_css.specs.Properties.{with_property, without}
-use Rattle.html_dom_tree.specs.{Tree.{Head, NodeView, element_node, node, is_tag}, Views.{node_view, nodes_of, nodes_view}}
+use Rattle.html_dom_tree.specs.{Tree.{NodeView, is_tag}, Views.{node_view, nodes_of, nodes_view}}
 use Rattle.html_dom_tree.specs.declared.node.HtmlNode.{HtmlNode}
-use Rattle.html_flow_convert.specs.LoneNode.{DisplayChangeView, change_view, css_with_display, node_with_display, node_list, are_tags, lone_alone, lone_node, changed_or_in}
+use Rattle.html_flow_convert.specs.LoneNode.{change_view, css_with_display, node_list, are_tags, lone_alone, lone_node}
 use Rattle.html_flow_convert.specs.declared.lone.{DisplayChange.{DisplayChange}, DisplayChange.TheVariants.{Removed, SetTo}}
 
 pub node_list_of : (ns : List NodeView) → node_list (nodes_of ns) ≡ ns
@@ -26,9 +26,7 @@ module _ (nodes : List HtmlNode) (k : ℕ) (n : HtmlNode) (below : k < length no
       → lone_node (nodes_view (drop (k + 1) nodes)) ≡ lone_node (nodes_view nodes)
   unfolding lone_node
   tag_passed tag same =
-      let on : lone_node (node (node_view n) (nodes_view (drop (k + 1) nodes)))
-      ≡ lone_node (nodes_view (drop (k + 1) nodes)) = rw tag refl in
-      sym on ∙ (ap (λ ns. lone_node (nodes_view ns)) (sym (from_place nodes k n below is)) ∙ same)
+      rw tag at (rw (from_place nodes k n below is) at same)
 
   -- the first other node decides, with what stands behind it
   pub decided : (tags : Bool) → is_tag (node_view n) ≡ false
@@ -40,11 +38,8 @@ module _ (nodes : List HtmlNode) (k : ℕ) (n : HtmlNode) (below : k < length no
   decided tags other behind same =
       let rest = drop (k + 1) nodes in
       let all : are_tags (nodes_view rest) ≡ tags =
-      are_tags_of (map node_view rest) ∙ (list_all-map is_tag node_view rest
-      ∙ (ap (list_all (λ m. is_tag (node_view m))) (sym (take_rest nodes (k + 1))) ∙ behind)) in
-      let here : lone_node (node (node_view n) (nodes_view rest))
-      ≡ (if tags then lone_alone (node_view n) else None) = rw (other, all) refl in
-      sym same ∙ (ap (λ ns. lone_node (nodes_view ns)) (from_place nodes k n below is) ∙ here)
+      rw (are_tags_of (map node_view rest), list_all-map, ← take_rest nodes (k + 1)) behind in
+      sym same ∙ rw (from_place nodes k n below is, other, all) refl
 
 -- tags alone are passed to the end
 pub none_left : (nodes : List HtmlNode) (k : ℕ) → length nodes ≤ k
@@ -54,9 +49,6 @@ unfolding lone_node
 none_left nodes k past same =
     sym same ∙ at_drop_all (λ ns. lone_node (nodes_view ns)) nodes k past
 
-pub display_name : chars (codes "display") ≡ codes "display"
-display_name = chars_ascii (codes "display") refl
-
 pub block_text : IsUtf8 (codes "block")
 unfolding lib.Utf8.encode
 block_text = (codes "block", (refl, refl))
@@ -64,8 +56,7 @@ block_text = (codes "block", (refl, refl))
 pub bytes_eq-word : (text word : List ℕ) → is_ascii word ≡ true → IsUtf8 text → IsUtf8 word
     → bytes_eq (chars text) word ≡ bytes_eq text word
 bytes_eq-word text word ascii utf8 own =
-    ap (λ w. bytes_eq (chars text) w) (sym (chars_ascii word ascii))
-    ∙ bytes_eq-chars text word utf8 own
+    rw (chars_ascii word ascii) at (bytes_eq-chars text word utf8 own)
 
 -- these words are their own characters
 pub block_word : chars (codes "block") ≡ codes "block"
@@ -81,22 +72,10 @@ inline_math_word = chars_ascii (codes "inline math") refl
 module _ (change : DisplayChange) (css : List TextPair) where
   pub display_removed : change ≡ Removed
       → without css (chars (codes "display")) ≡ css_with_display (change_view change) css
-  display_removed is = rw is (ap (without css) display_name)
+  display_removed is = rw is (rw (chars_ascii (codes "display") refl) refl)
 
   pub display_set : (value : Bor (List ℕ)) (text : List ℕ) → change ≡ SetTo value
       → text ≡ value.now
       → with_property css (chars (codes "display")) (chars text)
       ≡ css_with_display (change_view change) css
-  display_set value text is same =
-      rw is (ap (λ name. with_property css name (chars text)) display_name
-      ∙ ap (λ t. with_property css (codes "display") (chars t)) same)
-
--- the nodes by the change of the lone one
-module _ (h : Head) (o : Option DisplayChangeView) (body : List NodeView) where
-  pub changed_is : (change : DisplayChangeView) → Some change ≡ o
-      → map (node_with_display change) body ≡ changed_or_in h o (nodes_of body)
-  changed_is change is = rw (← is) (ap (map (node_with_display change)) (sym (node_list_of body)))
-
-  pub wrapped_is : None ≡ o
-      → element_node h (nodes_of body) ∷ [] ≡ changed_or_in h o (nodes_of body)
-  wrapped_is is = rw (← is) refl
+  display_set value text is same = rw is (rw (same, chars_ascii (codes "display") refl) refl)

@@ -1,5 +1,5 @@
 -- Css of one property, in bytes and in characters.
-use Rattle.std.proofs.Common.{◌≡◌, ℕ, List, [], ◌∷◌, chars, ap, ◌∙◌}
+use Rattle.std.proofs.Common.{◌≡◌, ℕ, List, [], ◌∷◌, chars, refl, ◌∙◌}
 use Rattle.html_names_core.specs.Texts.{TextPair}
 use Rattle.html_values_css.specs.Properties.{with_property}
 
@@ -7,7 +7,4 @@ pub one_property : (none css : List TextPair) (name value text : List ℕ) → n
     chars name ≡ name → value ≡ text → chars text ≡ text →
     css ≡ with_property none (chars name) (chars value) → css ≡ (name, text) ∷ []
 one_property none css name value text empty named kept own made =
-    made
-    ∙ (ap (λ ps. with_property ps (chars name) (chars value)) empty
-    ∙ (ap (λ n. (n, chars value) ∷ []) named
-    ∙ ap (λ t. (name, t) ∷ []) (ap chars kept ∙ own)))
+    made ∙ rw (empty, named, kept, own) refl

@@ -7,7 +7,7 @@ use Rattle.html_dom_tree.specs.Tree.{Head, NodeView, tag_node, text_node, elemen
 use Rattle.html_dom_tree.specs.{Views.{node_view, nodes_of, nodes_view}, declared.node.HtmlNode.{HtmlNode}}
 use Rattle.html_dom_flat.proofs.Flats.{joined, joined_none}
 use Rattle.html_flow_convert.specs.BareSpaces.{Thing, border, visible, space, element_things, node_things, nodes_things, is_entered, is_border_element, bare_after, bare_spaces}
-use Rattle.html_flow_convert.specs.Nodes.{is_one}
+use Rattle.html_flow_convert.{proofs.Looks.{inside_seen, is_entered_by}, specs.{Looks.{head_look}, Nodes.{is_one}}}
 use Rattle.html_flow_convert.specs.Protected.{space_count, is_bare, text_by_answer, node_by_answers, nodes_by_answers, protected_nodes}
 
 -- how many answers are used
@@ -33,19 +33,9 @@ pub shut_count : (h : Head) (inside : List Thing) → is_entered h ≡ false →
 unfolding is_entered
 shut_count h inside e = shut_by (is_border_element h) (is_replaced h.name) h.pre_span inside e
 
-opened_by : (block replaced references : Bool) (inside : List Thing) →
-    (not block && not replaced && not references) ≡ true →
-    (if block then border ∷ []
-    else (if replaced then visible ∷ [] else (if references then [] else inside))) ≡ inside
-opened_by true replaced references inside e = cc
-opened_by false true references inside e = cc
-opened_by false false true inside e = cc
-opened_by false false false inside e = refl
-
 pub opened_things : (h : Head) (inside : List Thing) → is_entered h ≡ true →
     element_things h inside ≡ inside
-unfolding is_entered
-opened_things h inside e = opened_by (is_border_element h) (is_replaced h.name) h.pre_span inside e
+opened_things h inside e = sym (inside_seen h (head_look h) inside refl (sym (is_entered_by h) ∙ e))
 
 answer_count : (before : Option Thing) (ts : List Thing) →
     length (bare_after before ts) ≡ space_count ts
@@ -97,14 +87,12 @@ mutual
       let own = space_count (node_things n) in
       let both = count_append (node_things n) (nodes_things ns) in
       let left = length-drop own bs in
-      ap (λ m. node m (nodes_by_answers (drop own bs) ns))
-      (kept_node n bs e (omega (arith, both, few)))
-      ∙ ap (node n) (kept_nodes ns (drop own bs) (bare_later own bs e) (omega (arith, both, left, few)))
+      rw (kept_node n bs e (omega (arith, both, few))) (ap (node n)
+      (kept_nodes ns (drop own bs) (bare_later own bs e) (omega (arith, both, left, few))))
 
 pub kept_all : (ns : NodesView) → are_bare (bare_spaces ns) ≡ true → ns ≡ protected_nodes ns
 kept_all ns e =
-    let count = answer_count None (nodes_things ns) in
-    sym (kept_nodes ns (bare_spaces ns) e (omega (arith, count)))
+    sym (kept_nodes ns (bare_spaces ns) e (omega (arith, answer_count None (nodes_things ns))))
 
 -- one element
 
@@ -130,64 +118,38 @@ joined_append (x ∷ xs) m ms = ap (node x) (joined_append xs m ms)
 
 joined_pushed : (made new : List HtmlNode) (m : HtmlNode) (ms : NodesView) → new ≡ made ++ m ∷ [] →
     joined (nodes_view new) ms ≡ joined (nodes_view made) (node (node_view m) ms)
-joined_pushed made new m ms e =
-    ap (λ ns. joined (nodes_view ns) ms) e
-    ∙ (ap (λ ns. joined (nodes_of ns) ms) (map-append node_view made (m ∷ []))
-    ∙ joined_append (map node_view made) (node_view m) ms)
-
-pub protect_step : (made new items others : List HtmlNode) (m n : HtmlNode)
-    (bs new_bs all : List Bool) (whole : NodesView) → items ≡ n ∷ others → new ≡ made ++ m ∷ [] →
-    node_view m ≡ node_by_answers bs (node_view n) →
-    new_bs ≡ drop (space_count (node_things (node_view n))) bs →
-    joined (nodes_view made) (nodes_by_answers bs (nodes_view items)) ≡ whole →
-    drop (space_count (nodes_things (nodes_view items))) bs ≡ all →
-    (joined (nodes_view new) (nodes_by_answers new_bs (nodes_view others)) ≡ whole)
-    × (drop (space_count (nodes_things (nodes_view others))) new_bs ≡ all)
-unfolding node_things node_by_answers
-protect_step made new items others m n bs new_bs all whole is pushed made_is rest_is agrees rest =
-    let used = space_count (node_things (node_view n)) in
-    let left = nodes_view others in
-    let later = space_count (nodes_things left) in
-    let after = nodes_by_answers (drop used bs) left in
-    let counted : later + used ≡ space_count (nodes_things (nodes_view (n ∷ others)))
-    = omega (arith, count_append (node_things (node_view n)) (nodes_things left)) in (
-      joined_pushed made new m (nodes_by_answers new_bs left) pushed
-          ∙ (ap (λ b. joined (nodes_view made) (node (node_view m) (nodes_by_answers b left))) rest_is
-          ∙ (ap (λ x. joined (nodes_view made) (node x after)) made_is
-          ∙ (ap (λ ns. joined (nodes_view made) (nodes_by_answers bs (nodes_view ns))) (sym is) ∙ agrees))),
-      ap (drop later) rest_is
-          ∙ (drop-drop later used bs
-          ∙ (ap (λ k. drop k bs) (sum_comm later used counted)
-          ∙ (ap (λ ns. drop (space_count (nodes_things (nodes_view ns))) bs) (sym is) ∙ rest))),
-    )
-  where
-    sum_comm : (a b : ℕ) {c : ℕ} → a + b ≡ c → b + a ≡ c
-    sum_comm a b e = omega (arith, e)
+joined_pushed made new m ms e = rw (e, map-append node_view made (m ∷ []))
+    (joined_append (map node_view made) (node_view m) ms)
 
 -- a node is changed where it stands
-pub protect_in_place : (ns new : List HtmlNode) (i : ℕ) (d m : HtmlNode)
-    (bs new_bs all : List Bool) (whole : NodesView) → i < length ns → new ≡ set ns i m →
-    node_view m ≡ node_by_answers bs (node_view (get_or ns i d)) →
+pub protect_in_place : (ns : List HtmlNode) (i : ℕ) (d m : HtmlNode) (bs : List Bool)
+    {new : List HtmlNode} {new_bs all : List Bool} {whole : NodesView} → i < length ns →
+    new ≡ set ns i m → node_view m ≡ node_by_answers bs (node_view (get_or ns i d)) →
     new_bs ≡ drop (space_count (node_things (node_view (get_or ns i d)))) bs →
     joined (nodes_view (take i ns)) (nodes_by_answers bs (nodes_view (drop i ns))) ≡ whole →
     drop (space_count (nodes_things (nodes_view (drop i ns)))) bs ≡ all →
     (joined (nodes_view (take (i + 1) new)) (nodes_by_answers new_bs (nodes_view (drop (i + 1) new)))
     ≡ whole) × (drop (space_count (nodes_things (nodes_view (drop (i + 1) new)))) new_bs ≡ all)
-protect_in_place ns new i d m bs new_bs all whole h is made_is rest_is agrees rest =
-    let n = get_or ns i d in
+unfolding node_things node_by_answers
+protect_in_place ns i d m bs {new} h is made_is rest_is agrees rest =
+    let n = node_view (get_or ns i d) in
+    let left = nodes_view (drop (i + 1) ns) in
     let later : drop (i + 1) new ≡ drop (i + 1) ns =
     ap (drop (i + 1)) is ∙ drop-set-lt (i + 1) ns i m (omega arith) in
-    protect_step (take i ns) (take (i + 1) new) (drop i ns) (drop (i + 1) new) m n bs new_bs all whole
-    (drop_more ns i d h ∙ ap (λ l. n ∷ l) (sym later))
-    (ap (take (i + 1)) is ∙ take_more_set ns i m h) made_is rest_is agrees rest
+    let used = space_count (node_things n) in
+    let first = ap (take (i + 1)) is ∙ take_more_set ns i m h in (
+      rw (later, rest_is) (joined_pushed (take i ns) (take (i + 1) new) m _ first
+          ∙ rw made_is (rw (drop_more ns i d h) at agrees)),
+      rw (later, rest_is) (rw (
+        drop-drop (space_count (nodes_things left)) used bs,
+        ← count_append (node_things n) (nodes_things left),
+      ) (rw (drop_more ns i d h) at rest)),
+    )
 
 pub protect_end : (made items : List HtmlNode) (bs all : List Bool) (whole : NodesView) →
     items ≡ [] → joined (nodes_view made) (nodes_by_answers bs (nodes_view items)) ≡ whole →
     drop (space_count (nodes_things (nodes_view items))) bs ≡ all →
     (nodes_view made ≡ whole) × (bs ≡ all)
 unfolding node_things node_by_answers
-protect_end made items bs all whole empty agrees rest = (
-  sym (joined_none (nodes_view made))
-      ∙ (ap (λ ns. joined (nodes_view made) (nodes_by_answers bs (nodes_view ns))) (sym empty) ∙ agrees),
-  ap (λ ns. drop (space_count (nodes_things (nodes_view ns))) bs) (sym empty) ∙ rest,
-)
+protect_end made items bs all whole empty agrees rest =
+    (sym (joined_none (nodes_view made)) ∙ rw empty at agrees, rw empty at rest)

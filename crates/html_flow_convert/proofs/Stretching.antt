@@ -61,8 +61,7 @@ one_within : (normal blank after there : Bool) → (normal || (blank && after)) 
     (normal ≡ false → there ≡ true) → (normal || (blank && after && there)) ≡ true
 one_within true blank after there e f = refl
 one_within false blank after there e f =
-    let parts = and_parts blank after e in
-    rw (parts.0, parts.1, f refl) refl
+    let parts = and_parts blank after e in rw (parts.0, parts.1, f refl) refl
 
 all_within : (before : Option ℕ) (cs : List ℕ) → is_stretch (is_normal_there before) cs ≡ true →
     are_in_stretch before cs ≡ true
@@ -79,14 +78,13 @@ one_stretch [] e = absurd (false≢true e)
 one_stretch (c ∷ cs) e = within_stretch None (c ∷ cs) (all_within None (c ∷ cs) e) ∙ stretch_alone c cs
 
 -- a character more, and the end
-pub stretch_goes_on : (ends normal : Bool) (rest later : List ℕ) (c : ℕ) (all : Bool) → IsUtf8 rest →
-    rest ≡ encode c ++ later → normal ≡ is_normal c → (normal || ((c == 32) && ends)) ≡ true →
+pub stretch_goes_on : (ends : Bool) (rest later : List ℕ) (c : ℕ) {normal all : Bool} →
+    IsUtf8 rest → rest ≡ encode c ++ later → normal ≡ is_normal c →
+    (normal || ((c == 32) && ends)) ≡ true →
     is_stretch ends (chars rest) ≡ all → is_stretch normal (chars later) ≡ all
-stretch_goes_on ends normal rest later c all u parts is on held =
-    let opened = ap (is_stretch ends) (sym (chars_past_char rest later c u parts)) ∙ held in
-    let test : (is_normal c || ((c == 32) && ends)) ≡ true = rw is at on in
-    ap (λ n. is_stretch n (chars later)) is
-    ∙ (ap (λ b. b && is_stretch (is_normal c) (chars later)) (sym test) ∙ opened)
+stretch_goes_on ends rest later c u parts is on held =
+    let opened = rw (chars_past_char rest later c u parts) at held in
+    rw is (rw (rw is at on) at opened)
 
 pub stretch_ends : (ends : Bool) (rest text : List ℕ) → length rest ≡ 0 →
     is_stretch ends (chars rest) ≡ is_stretch false (chars text) → IsTrue ends →
@@ -129,18 +127,6 @@ outside_by false true true front before c ps e f g none = rw (e, f, g, none g) r
 outside_by false true false front before c ps e f g none = rw (e, f, g) (before_break front ps)
 outside_by false false after front before c ps e f g none = rw (e, f) (before_alone front c ps)
 
-outside : (front : List ℕ) (before : Option ℕ) (c : ℕ) (ps : List PieceView) →
-    (is_carriage_return before ≡ true → front ≡ []) →
-    with_stretch front (outside_stretch before c ps)
-    ≡ with_stretch front [] ++ (outside_stretch before c [] ++ ps)
-outside front before c ps none =
-    outside_by (c == 13) (c == 10) (is_carriage_return before) front before c ps refl refl refl none
-
-stretch_more : (cs : List ℕ) (c : ℕ) (ps : List PieceView) →
-    with_stretch (cs ++ c ∷ []) ps ≡ with_stretch cs (in_stretch c ps)
-stretch_more [] c ps = refl
-stretch_more (d ∷ cs) c ps = ap (in_stretch d) (stretch_more cs c ps)
-
 pub return_apart : (before : Option ℕ) (c : ℕ) (after : List ℕ) →
     is_in_stretch before c after ≡ true → (c == 13) ≡ true → ⊥
 return_apart before c after h e =
@@ -170,25 +156,25 @@ nothing_passed span text made u = record {
   agrees = rw chars-nil refl;
 }
 
-pub char_outside : (span : ℕ) (before : Option ℕ) (text rest after : List ℕ) (made new all : List NodeView)
-    (c : ℕ) → Stretching span before text rest made all → rest ≡ encode c ++ after →
-    IsUtf8 after → is_in_stretch before c (chars after) ≡ false →
+pub char_outside : {span : ℕ} {before : Option ℕ} {text rest : List ℕ}
+    {made new all : List NodeView} (after : List ℕ) (c : ℕ) →
+    Stretching span before text rest made all → rest ≡ encode c ++ after → IsUtf8 after →
+    is_in_stretch before c (chars after) ≡ false →
     new ≡ (made
     ++ map (piece_node span) (with_stretch (chars (take (length text - length rest) text)) []))
     ++ map (piece_node span) (outside_stretch before c []) →
     Stretching span (Some c) after after new all
 unfolding pieces_after
-char_outside span before text rest after made new all c held parts u apart pushed =
-    let cs = chars held.front in
-    let others = pieces_after (Some c) (chars after) in
-    let f = piece_node span in
-    let own = with_stretch cs [] in
-    let between = outside_stretch before c [] in
-    let agrees = rw (chars_past_char rest after c held.rest_utf8 parts, apart) at held.agrees in
-    let spread = ap (map f)
-    (outside cs before c others (λ h. ap chars (held.after_return h) ∙ chars-nil))
-    ∙ (map-append f own (between ++ others)
-    ∙ ap (λ l. map f own ++ l) (map-append f between others)) in
+char_outside {span} {before} {text} {rest} after c held parts u apart pushed =
+    let agrees = rw (
+      chars_past_char rest after c held.rest_utf8 parts,
+      apart,
+      outside_by (c == 13) (c == 10) (is_carriage_return before) (chars held.front) before c
+          (pieces_after (Some c) (chars after)) refl refl refl
+          (λ h. ap chars (held.after_return h) ∙ chars-nil),
+      map-append,
+      map-append,
+    ) at held.agrees in
     record {
       front = [];
       split = refl;
@@ -196,17 +182,13 @@ char_outside span before text rest after made new all c held parts u apart pushe
       rest_utf8 = u;
       after_return = λ h. refl;
       agrees = rw (pushed, front_taken text held.front rest held.split, chars-nil)
-          (append_assoc (made ++ map f own) (map f between) (map f others)
-          ∙ (append_assoc made (map f own) (map f between ++ map f others)
-          ∙ (ap (λ l. made ++ l) (sym spread) ∙ agrees)));
+          (simp append_assoc agrees);
     }
 
-pub text_ended : (span : ℕ) (before : Option ℕ) (text rest : List ℕ) (made all : List NodeView) →
+pub text_ended : {span : ℕ} {before : Option ℕ} {text rest : List ℕ} {made all : List NodeView} →
     Stretching span before text rest made all → length rest ≡ 0 →
     made ++ map (piece_node span) (with_stretch (chars text) []) ≡ all
 unfolding pieces_after
-text_ended span before text rest made all held none =
+text_ended {rest = rest} held none =
     let empty = nil_from_length rest none in
-    let same : text ≡ held.front =
-    held.split ∙ (ap (λ l. held.front ++ l) empty ∙ append-nil held.front) in
-    rw same (rw (empty, chars-nil) at held.agrees)
+    rw (held.split, empty, append-nil) (rw (empty, chars-nil) at held.agrees)

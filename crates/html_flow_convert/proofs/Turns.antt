@@ -19,7 +19,4 @@ mutual
 
   pub turns_among : (ns : NodesView) → nodes_turns ns ≤ nodes_count ns
   turns_among none = omega arith
-  turns_among (node n ns) =
-      let one = turns_among_one n in
-      let others = turns_among ns in
-      omega (arith, one, others)
+  turns_among (node n ns) = omega (arith, turns_among_one n, turns_among ns)

@@ -1,7 +1,7 @@
 -- Going through nodes one by one.
-use Rattle.std.proofs.Common.{◌≡◌, ℕ, ◌+◌, ◌<◌, ◌≤◌, List, [], ◌∷◌, ◌++◌, Bool, None, length, get_or, drop, refl, sym, ap, ◌∙◌, append_assoc, append-nil}
+use Rattle.std.proofs.Common.{◌≡◌, ℕ, ◌+◌, ◌<◌, ◌≤◌, List, [], ◌∷◌, ◌++◌, Bool, None, length, get_or, drop, refl, ap, ◌∙◌, append_assoc, append-nil}
 use Rattle.std.proofs.lemmas.List.{drop_all, drop_more}
-use Rattle.html_dom_tree.specs.{Tree.{node}, Views.{node_view, nodes_view}, declared.node.HtmlNode.{HtmlNode}}
+use Rattle.html_dom_tree.specs.{Views.{node_view, nodes_view}, declared.node.HtmlNode.{HtmlNode}}
 use Rattle.html_flow_convert.specs.BareSpaces.{Thing, border, visible, space, node_things, nodes_things, bare_after}
 use Rattle.html_flow_convert.specs.{Lines.{answer_before, last_after, answers_left}, Looks.{look_things}}
 use Rattle.html_flow_convert.specs.Walks.{WalkView, walk_with, walk_on}
@@ -32,18 +32,14 @@ pub walk_step : (w x whole : WalkView) (nodes : List HtmlNode) (i : ℕ) (n : Ht
     walk_on x (nodes_things (nodes_view (drop (i + 1) nodes))) ≡ whole
 unfolding node_things
 walk_step w x whole nodes i n below is before on =
-    let later = nodes_view (drop (i + 1) nodes) in
-    let first : nodes_view (drop i nodes) ≡ node (node_view n) later =
-    ap nodes_view (drop_more nodes i n below) ∙ ap (λ m. node (node_view m) later) (sym is) in
-    ap (λ v. walk_on v (nodes_things later)) on
-    ∙ (sym (walk_append w (node_things (node_view n)) (nodes_things later))
-    ∙ (ap (λ ns. walk_on w (nodes_things ns)) (sym first) ∙ before))
+    let later = nodes_things (nodes_view (drop (i + 1) nodes)) in
+    rw (on, ← walk_append w (node_things (node_view n)) later)
+    (rw (drop_more nodes i n below, ← is) at before)
 
 pub walk_end : (w whole : WalkView) (nodes : List HtmlNode) (i : ℕ) → length nodes ≤ i →
     walk_on w (nodes_things (nodes_view (drop i nodes))) ≡ whole → w ≡ whole
 unfolding node_things walk_on
-walk_end w whole nodes i beyond before =
-    ap (λ ns. walk_on w (nodes_things (nodes_view ns))) (sym (drop_all i nodes beyond)) ∙ before
+walk_end w whole nodes i beyond before = rw (drop_all i nodes beyond) at before
 
 -- the answers
 
@@ -73,7 +69,5 @@ pub all_answered : (start all end : WalkView) (ts : List Thing) → start ≡ ([
     end.0 ≡ bare_after None ts
 unfolding walk_on
 all_answered start all end ts begins on ends =
-    ap (λ (w : WalkView). w.0) ends
-    ∙ (ap (λ bs. all.0 ++ bs) (answers_end all.1)
-    ∙ (ap (λ w. answered w []) (on ∙ ap (λ w. walk_on w ts) begins)
-    ∙ (answered_on ([], last.Border) ts [] ∙ ap (bare_after None) (append-nil ts))))
+    rw (ends, answers_end all.1, on, begins)
+    (answered_on ([], last.Border) ts [] ∙ ap (bare_after None) (append-nil ts))

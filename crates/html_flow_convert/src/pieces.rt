@@ -53,6 +53,7 @@ fn begins_normal(text: &str) -> bool
 }
 
 /// Returns whether the byte is a normal character of ASCII above the space.
+#[tactic(auto, using(std::proofs::lemmas::Bool::Decides::nat_tests), unfolding(crate::specs::TextStretches::is_above_space))]
 fn is_above_space(byte: u8) -> bool
     ensures { result ≡ is_above_space byte }
 {

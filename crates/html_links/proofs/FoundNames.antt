@@ -10,7 +10,7 @@ module _ (of_element : Head → List Name) (of_frame : HtmlFrameView → List Na
   event_names (tag t) = []
   event_names (text s span) = []
   event_names (frame f) = of_frame f
-  event_names (enter h) = of_element h
+  event_names (enter h kids) = of_element h
   event_names leave = []
 
   nodes_found_is : (ns : NodesView) →

@@ -42,7 +42,7 @@ no_anchor_put xs i used all past so_far =
 -- what a loop over a walk puts in use
 
 abbrev pub with_event : (used : Name → Bool) → Placed → Name → Bool
-with_event used (path, enter h) = with_names (place_names h.name h.attrs) used
+with_event used (path, enter h kids) = with_names (place_names h.name h.attrs) used
 with_event used (path, frame f) = with_names (frame_names f) used
 with_event used (path, tag t) = used
 with_event used (path, text s span) = used

@@ -1,4 +1,5 @@
 pub mod PlacedTexts
+pub mod VisitedTexts
 pub mod Hyperlinks
 pub mod Fragments
 pub mod RepeatedIds

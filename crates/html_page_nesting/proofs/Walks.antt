@@ -1,13 +1,13 @@
 -- The walk finds what the definition says.
-use Rattle.std.proofs.Common.{◌≡◌, ℕ, suc, ◌+◌, ◌≤◌, ◌<◌, List, [], ◌∷◌, ◌++◌, refl, ap, sym, ◌∙◌, add-one, true≢false}
-use Rattle.std.proofs.lemmas.{Bool.{le-ltb, lt-ltb}, List.{append-nil}, Result.{IfOk-weaker}}
+use Rattle.std.proofs.Common.{◌≡◌, ℕ, suc, ◌+◌, Bool, true, false, List, [], ◌∷◌, ◌++◌, refl, ap, sym, ◌∙◌, add-one, true≢false}
+use Rattle.std.proofs.lemmas.{List.{append-nil}, Result.{IfOk-weaker}}
 use Rattle.std.specs.Prelude.{if◌then◌else◌, IfOk, IsOk, OnOk, Result, Ok, Err, Some}
 use Rattle.html_dom_tree.{proofs.Taking.{both_taken, same_taken}, specs.Taking.{Takes}}
-use Rattle.html_dom_tree.specs.Tree.{Head, NodeView, tag_node, text_node, element_node, frame_node, NodesView, none, node, ElementView}
-use Rattle.html_dom_tree.specs.{Views.{node_view, nodes_view}, declared.node.HtmlNode.{HtmlNode}}
+use Rattle.html_dom_tree.specs.Tree.{Head, TagView, NodeView, tag_node, text_node, element_node, frame_node, NodesView, none, node, ElementView}
+use Rattle.html_dom_tree.specs.{Frames.{HtmlFrameView}, Views.{node_view, nodes_view}, declared.node.HtmlNode.{HtmlNode}}
 use Rattle.html_page_nesting.specs.Ancestors.{Ancestor, ancestor}
 use Rattle.html_page_nesting.specs.Misnested.{Finding, found, misnested_nodes, node_misnested, nodes_misnested}
-use Rattle.html_page_nesting.specs.{NestingRules.{element_misnesting, is_too_deep, root_misnesting}, Surroundings.{surroundings_of}}
+use Rattle.html_page_nesting.specs.{NestingRules.{element_misnesting, frame_misnesting, is_too_deep, root_misnesting, text_misnesting}, Surroundings.{surroundings_of}}
 use Rattle.html_page_nesting.specs.Walks.{node_walk, nodes_walk, surroundings_in}
 use Rattle.html_page_nesting.specs.declared.misnesting.Misnesting.TheVariants as rule
 use Rattle.html_page_nesting.specs.declared.surroundings.Surroundings.{Surroundings}
@@ -21,6 +21,22 @@ walk_ended made first last fs (Ok u) r taken ended = IfOk-weaker r _ _
     (λ given is. ap (λ s. made s []) is.1 ∙ (taken [] ∙ ap (made first) (append-nil fs))) ended
 walk_ended made first last fs (Err e) r taken ended =
     IfOk-weaker r _ _ (λ given is. absurd (true≢false (sym is.0))) ended
+
+-- nodes that are no elements
+module _ (path : List ℕ) (around : Surroundings) where
+  pub tag_walked : (t : TagView) → node_walk path around (tag_node t) ≡ []
+  unfolding node_walk
+  tag_walked t = refl
+
+  pub text_walked : (s : List ℕ) (span : ℕ) → node_walk path around (text_node s span)
+      ≡ found path span (text_misnesting s around)
+  unfolding node_walk
+  text_walked s span = refl
+
+  pub frame_walked : (f : HtmlFrameView) → node_walk path around (frame_node f)
+      ≡ found path f.span (frame_misnesting around)
+  unfolding node_walk
+  frame_walked f = refl
 
 -- what an element is to its children follows from what its own ancestors are to it
 pub inside_is : (h : Head) (above : List Ancestor) →
@@ -67,53 +83,41 @@ none_walked around path i ns is = ap (λ xs. nodes_walk path i around (nodes_vie
 
 -- the findings of a whole tree: those of the root, and those of its children
 pub tree_taken : {Made : Type 0} (e : ElementView) (old between new : List Finding → Made)
-    (start path : List ℕ) (inside : Surroundings) (kids : NodesView) → start ≡ [] →
-    Takes old between (found start e.0.span (root_misnesting e (surroundings_of []))) →
-    path ≡ start → inside ≡ surroundings_in e.0 (surroundings_of []) → kids ≡ e.1 →
-    Takes between new (nodes_walk path 0 inside kids) → Takes old new (misnested_nodes e)
-tree_taken e old between new start path inside kids root own path_is inside_is' kids_is others =
+    (inside : Surroundings) (kids : NodesView) →
+    Takes old between (found [] e.0.span (root_misnesting e (surroundings_of []))) →
+    inside ≡ surroundings_in e.0 (surroundings_of []) → kids ≡ e.1 →
+    Takes between new (nodes_walk [] 0 inside kids) → Takes old new (misnested_nodes e)
+tree_taken e old between new inside kids own inside_is' kids_is others =
     let above = ancestor e.0 [] ∷ [] in
-    let why = root_misnesting e (surroundings_of []) in
-    let here = found start e.0.span why in
-    same_taken old new (here ++ nodes_walk path 0 inside kids) (misnested_nodes e)
-    (both_taken old new between here (nodes_walk path 0 inside kids) own others)
-    (ap (λ p. here ++ nodes_walk p 0 inside kids) (path_is ∙ root)
-    ∙ (ap (λ s. here ++ nodes_walk [] 0 s kids) (inside_is' ∙ inside_is e.0 [])
+    let here = found [] e.0.span (root_misnesting e (surroundings_of [])) in
+    same_taken old new (here ++ nodes_walk [] 0 inside kids) (misnested_nodes e)
+    (both_taken old new between here (nodes_walk [] 0 inside kids) own others)
+    (ap (λ s. here ++ nodes_walk [] 0 s kids) (inside_is' ∙ inside_is e.0 [])
     ∙ (ap (λ ns. here ++ nodes_walk [] 0 (surroundings_of above) ns) kids_is
-    ∙ (ap (λ fs. here ++ fs) (nodes_found [] 0 above e.1)
-    ∙ ap (λ p. found p e.0.span why ++ nodes_misnested [] 0 above e.1) root))))
+    ∙ ap (λ fs. here ++ fs) (nodes_found [] 0 above e.1)))
 
 module _ (path : List ℕ) (around : Surroundings) (h : Head) (kids : NodesView) where
+  abbrev of_element : (too_deep : Bool) → List Finding
+  of_element too_deep = if too_deep then found path h.span (Some rule.TooDeep)
+      else found path h.span (element_misnesting h kids around)
+      ++ nodes_walk path 0 (surroundings_in h around) kids
+
   -- an element that stands too deep is found alone
-  pub too_deep_found : 512 < around.depth →
+  pub too_deep_found : true ≡ is_too_deep around →
       found path h.span (Some rule.TooDeep) ≡ node_walk path around (element_node h kids)
   unfolding node_walk
-  too_deep_found deep = ap (λ b. if b then found path h.span (Some rule.TooDeep)
-      else found path h.span (element_misnesting h kids around)
-      ++ nodes_walk path 0 (surroundings_in h around) kids) (sym (lt-ltb 512 around.depth deep))
+  too_deep_found deep = ap of_element deep
 
   -- another with what is in it
-  element_found : around.depth ≤ 512 →
-      found path h.span (element_misnesting h kids around)
-      ++ nodes_walk path 0 (surroundings_in h around) kids
-      ≡ node_walk path around (element_node h kids)
-  unfolding node_walk
-  element_found within = ap (λ b. if b then found path h.span (Some rule.TooDeep)
-      else found path h.span (element_misnesting h kids around)
-      ++ nodes_walk path 0 (surroundings_in h around) kids) (sym (le-ltb 512 around.depth within))
-
   pub element_taken : {Made : Type 0} (old between new : List Finding → Made)
-      (inner_path : List ℕ) (inside : Surroundings) (ns : NodesView) → around.depth ≤ 512 →
+      (inside : Surroundings) → false ≡ is_too_deep around →
       Takes old between (found path h.span (element_misnesting h kids around)) →
-      inner_path ≡ path → inside ≡ surroundings_in h around → ns ≡ kids →
-      Takes between new (nodes_walk inner_path 0 inside ns) →
+      inside ≡ surroundings_in h around → Takes between new (nodes_walk path 0 inside kids) →
       Takes old new (node_walk path around (element_node h kids))
-  element_taken old between new inner_path inside ns within own path_is inside_is' kids_is others =
+  unfolding node_walk
+  element_taken old between new inside within own inside_is' others =
       let here = found path h.span (element_misnesting h kids around) in
-      same_taken old new (here ++ nodes_walk inner_path 0 inside ns)
+      same_taken old new (here ++ nodes_walk path 0 inside kids)
       (node_walk path around (element_node h kids))
-      (both_taken old new between here (nodes_walk inner_path 0 inside ns) own others)
-      (ap (λ p. here ++ nodes_walk p 0 inside ns) path_is
-      ∙ (ap (λ s. here ++ nodes_walk path 0 s ns) inside_is'
-      ∙ (ap (λ ms. here ++ nodes_walk path 0 (surroundings_in h around) ms) kids_is
-      ∙ element_found within)))
+      (both_taken old new between here (nodes_walk path 0 inside kids) own others)
+      (ap (λ s. here ++ nodes_walk path 0 s kids) inside_is' ∙ ap of_element within)

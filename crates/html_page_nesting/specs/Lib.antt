@@ -10,3 +10,4 @@ pub mod Misnested
 pub mod MisnestedViews
 pub mod MisnestingWords
 pub mod Walks
+pub mod Passing

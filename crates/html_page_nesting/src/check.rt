@@ -23,8 +23,8 @@ use std::alloc::{AllocError, Global};
 /// that some browsers leave where they are; [`Misnesting`](crate::Misnesting) says which.
 ///
 /// Takes time for each node, character and attribute, and for each pair of attributes of an
-/// element. Allocates a path beside the result. Recurses at most 514 levels deep. Fails only if an
-/// allocation fails.
+/// element. Beside the result, allocates only for the open elements, at most 514 at a time. Fails
+/// only if an allocation fails.
 ///
 /// ```
 /// use html_page::{Misnesting, misnested};
@@ -48,8 +48,8 @@ pub fn misnested(alloc: Global, root: &HtmlElement) -> Result<Vec<Misnested>, Al
 }
 
 /// Reports the nodes that [`misnested`] returns to a sink as it finds them, and returns the sink.
-/// Allocates a path beside what the sink does. Fails only if an allocation or the sink fails, and
-/// then hands back the sink, which has taken the nodes up to there.
+/// Beside what the sink does, allocates only for the open elements. Fails only if an allocation or
+/// the sink fails, and then hands back the sink, which has taken the nodes up to there.
 pub fn report_misnested<S: MisnestedSink>(
     alloc: Global,
     root: &HtmlElement,
@@ -63,7 +63,7 @@ pub fn report_misnested<S: MisnestedSink>(
 
 /// Consumes a tree and reports its misnested nodes as [`report_misnested`] does. Frees the nodes on
 /// the way, which leaves room for what the sink keeps: a node once it and its content are passed,
-/// and the list in which it stood in steps of 4,096 nodes.
+/// and the list in which it stood in steps of 4,096 nodes. Recurses at most 514 levels deep.
 pub fn report_misnested_of<S: MisnestedSink>(
     alloc: Global,
     root: HtmlElement,

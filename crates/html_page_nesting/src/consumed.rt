@@ -1,13 +1,14 @@
 //! The walk over a tree that frees its nodes on the way.
 
-ghost use Rattle.std.specs.Prelude.{◌≡◌, ◌-◌, [], take, vec_len, IfOk, OnOk};
+ghost use Rattle.std.specs.Prelude.{◌≡◌, ◌++◌, ◌-◌, ◌∷◌, [], ℕ, List, take, vec_len, IfOk, OnOk};
 ghost use Rattle.html_dom_tree.specs.{Taking.{Takes}, Tree.{element_node}, Views.{element_view, node_view, nodes_view}};
 ghost use Rattle.html_page_nesting.specs.{Misnested.{misnested_nodes}, Walks.{node_walk, nodes_walk}};
 
 use crate::misnested_sink::MisnestedSink;
 use crate::misnesting::Misnesting;
+use crate::reports::Reports;
+use crate::rules::{frame_misnesting, text_misnesting};
 use crate::surroundings::Surroundings;
-use crate::walk::{MOST_ANCESTORS, NestingWalk, leave, pass_node, pass_own, pass_root, report};
 use html_dom_tree::moving::{give_back, reverse_nodes};
 use html_dom_tree::{HtmlElement, HtmlNode};
 use html_names_core::Refused;
@@ -23,20 +24,21 @@ pub(crate) fn walk_tree_of<S: MisnestedSink>(
     ensures { IfOk result (λ given.
         S.made_with given [] ≡ S.made_with sink (misnested_nodes (element_view root))) }
 {
-    let mut walk = NestingWalk::new(alloc, sink);
-    let passed = pass_tree_of(root, &mut walk);
-    walk.finish(passed)
+    let mut reports = Reports::new(alloc, sink);
+    let passed = pass_tree_of(root, &mut reports);
+    reports.finish(passed)
 }
 
 fn pass_tree_of<S: MisnestedSink>(
     mut root: HtmlElement,
-    walk: &mut NestingWalk<S>,
+    reports: &mut Reports<S>,
 ) -> Result<(), AllocError>
-    ensures { walk.old.path.items ≡ [] → OnOk result (Takes (S.made_with walk.old.sink)
-        (S.made_with walk.new.sink) (misnested_nodes (element_view root))) }
+    ensures { OnOk result (Takes (S.made_with reports.old.sink) (S.made_with reports.new.sink)
+        (misnested_nodes (element_view root))) }
 {
-    let inside = pass_root(&root, walk)?;
-    pass_nodes_of(&mut root.children, &inside, walk)
+    let inside = reports.pass_root(&root)?;
+    let mut path = Vec::new(reports.alloc);
+    pass_nodes_of(&mut root.children, &inside, &mut path, reports)
 }
 
 // Each level of the walk has one frame. A node stays in its list until it is passed, since a frame
@@ -46,33 +48,42 @@ fn pass_tree_of<S: MisnestedSink>(
 fn pass_element_of<S: MisnestedSink>(
     element: &mut HtmlElement,
     around: &Surroundings,
-    walk: &mut NestingWalk<S>,
+    path: &mut Vec<usize>,
+    reports: &mut Reports<S>,
 ) -> Result<(), AllocError>
-    ensures path { OnOk result (walk.new.path.items ≡ walk.old.path.items) }
+    ensures path { OnOk result (path.new.items ≡ path.old.items) }
     ensures taken { let e = element_view element.old in
-        OnOk result (Takes (S.made_with walk.old.sink) (S.made_with walk.new.sink)
-        (node_walk walk.old.path.items around.now (element_node e.0 e.1))) }
+        OnOk result (Takes (S.made_with reports.old.sink) (S.made_with reports.new.sink)
+        (node_walk path.old.items around.now (element_node e.0 e.1))) }
 {
-    if around.depth > MOST_ANCESTORS {
-        return report(element.span, Misnesting::TooDeep, walk);
+    if around.is_too_deep() {
+        return reports.report(path.as_slice(), element.span, Some(Misnesting::TooDeep));
     }
-    let inside = pass_own(element, around, walk)?;
-    pass_nodes_of(&mut element.children, &inside, walk)
+    let inside = reports.pass_own(element, around, path.as_slice())?;
+    pass_nodes_of(&mut element.children, &inside, path, reports)
 }
 
 #[cycle(consume)]
 fn pass_node_of<S: MisnestedSink>(
     child: &mut HtmlNode,
     around: &Surroundings,
-    walk: &mut NestingWalk<S>,
+    path: &mut Vec<usize>,
+    reports: &mut Reports<S>,
 ) -> Result<(), AllocError>
-    ensures path { OnOk result (walk.new.path.items ≡ walk.old.path.items) }
-    ensures taken { OnOk result (Takes (S.made_with walk.old.sink) (S.made_with walk.new.sink)
-        (node_walk walk.old.path.items around.now (node_view child.old))) }
+    ensures path { OnOk result (path.new.items ≡ path.old.items) }
+    ensures taken { OnOk result (Takes (S.made_with reports.old.sink) (S.made_with reports.new.sink)
+        (node_walk path.old.items around.now (node_view child.old))) }
 {
     match child {
-        HtmlNode::Element(element) => pass_element_of(element, around, walk),
-        other => pass_node(other, around, walk),
+        HtmlNode::Tag(_) => Ok(()),
+        HtmlNode::Text(text, span) => {
+            let why = text_misnesting(text.as_str(), around);
+            reports.report(path.as_slice(), *span, why)
+        }
+        HtmlNode::Element(element) => pass_element_of(element, around, path, reports),
+        HtmlNode::Frame(frame) => {
+            reports.report(path.as_slice(), frame.span, frame_misnesting(around))
+        }
     }
 }
 
@@ -80,19 +91,20 @@ fn pass_node_of<S: MisnestedSink>(
 fn pass_nodes_of<S: MisnestedSink>(
     nodes: &mut Vec<HtmlNode>,
     around: &Surroundings,
-    walk: &mut NestingWalk<S>,
+    path: &mut Vec<usize>,
+    reports: &mut Reports<S>,
 ) -> Result<(), AllocError>
-    ensures path { OnOk result (walk.new.path.items ≡ walk.old.path.items) }
-    ensures taken { OnOk result (Takes (S.made_with walk.old.sink) (S.made_with walk.new.sink)
-        (nodes_walk walk.old.path.items 0 around.now (nodes_view nodes.old.items))) }
+    ensures path { OnOk result (path.new.items ≡ path.old.items) }
+    ensures taken { OnOk result (Takes (S.made_with reports.old.sink) (S.made_with reports.new.sink)
+        (nodes_walk path.old.items 0 around.now (nodes_view nodes.old.items))) }
 {
     let mut index = 0;
     reverse_nodes(nodes);
     while let Some(child) = nodes.last_mut() {
-        walk.path.push(index)?;
-        pass_node_of(child, around, walk)?;
+        path.push(index)?;
+        pass_node_of(child, around, path, reports)?;
         drop_last(nodes);
-        leave(&mut walk.path);
+        leave(path);
         index += 1;
     }
     Ok(())
@@ -104,4 +116,11 @@ fn drop_last(nodes: &mut Vec<HtmlNode>)
 {
     let _ = nodes.pop();
     give_back(nodes);
+}
+
+fn leave(path: &mut Vec<usize>)
+    ensures { (parent : List ℕ) → (index : ℕ) → path.old.items ≡ parent ++ index ∷ [] →
+        path.new.items ≡ parent }
+{
+    let _ = path.pop();
 }

@@ -14,6 +14,7 @@ mod misnested_sink;
 mod misnesting;
 pub mod page;
 pub mod reading;
+mod reports;
 mod rules;
 pub mod surroundings;
 mod texts;

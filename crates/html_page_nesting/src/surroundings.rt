@@ -1,6 +1,12 @@
 //! What a node's ancestors mean for it.
 
+ghost use Rattle.std.specs.Prelude.{◌≡◌, ◌≤◌, false};
+ghost use Rattle.html_page_nesting.specs.NestingRules.{is_too_deep};
+
 use crate::reading::{Place, Reading};
+
+/// The greatest number of ancestors with which browsers leave an element where it is.
+const MOST_ANCESTORS: usize = 512;
 
 /// The kinds of the parent, if it is an element of HTML.
 #[derive(Clone, Copy)]
@@ -71,4 +77,12 @@ impl Surroundings {
             outer_select: false,
         },
     };
+
+    /// Returns whether browsers put an element elsewhere that has so many ancestors.
+    pub(crate) fn is_too_deep(&self) -> bool
+        ensures deep { result ≡ is_too_deep self.now }
+        ensures within { result ≡ false → self.now.depth ≤ 512 }
+    {
+        self.depth > MOST_ANCESTORS
+    }
 }

@@ -1,20 +1,12 @@
--- What stands since `&` is ASCII, and numbers above those of all characters are one as another.
-use Rattle.std.proofs.Common.{◌≡◌, ℕ, zero, suc, ◌+◌, ◌-◌, ◌*◌, ◌<◌, ◌≤◌, true, inl, inr, List, [], ◌∷◌, Option, Some, None, chars, drop, length, min, take, refl, sym, ap, ◌∙◌, arith}
+-- Numbers above those of all characters are one as another.
+use Rattle.std.proofs.Common.{◌≡◌, ℕ, zero, suc, ◌+◌, ◌-◌, ◌*◌, ◌≤◌, true, inl, inr, List, [], ◌∷◌, Option, Some, None, chars, drop, length, min, take, refl, sym, ap, ◌∙◌, arith}
 use Rattle.std.specs.{Char.{digit_value}, Str.Parse.{digits_value, digits_value_after}}
 use native.Mathlib.Nat.{mul-le-mul_left, mul-one, min_comm, min-eq_left, min-le_left, le_refl}
 use Rattle.std.proofs.lemmas.{Bool.{cases_lt}, List.{take_all, drop_all}, Str.{IsAscii-take, IsAscii-drop, chars-IsAscii}}
 use Rattle.std.proofs.lemmas.Bool.Decides.{nat_tests}
 use Rattle.html_names_core.{proofs.Basics.{is_ascii_is}, proofs.Lists.{chars_ascii}, specs.Names.{is_ascii}}
 use Rattle.html_page_names.specs.NamedReferences.{legacy_reference}
-use Rattle.html_page_read.specs.PageReferences.{continues, continues_number, numbered, numbered_char, number_error, resolved_number, found_before, longest_legacy}
-
-number_ascii : (since : List ℕ) (c : ℕ) → continues_number since c ≡ true → c < 128
-number_ascii [] c h = grind (arith, nat_tests)
-number_ascii (d ∷ ds) c h = grind (arith, nat_tests)
-
-pub continues_ascii : (since : List ℕ) (c : ℕ) → continues since c ≡ true → c < 128
-continues_ascii [] c h = grind (arith, nat_tests)
-continues_ascii (s ∷ ss) c h = grind (arith, nat_tests, number_ascii ss c)
+use Rattle.html_page_read.specs.PageReferences.{numbered, numbered_char, number_error, resolved_number, found_before, longest_legacy}
 
 min-eq_right : {m n : ℕ} → n ≤ m → min m n ≡ n
 min-eq_right {m} {n} h = min_comm m n ∙ min-eq_left h

@@ -5,7 +5,7 @@ use Rattle.std.proofs.lemmas.{Str.{IsAscii-take, IsUtf8-from_ascii, chars-IsAsci
 use Rattle.std.specs.{Char.{to_ascii_lowercase}, List.{starts_with}, Str.{IsUtf8, IsAscii}}
 use lib.Utf8.{encodes}
 use Rattle.html_names_core.{proofs.Basics.{is_ascii_is}, proofs.Lists.{chars_ascii, bytes_eq-chars}, specs.Names.{is_ascii}}
-use Rattle.html_text.proofs.{Places.{first_long}, RawEnds.{raised, same_tests}, Words.{chars_after_word, front_ascii, word_before}}
+use Rattle.html_text.proofs.{Places.{first_long}, RawEnds.{raised}, Words.{front_ascii}}
 
 empty_of : (cs t : List ℕ) → encodes cs ≡ t → eqb (length cs) 0 ≡ eqb (length t) 0
 empty_of [] t e = ap (λ l. eqb (length l) 0) e
@@ -18,17 +18,6 @@ pub is_word : (n t : List ℕ) → is_ascii n ≡ true → IsUtf8 t →
     bytes_eq (chars t) n ≡ bytes_eq t n
 is_word n t a u = ap (bytes_eq (chars t)) (sym (chars_ascii n a))
     ∙ bytes_eq-chars t n u (IsUtf8-from_ascii n (is_ascii_is n a))
-
--- a text begins with a word
-pub text_begins : (front text : List ℕ) → is_ascii front ≡ true → IsUtf8 text →
-    starts_with eqb text front ≡ starts_with eqb (chars text) front
-text_begins front text a u = same_tests _ _
-    (λ h. (starts_is Decides-eqb (chars text) front (starts_with eqb (chars text) front) refl).1 _
-    (chars_after_word front text _ a
-    ((starts_is Decides-eqb text front (starts_with eqb text front) refl).0 h)))
-    (λ h. (starts_is Decides-eqb text front (starts_with eqb text front) refl).1 _
-    (word_before front text _ a u
-    ((starts_is Decides-eqb (chars text) front (starts_with eqb (chars text) front) refl).0 h)))
 
 pub empty_chars : (t : List ℕ) → IsUtf8 t → eqb (length (chars t)) 0 ≡ eqb (length t) 0
 empty_chars t u = empty_of (chars t) t (encodes-chars t u)

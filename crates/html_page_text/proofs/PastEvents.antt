@@ -94,7 +94,8 @@ first_past p (path, tag t) later = refl
 first_past p (path, text x span) later = refl
 first_past p (path, frame f) later = refl
 first_past p (path, leave) later = refl
-first_past p (path, enter h) later = by_skip (has_no_content h) (past_event p (enter h)) later
+first_past p (path, enter h kids) later =
+    by_skip (has_no_content h) (past_event p (enter h kids)) later
 
 -- a turn of the walk goes past the first of the events
 pub turn_past : (p q : Progress) (events left later : List Placed) (path : List ℕ) (e : Event)

@@ -51,7 +51,7 @@ abbrev pub past_event : Progress → Event → Progress
 past_event p (tag t) = p
 past_event p (text s span) = record p { seen = run p.seen (text_atoms p.preserved s) }
 past_event p (frame f) = p
-past_event p (enter h) = entered p h
+past_event p (enter h kids) = entered p h
 past_event p leave = left p
 
 -- whether what is below the node of an event is skipped
@@ -59,7 +59,7 @@ abbrev pub is_skipped : Event → Bool
 is_skipped (tag t) = false
 is_skipped (text s span) = false
 is_skipped (frame f) = false
-is_skipped (enter h) = has_no_content h
+is_skipped (enter h kids) = has_no_content h
 is_skipped leave = false
 
 -- the progress past nodes

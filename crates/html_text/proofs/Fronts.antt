@@ -1,9 +1,9 @@
 -- Fronts of texts, of bytes that a table has, and of the characters that these bytes make.
-use Rattle.std.proofs.Common.{◌≡◌, ℕ, ◌+◌, ◌/◌, ◌<◌, ◌≤◌, zero, suc, Bool, true, false, not, ◌&&◌, cond, List, [], ◌∷◌, ◌++◌, bit_and, chars, drop, get_or, length, length-append, take, refl, sym, ap, subst, ◌∙◌, arith}
-use Rattle.std.proofs.lemmas.{Bool.{agree_below, agree_below_at, and_from, and_parts, ltb-true}, List.{get_or_past, take-append-drop}}
-use Rattle.std.proofs.lemmas.Str.{IsUtf8-take, IsUtf8-drop, IsUtf8-from_ascii, chars-IsAscii, chars-append, encodes-chars, scalars-chars}
-use Rattle.std.proofs.lemmas.{Bool.Decides.{nat_tests}, List.Folds.{list_all-append, list_all_more}, Str.Ascii.{IsAscii-nil, IsAscii-cons}}
-use Rattle.std.specs.{List.{list_all}, Prelude.{◌==◌, if◌then◌else◌, nat_le, nat_lt}, Str.{IsUtf8, IsAscii, IsCharBoundary}}
+use Rattle.std.proofs.Common.{◌≡◌, ℕ, ◌+◌, ◌/◌, ◌<◌, ◌≤◌, Bool, true, false, not, ◌&&◌, cond, List, [], ◌∷◌, ◌++◌, bit_and, chars, length, length-append, take, refl, sym, ap, subst, ◌∙◌, arith}
+use Rattle.std.proofs.lemmas.{Bool.{agree_below, agree_below_at, and_from, and_parts, ltb-true}, List.{get_or_past}}
+use Rattle.std.proofs.lemmas.Str.{IsUtf8-from_ascii, chars-IsAscii, chars-append, encodes-chars, scalars-chars}
+use Rattle.std.proofs.lemmas.{Bool.Decides.{nat_tests}, List.Folds.{list_all-append}, Str.Ascii.{IsAscii-nil, IsAscii-cons}}
+use Rattle.std.specs.{List.{list_all}, Prelude.{◌==◌, if◌then◌else◌, nat_le, nat_lt}, Str.{IsUtf8, IsAscii}}
 use Rattle.html_names_core.specs.Characters.{all, is_tag_char}
 use Rattle.html_text.proofs.Words.{own_bytes}
 use Rattle.html_text.specs.Fronts.{BeginsWith, CutsAll, SplitsFront, StopsBetween, begins_with, has_byte, is_common, is_name_char}
@@ -15,52 +15,6 @@ use lib.Utf8.{scalar, scalars, encode, encodes, next}
 module _ (has : ℕ → Bool) (text : List ℕ) where
   abbrev pub Had : ℕ → Type 0
   Had at = list_all has (take at text) ≡ true
-
-  pub one_had : (at : ℕ) → at < length text → has (get_or text at 0) ≡ true → Had at → Had (at + 1)
-  one_had at within h had = list_all_more has text at 0 within ∙ and_from _ _ had h
-
-  pub four_had : (at : ℕ) → at + 4 ≤ length text →
-      (has (get_or text at 0) && (has (get_or text (at + 1) 0)
-      && (has (get_or text (at + 2) 0) && has (get_or text (at + 3) 0)))) ≡ true →
-      Had at → Had (at + 4)
-  four_had at within h had =
-      let first = and_parts (has (get_or text at 0)) _ h in
-      let second = and_parts (has (get_or text (at + 1) 0)) _ first.1 in
-      let last = and_parts (has (get_or text (at + 2) 0)) _ second.1 in
-      let one = one_had at (omega (arith, within)) first.0 had in
-      let two = subst Had {x = at + 1 + 1} {y = at + 2} (omega arith)
-      (one_had (at + 1) (omega (arith, within)) second.0 one) in
-      let three = subst Had {x = at + 2 + 1} {y = at + 3} (omega arith)
-      (one_had (at + 2) (omega (arith, within)) last.0 two) in
-      subst Had {x = at + 3 + 1} {y = at + 4} (omega arith)
-      (one_had (at + 3) (omega (arith, within)) last.1 three)
-
-  pub cut_there : (at : ℕ) → StopsBetween has → at ≤ length text →
-      (at < length text → has (get_or text at 0) ≡ false) → IsCharBoundary text at
-  cut_there at between within stops =
-      (within, λ below over. between (get_or text at 0) (stops below) over)
-
-stops_at : (has : ℕ → Bool) (text : List ℕ) (at : ℕ) → at ≤ length text →
-    (at < length text → has (get_or text at 0) ≡ false) → begins_with has (drop at text) ≡ false
-stops_at has [] zero within h = refl
-stops_at has [] (suc n) within h = refl
-stops_at has (b ∷ bs) zero within h = h (omega arith)
-stops_at has (b ∷ bs) (suc n) within h =
-    stops_at has bs n (omega (arith, within)) (λ l. h (omega (arith, l)))
-
-pub split_there : (has : ℕ → Bool) (text front rest : List ℕ) (at : ℕ) → StopsBetween has →
-    IsUtf8 text → at ≤ length text → Had has text at →
-    (at < length text → has (get_or text at 0) ≡ false) →
-    front ≡ take at text → rest ≡ drop at text → SplitsFront has text front rest
-split_there has text front rest at between u within had stops e k =
-    let cut = cut_there has text at between within stops in
-    rw (e, k) record {
-      parts = sym (take-append-drop at text);
-      front_utf8 = IsUtf8-take text at u cut;
-      rest_utf8 = IsUtf8-drop text at u cut;
-      had = had;
-      stops = stops_at has text at within stops;
-    }
 
 -- the characters that bytes make
 

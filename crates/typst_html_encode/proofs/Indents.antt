@@ -37,15 +37,11 @@ short_line n h = (bytes_eq-Decides (slice_range LINE.now 0 (1 + 2 * n)) (indent 
 
 pub levels_left : (old new text : List ℕ) (m n : ℕ) → m ≤ n → new ≡ old ++ text → text ≡ spaces m →
     new ++ spaces (n - m) ≡ old ++ spaces n
-levels_left old new text m n h e t =
-    ap (λ s. s ++ spaces (n - m)) (e ∙ ap (λ s. old ++ s) t)
-    ∙ (append_assoc old (spaces m) (spaces (n - m))
-    ∙ ap (λ s. old ++ s) (spaces_add m (n - m) ∙ ap spaces (omega (arith, h))))
+levels_left old new text m n h e t = rw (e, t, append_assoc, spaces_add m (n - m))
+    (ap (λ k. old ++ spaces k) (omega (arith, h)))
 
 pub indent_left : (old new text out : List ℕ) (m n : ℕ) → m ≤ n → new ≡ old ++ text →
     text ≡ indent m → out ≡ new ++ spaces (n - m) → out ≡ old ++ indent n
 unfolding indent
-indent_left old new text out m n h e t o =
-    o ∙ (ap (λ s. s ++ spaces (n - m)) (e ∙ ap (λ s. old ++ s) t)
-    ∙ (append_assoc old (10 ∷ spaces m) (spaces (n - m))
-    ∙ ap (λ s. old ++ 10 ∷ s) (spaces_add m (n - m) ∙ ap spaces (omega (arith, h)))))
+indent_left old new text out m n h e t o = rw (o, e, t, append_assoc, spaces_add m (n - m))
+    (ap (λ k. old ++ 10 ∷ spaces k) (omega (arith, h)))

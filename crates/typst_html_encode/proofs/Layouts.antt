@@ -1,5 +1,5 @@
 -- Indents and lines that grow at their end.
-use Rattle.std.proofs.Common.{◌≡◌, ℕ, List, [], ◌∷◌, ◌++◌, Bool, true, false, ◌||◌, refl, ap, sym, ◌∙◌, append_assoc, append-nil}
+use Rattle.std.proofs.Common.{◌≡◌, ℕ, List, [], ◌∷◌, ◌++◌, Bool, true, false, ◌||◌, refl, ap, append_assoc, append-nil}
 use Rattle.std.{proofs.Math.Bool.{and_comm}, specs.Prelude.{if◌then◌else◌}}
 use Rattle.typst_html_encode.specs.Layout.{by_lines}
 
@@ -11,12 +11,8 @@ pub by_lines_more : (b : Bool) (i : List ℕ) (ls : List (List ℕ)) (l : List �
     by_lines b i (ls ++ l ∷ []) ≡ by_lines b i ls ++ ((if b || begun ls then i else []) ++ l)
 by_lines_more true i [] l = ap (λ s. i ++ s) (append-nil l)
 by_lines_more false i [] l = append-nil l
-by_lines_more true i (x ∷ xs) l =
-    ap (λ s. i ++ (x ++ s)) (by_lines_more true i xs l)
-    ∙ sym (append_assoc i (x ++ by_lines true i xs) (i ++ l)
-    ∙ ap (λ s. i ++ s) (append_assoc x (by_lines true i xs) (i ++ l)))
-by_lines_more false i (x ∷ xs) l = ap (λ s. x ++ s) (by_lines_more true i xs l)
-    ∙ sym (append_assoc x (by_lines true i xs) (i ++ l))
+by_lines_more true i (x ∷ xs) l = rw (by_lines_more true i xs l) (simp append_assoc)
+by_lines_more false i (x ∷ xs) l = rw (by_lines_more true i xs l) (simp append_assoc)
 
 pub begun_more : (b : Bool) (ls : List (List ℕ)) (l : List ℕ) → true ≡ (b || begun (ls ++ l ∷ []))
 begun_more true ls l = refl

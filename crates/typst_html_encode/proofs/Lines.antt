@@ -1,5 +1,5 @@
 -- Lines: what they keep of what holds of a text, and those of a text's bytes and of its characters.
-use Rattle.std.proofs.Common.{◌≡◌, ◌⊎◌, ℕ, suc, ◌+◌, ◌-◌, ◌≤◌, ◌/◌, List, [], ◌∷◌, ◌++◌, true, false, cond, ltb, length, take, get_or, refl, ap, sym, ◌∙◌, subst, inl, inr, append_assoc, append-nil, arith, length-append, chars, IsUtf8}
+use Rattle.std.proofs.Common.{◌≡◌, ◌⊎◌, ℕ, suc, ◌+◌, ◌-◌, ◌<◌, ◌≤◌, ◌/◌, List, [], ◌∷◌, ◌++◌, true, false, cond, ltb, length, take, get_or, refl, ap, sym, ◌∙◌, subst, inl, inr, append_assoc, append-nil, arith, length-append, chars, IsUtf8}
 use Rattle.std.proofs.Math.Seq.{take-append_seam, get_or-append_seam}
 use Rattle.std.proofs.lemmas.{Bool.{cases_Bool, and_parts, and_from, eqb-true, ne_eqb}, List.{take_more, take_all}}
 use Rattle.std.proofs.lemmas.Str.{chars-encodes, encodes-chars, scalars-chars, encodes-append, encode_ascii, length-le-encodes}
@@ -28,18 +28,13 @@ module _ (P : List ℕ → Type 0) (stripped : (q : List ℕ) → P (q ++ 13 ∷
   strip_keeps : (l : List ℕ) → P l → P (strip_carriage_return l)
   strip_keeps l h = elim (last_return l) [
     | inl e ↦ rw e h
-    | inr e ↦
-        stripped (strip_carriage_return l) (subst P e h)
+    | inr e ↦ stripped _ (subst P e h)
   ]
 
   of_parts : (ps : List (List ℕ)) → AllByRecursion P ps → AllByRecursion P (lines_of_parts ps)
   of_parts [] h = tt
   of_parts ([] ∷ []) h = tt
-  of_parts ((c ∷ cs) ∷ []) h = elim (cases_Bool (length (c ∷ cs) == 0)) [
-    | inl e ↦ rw e tt
-    | inr e ↦
-        rw e h
-  ]
+  of_parts ((c ∷ cs) ∷ []) h = rw (ne_eqb (length (c ∷ cs)) 0 (λ e. omega arith)) h
   of_parts (x ∷ y ∷ more) h = (strip_keeps x h.0, of_parts (y ∷ more) h.1)
 
   module _ (Q : List ℕ → Type 0) (whole : (q : List ℕ) → Q q → P q)
@@ -73,45 +68,41 @@ onto_none : (r : List ℕ) → onto [] (slice_split (λ b. b == 10) r) ≡ slice
 onto_none [] = refl
 onto_none (x ∷ xs) = elim (cases_Bool (x == 10)) [
   | inl e ↦ rw e refl
-  | inr e ↦
-      rw e (onto_none_first x (slice_split (λ b. b == 10) xs))
+  | inr e ↦ rw e (onto_none_first x (slice_split (λ b. b == 10) xs))
 ]
 
--- no byte of a list is a line feed
-abbrev feedless : List ℕ → Type 0
-feedless = AllByRecursion (λ b. (b == 10) ≡ false)
+-- the byte is none of the list
+abbrev lacks : ℕ → List ℕ → Type 0
+lacks b = AllByRecursion (λ x. (x == b) ≡ false)
 
-split_onto : (xs r : List ℕ) → feedless xs → slice_split (λ b. b == 10) (xs ++ r)
+split_onto : (xs r : List ℕ) → lacks 10 xs → slice_split (λ b. b == 10) (xs ++ r)
     ≡ onto xs (slice_split (λ b. b == 10) r)
 split_onto [] r f = sym (onto_none r)
 split_onto (x ∷ xs) r f = rw (f.0, split_onto xs r f.1)
     (onto_more x xs (slice_split (λ b. b == 10) r))
 
-high : (n : ℕ) → 128 ≤ n → (n == 10) ≡ false
-high n h = ne_eqb n 10 (λ e. omega arith)
+high : (b n : ℕ) → b < 128 → 128 ≤ n → (n == b) ≡ false
+high b n s h = ne_eqb n b (λ e. omega arith)
 
-encode_feedless : (c : ℕ) → (c == 10) ≡ false → feedless (encode c)
+-- a character has the bytes below 128 that it is itself
+encode_lacks : (b c : ℕ) → b < 128 → (c == b) ≡ false → lacks b (encode c)
 unfolding encode
-encode_feedless c f =
-    elim (cases_Bool (ltb c 128)) [
-      | inl e ↦ rw e (f, tt)
-      | inr e ↦ elim (cases_Bool (ltb c 2048)) [
-        | inl g ↦ rw (e, g) (high (192 + c / 64) (omega arith), (high (next c) (omega arith), tt))
+encode_lacks b c s f = elim (cases_Bool (ltb c 128)) [
+  | inl e ↦ rw e (f, tt)
+  | inr e ↦
+      let last : (next c == b) ≡ false = high b (next c) s (omega arith) in
+      let third : (next (c / 64) == b) ≡ false = high b (next (c / 64)) s (omega arith) in
+      elim (cases_Bool (ltb c 2048)) [
+        | inl g ↦ rw (e, g) (high b (192 + c / 64) s (omega arith), (last, tt))
         | inr g ↦ elim (cases_Bool (ltb c 65536)) [
-          | inl k ↦ rw (e, g, k) (
-            high (224 + c / 4096) (omega arith),
-            (high (next (c / 64)) (omega arith), (high (next c) (omega arith), tt)),
-          )
+          | inl k ↦ rw (e, g, k) (high b (224 + c / 4096) s (omega arith), (third, (last, tt)))
           | inr k ↦ rw (e, g, k) (
-            high (240 + c / 262144) (omega arith),
-            (
-              high (next (c / 4096)) (omega arith),
-              (high (next (c / 64)) (omega arith), (high (next c) (omega arith), tt)),
-            ),
+            high b (240 + c / 262144) s (omega arith),
+            (high b (next (c / 4096)) s (omega arith), (third, (last, tt))),
           )
         ]
       ]
-    ]
+]
 
 onto_map : (c : ℕ) (ps : List (List ℕ)) → onto (encode c) (map encodes ps)
     ≡ map encodes (onto_first c ps)
@@ -124,8 +115,11 @@ split_encodes [] = refl
 split_encodes (c ∷ cs) =
     elim (cases_Bool (c == 10)) [
       | inl e ↦ rw (e, eqb-true c 10 e, encode_ascii 10 (omega arith), split_encodes cs) refl
-      | inr e ↦ rw (split_onto (encode c) (encodes cs) (encode_feedless c e), split_encodes cs, e)
-          (onto_map c (slice_split (λ b. b == 10) cs))
+      | inr e ↦ rw (
+        split_onto (encode c) (encodes cs) (encode_lacks 10 c (omega arith) e),
+        split_encodes cs,
+        e,
+      ) (onto_map c (slice_split (λ b. b == 10) cs))
     ]
 
 -- the last carriage return
@@ -143,68 +137,37 @@ record EndsElse (xs : List ℕ) : Type 0 where
   is : xs ≡ front ++ back ∷ []
   else_back : (back == 13) ≡ false
 
-high_back : (n : ℕ) → 128 ≤ n → (n == 13) ≡ false
-high_back n h = ne_eqb n 13 (λ e. omega arith)
-
-encode_ends : (c : ℕ) → (c == 13) ≡ false → EndsElse (encode c)
-unfolding encode
-encode_ends c f =
-    elim (cases_Bool (ltb c 128)) [
-      | inl e ↦ rw e (record { front = []; back = c; is = refl; else_back = f })
-      | inr e ↦ elim (cases_Bool (ltb c 2048)) [
-        | inl g ↦ rw (e, g) (record {
-          front = (192 + c / 64) ∷ [];
-          back = next c;
-          is =
-              refl;
-          else_back = high_back (next c) (omega arith);
-        })
-        | inr g ↦ elim (cases_Bool (ltb c 65536)) [
-          | inl k ↦ rw (e, g, k) (record {
-            front = (224 + c / 4096) ∷ next (c / 64) ∷ [];
-            back =
-                next c;
-            is = refl;
-            else_back = high_back (next c) (omega arith);
-          })
-          | inr k ↦ rw (e, g, k) (record {
-            front =
-                (240 + c / 262144) ∷ next (c / 4096) ∷ next (c / 64) ∷ [];
-            back = next c;
-            is =
-                refl;
-            else_back = high_back (next c) (omega arith);
-          })
-        ]
-      ]
-    ]
-
 strip_else : (xs : List ℕ) → EndsElse xs → strip_carriage_return xs ≡ xs
 strip_else xs r = rw (r.is, strip_last r.front r.back, r.else_back) refl
 
-encodes_last : (q : List ℕ) (d : ℕ) → encodes (q ++ d ∷ []) ≡ encodes q ++ encode d
-encodes_last q d = encodes-append q (d ∷ []) ∙ ap (λ l. encodes q ++ l) (append-nil (encode d))
-
-ends_after : (xs ys : List ℕ) → EndsElse ys → EndsElse (xs ++ ys)
-ends_after xs ys r = record {
+ends_after : (xs : List ℕ) {ys : List ℕ} → EndsElse ys → EndsElse (xs ++ ys)
+ends_after xs r = record {
   front = xs ++ r.front;
   back = r.back;
-  is = ap (λ l. xs ++ l) r.is
-      ∙ sym (append_assoc xs r.front (r.back ∷ []));
+  is = rw append_assoc (ap (λ l. xs ++ l) r.is);
   else_back = r.else_back;
 }
 
+ends_of : (xs : List ℕ) → 1 ≤ length xs → lacks 13 xs → EndsElse xs
+ends_of [] l h = absurd (omega arith)
+ends_of (x ∷ []) l h = record { front = []; back = x; is = refl; else_back = h.0 }
+ends_of (x ∷ y ∷ ys) l h = ends_after (x ∷ []) (ends_of (y ∷ ys) (omega arith) h.1)
+
 strip_encodes_last : (q : List ℕ) (d : ℕ) → strip_carriage_return (encodes (q ++ d ∷ []))
     ≡ encodes (strip_carriage_return (q ++ d ∷ []))
-strip_encodes_last q d =
-    elim (cases_Bool (d == 13)) [
-      | inl e ↦ ap strip_carriage_return (encodes_last q d
-          ∙ ap (λ l. encodes q ++ l) (ap encode (eqb-true d 13 e) ∙ encode_ascii 13 (omega arith)))
-          ∙ (strip_last (encodes q) 13 ∙ ap encodes (sym (strip_last q d ∙ rw e refl)))
-      | inr e ↦ strip_else (encodes (q ++ d ∷ []))
-          (rw (encodes_last q d) (ends_after (encodes q) (encode d) (encode_ends d e)))
-          ∙ ap encodes (sym (strip_last q d ∙ rw e refl))
-    ]
+strip_encodes_last q d = elim (cases_Bool (d == 13)) [
+  | inl e ↦ rw (
+    eqb-true d 13 e,
+    encodes-append q (13 ∷ []),
+    encode_ascii 13 (omega arith),
+    strip_last (encodes q) 13,
+    strip_last q 13,
+  ) refl
+  | inr e ↦ rw (strip_last q d, e) (strip_else (encodes (q ++ d ∷ []))
+      (rw (encodes-append q (d ∷ []), append-nil (encode d)) (ends_after (encodes q)
+      (ends_of (encode d) (rw append-nil at (length-le-encodes (d ∷ [])))
+      (encode_lacks 13 d (omega arith) e)))))
+]
 
 strip_encodes : (l : List ℕ) → strip_carriage_return (encodes l) ≡ encodes (strip_carriage_return l)
 strip_encodes [] = refl
@@ -223,10 +186,8 @@ parts_encodes : (ps : List (List ℕ)) → lines_of_parts (map encodes ps)
     ≡ map encodes (lines_of_parts ps)
 parts_encodes [] = refl
 parts_encodes ([] ∷ []) = refl
-parts_encodes ((c ∷ cs) ∷ []) = rw (
-  not_empty c cs,
-  ne_eqb (length (c ∷ cs)) 0 (λ e. omega arith),
-) refl
+parts_encodes ((c ∷ cs) ∷ []) =
+    rw (not_empty c cs, ne_eqb (length (c ∷ cs)) 0 (λ e. omega arith)) refl
 parts_encodes (x ∷ y ∷ more) = rw (strip_encodes x, parts_encodes (y ∷ more)) refl
 
 lines_encodes : (cs : List ℕ) → lines (encodes cs) ≡ map encodes (lines cs)
@@ -242,10 +203,9 @@ scalars_parts (c ∷ cs) b h =
     (and_from (scalar c) (scalars cs) p.0 q.0, q.1)
 
 scalar_lines : (cs : List ℕ) → scalars cs ≡ true → AllByRecursion (λ l. scalars l ≡ true) (lines cs)
-scalar_lines cs h =
-    lines_are (λ l. scalars l ≡ true) (λ q k. (scalars_parts q (13 ∷ []) k).0)
-    (λ l. scalars l ≡ true) (λ q k. k) (λ q r k. let p =
-    scalars_parts q (10 ∷ r) k in (p.0, (and_parts true (scalars r) p.1).1)) cs h
+scalar_lines cs h = lines_are (λ l. scalars l ≡ true)
+    (λ q k. (scalars_parts q (13 ∷ []) k).0) (λ l. scalars l ≡ true) (λ q k. k)
+    (λ q r k. let p = scalars_parts q (10 ∷ r) k in (p.0, (and_parts true (scalars r) p.1).1)) cs h
 
 chars_of_each : (ls : List (List ℕ)) → AllByRecursion (λ l. scalars l ≡ true) ls →
     map chars (map encodes ls) ≡ ls

@@ -1,5 +1,5 @@
 -- A raw text on lines of its own holds no closing tag, where the text with a line feed holds none.
-use Rattle.std.proofs.Common.{◌≡◌, ℕ, zero, suc, ◌+◌, List, [], ◌∷◌, ◌++◌, Bool, true, false, not, ◌&&◌, refl, ap, sym, ◌∙◌, subst, inl, inr, append_assoc, append-nil, codes, map}
+use Rattle.std.proofs.Common.{◌≡◌, ℕ, zero, suc, ◌+◌, List, [], ◌∷◌, ◌++◌, Bool, true, false, not, ◌&&◌, refl, ap, sym, ◌∙◌, inl, inr, append_assoc, append-nil, codes, map}
 use Rattle.std.proofs.lemmas.Bool.{cases_Bool, and_parts, or_parts, or_from, not-true}
 use Rattle.std.specs.{Char.{to_ascii_lowercase}, List.{AllByRecursion}, Prelude.{◌==◌}, Str.Lines.{lines}}
 use Rattle.html_names_core.specs.Kinds.{is_raw}
@@ -22,10 +22,7 @@ lines_after : (outer inner : ℕ) (ls : List (List ℕ)) →
 unfolding indent
 lines_after outer inner [] = refl
 lines_after outer inner (l ∷ ls) =
-    ap (λ s. 10 ∷ s) (append_assoc (spaces inner) (l ++ by_lines true (10 ∷ spaces inner) ls)
-    (10 ∷ spaces outer)
-    ∙ ap (λ s. spaces inner ++ s) (append_assoc l (by_lines true (10 ∷ spaces inner) ls)
-    (10 ∷ spaces outer) ∙ ap (λ s. l ++ s) (lines_after outer inner ls)))
+    rw (append_assoc (spaces inner), append_assoc l, lines_after outer inner ls) refl
 
 -- a word that begins with `<`, and a text that goes on with a character that ends tags
 module _ (xs : List ℕ) (feed : lacks 10 (60 ∷ xs) ≡ true) where
@@ -40,43 +37,31 @@ module _ (xs : List ℕ) (feed : lacks 10 (60 ∷ xs) ≡ true) where
     unfolding is_tag_end
     swapped [] [] r k l = ends
     swapped [] (y ∷ q) r k l = refl
-    swapped (x ∷ c) [] r k l =
-        rw (
-          low,
-          not-true (e == x) (and_parts (not (e == x)) (lacks e c) k).0,
-          not-true (10 == x) (and_parts (not (10 == x)) (lacks 10 c) l).0,
-        ) refl
-    swapped (x ∷ c) (y ∷ q) r k l =
-        ap (λ t. (to_ascii_lowercase y == x) && t)
-        (swapped c q r (and_parts (not (e == x)) (lacks e c) k).1
-        (and_parts (not (10 == x)) (lacks 10 c) l).1)
+    swapped (x ∷ c) [] r k l = rw (
+      low,
+      not-true (e == x) (and_parts _ _ k).0,
+      not-true (10 == x) (and_parts _ _ l).0,
+    ) refl
+    swapped (x ∷ c) (y ∷ q) r k l = ap (λ t. (to_ascii_lowercase y == x) && t)
+        (swapped c q r (and_parts (not (e == x)) _ k).1 (and_parts (not (10 == x)) _ l).1)
 
     begins_none : (r : List ℕ) → begins_closing (60 ∷ xs) (e ∷ r) ≡ false
-    begins_none r = rw (
-      low,
-      not-true (e == 60)
-          (and_parts (not (e == 60)) (lacks e xs) lacking).0,
-    ) refl
+    begins_none r = rw (low, not-true (e == 60) (and_parts _ _ lacking).0) refl
 
     cut : (q r : List ℕ) → has_closing (60 ∷ xs) (q ++ e ∷ r) ≡ false →
         Ended q × (has_closing (60 ∷ xs) r ≡ false)
-    cut [] r h = (refl, (or_parts (begins_closing (60 ∷ xs) (e ∷ r)) (has_closing (60 ∷ xs) r) h).1)
+    cut [] r h = (refl, (or_parts _ _ h).1)
     cut (y ∷ q) r h =
-        let p = or_parts (begins_closing (60 ∷ xs) (y ∷ (q ++ e ∷ r))) (has_closing (60 ∷ xs) (q ++ e ∷ r)) h in
-        let rest = cut q r p.1 in (
-          or_from (begins_closing (60 ∷ xs) (y ∷ (q ++ 10 ∷ []))) (has_closing (60 ∷ xs) (q ++ 10 ∷ []))
-              (sym (swapped (60 ∷ xs) (y ∷ q) r lacking feed) ∙ p.0) rest.0,
-          rest.1,
-        )
+        let p = or_parts (begins_closing (60 ∷ xs) (y ∷ (q ++ e ∷ r))) _ h in
+        let rest = cut q r p.1 in
+        (or_from _ _ (sym (swapped (60 ∷ xs) (y ∷ q) r lacking feed) ∙ p.0) rest.0, rest.1)
 
     uncut : (q r : List ℕ) → Ended q → has_closing (60 ∷ xs) r ≡ false →
         has_closing (60 ∷ xs) (q ++ e ∷ r) ≡ false
-    uncut [] r h k = or_from (begins_closing (60 ∷ xs) (e ∷ r)) (has_closing (60 ∷ xs) r) (begins_none r) k
+    uncut [] r h k = or_from _ _ (begins_none r) k
     uncut (y ∷ q) r h k =
-        let p = or_parts (begins_closing (60 ∷ xs) (y ∷ (q ++ 10 ∷ [])))
-        (has_closing (60 ∷ xs) (q ++ 10 ∷ [])) h in
-        or_from (begins_closing (60 ∷ xs) (y ∷ (q ++ e ∷ r))) (has_closing (60 ∷ xs) (q ++ e ∷ r))
-        (swapped (60 ∷ xs) (y ∷ q) r lacking feed ∙ p.0) (uncut q r p.1 k)
+        let p = or_parts (begins_closing (60 ∷ xs) (y ∷ (q ++ 10 ∷ []))) _ h in
+        or_from _ _ (swapped (60 ∷ xs) (y ∷ q) r lacking feed ∙ p.0) (uncut q r p.1 k)
 
   spaces_hold : (level : ℕ) (r : List ℕ) → has_closing (60 ∷ xs) r ≡ false →
       has_closing (60 ∷ xs) (spaces level ++ r) ≡ false
@@ -87,53 +72,39 @@ module _ (xs : List ℕ) (feed : lacks 10 (60 ∷ xs) ≡ true) where
   blanks_hold level = rw (← append-nil (spaces level)) (spaces_hold level [] refl)
 
   module _ (back : lacks 13 (60 ∷ xs) ≡ true) where
-    feed_ends : is_tag_end 10 ≡ true
+    blanks_end : (is_tag_end 10 ≡ true) × (is_tag_end 13 ≡ true)
     unfolding is_tag_end
-    feed_ends = refl
-
-    return_ends : is_tag_end 13 ≡ true
-    unfolding is_tag_end
-    return_ends = refl
+    blanks_end = (refl, refl)
 
     ended_after : (outer inner : ℕ) (ls : List (List ℕ)) → AllByRecursion Ended ls →
         has_closing (60 ∷ xs) (after_feed outer inner ls) ≡ false
     ended_after outer inner [] h = blanks_hold outer
     ended_after outer inner (l ∷ ls) h = spaces_hold inner (l ++ 10 ∷ after_feed outer inner ls)
-        (uncut 10 refl feed_ends feed l (after_feed outer inner ls) h.0
-        (ended_after outer inner ls h.1))
+        (uncut 10 refl blanks_end.0 feed l _ h.0 (ended_after outer inner ls h.1))
 
     lines_ended : (s : List ℕ) → Ended s → AllByRecursion Ended (lines s)
-    lines_ended s h =
-        lines_are Ended
-        (λ q k. (cut 13 refl return_ends back q (10 ∷ [])
-        (subst (λ t. has_closing (60 ∷ xs) t ≡ false) (append_assoc q (13 ∷ []) (10 ∷ [])) k)).0)
+    lines_ended s h = lines_are Ended
+        (λ q k. (cut 13 refl blanks_end.1 back q (10 ∷ []) (rw append_assoc at k)).0)
         Ended (λ q k. k)
-        (λ q r k. cut 10 refl feed_ends feed q (r ++ 10 ∷ [])
-        (subst (λ t. has_closing (60 ∷ xs) t ≡ false) (append_assoc q (10 ∷ r) (10 ∷ [])) k)) s h
+        (λ q r k. cut 10 refl blanks_end.0 feed q (r ++ 10 ∷ []) (rw append_assoc at k)) s h
 
     kept_end : (level : ℕ) (s : List ℕ) → Ended s →
         has_closing (60 ∷ xs) (10 ∷ (s ++ indent level)) ≡ false
     unfolding indent
-    kept_end level s k = uncut 10 refl feed_ends feed s (spaces level) k (blanks_hold level)
+    kept_end level s k = uncut 10 refl blanks_end.0 feed s (spaces level) k (blanks_hold level)
 
     written_ended : (level : ℕ) (name s : List ℕ) → Ended s →
         has_closing (60 ∷ xs) (lines_text level name s) ≡ false
     unfolding lines_text
-    written_ended level name s k =
-        elim (cases_Bool (keeps_lines name s)) [
-          | inl e ↦ rw e (kept_end level s k)
-          | inr e ↦ rw (e, lines_after level (level + 1) (lines s))
-              (ended_after level (level + 1) (lines s) (lines_ended s k))
-        ]
-
-feed_lacks : (name : List ℕ) → is_raw name ≡ true → lacks 10 (closing name) ≡ true
-feed_lacks name h = of_raw (λ n. lacks 10 (closing n) ≡ true) name refl refl h
-
-return_lacks : (name : List ℕ) → is_raw name ≡ true → lacks 13 (closing name) ≡ true
-return_lacks name h = of_raw (λ n. lacks 13 (closing n) ≡ true) name refl refl h
+    written_ended level name s k = elim (cases_Bool (keeps_lines name s)) [
+      | inl e ↦ rw e (kept_end level s k)
+      | inr e ↦ rw (e, lines_after level (level + 1) (lines s))
+          (ended_after level (level + 1) (lines s) (lines_ended s k))
+    ]
 
 pub lines_end : (level : ℕ) (name s : List ℕ) → is_raw name ≡ true →
     holds_closing name (s ++ codes "\n") ≡ false →
     holds_closing name (lines_text level name s) ≡ false
-lines_end level name s r h = written_ended (47 ∷ map to_ascii_lowercase name) (feed_lacks name r)
-    (return_lacks name r) level name s h
+lines_end level name s r h = written_ended (47 ∷ map to_ascii_lowercase name)
+    (of_raw (λ n. lacks 10 (closing n) ≡ true) name refl refl r)
+    (of_raw (λ n. lacks 13 (closing n) ≡ true) name refl refl r) level name s h

@@ -1,6 +1,6 @@
 -- Bytes that are passed, and the characters that they make.
-use Rattle.std.proofs.Common.{◌≡◌, ℕ, ◌+◌, ◌/◌, ◌<◌, ◌≤◌, Bool, true, false, not, ◌&&◌, cond, List, [], ◌∷◌, arith, refl, ap, ◌∙◌, sym, chars, bit_and}
-use Rattle.std.{proofs.lemmas.Bool.{agree_below, and_parts, not-true}, proofs.lemmas.Bool.Decides.{nat_tests}, specs.List.{list_all}}
+use Rattle.std.proofs.Common.{◌≡◌, ℕ, ◌+◌, ◌/◌, ◌<◌, ◌≤◌, Bool, true, false, not, cond, List, [], ◌∷◌, arith, refl, ap, ◌∙◌, sym, chars, bit_and}
+use Rattle.std.{proofs.lemmas.Bool.{agree_below, and_parts, and_right, not-true}, proofs.lemmas.Bool.Decides.{nat_tests}, specs.List.{list_all}}
 use Rattle.html_names_core.specs.Characters.{is_text_char}
 use Rattle.html_text.{proofs.Fronts.{IsByBytes, all_of, by_table, of_class}, specs.Fronts.{SplitsFront, StopsBetween, has_byte}}
 use Rattle.typst_html_encode.specs.{ExportFaults.{is_reference}, PlainStretches.{is_passed, is_passed_high, is_plain, PassesPlain, Selects}}
@@ -98,17 +98,12 @@ unpassed e b over =
     let is : ltb b 128 ≡ false = grind (arith, nat_tests) in
     let one : leb b 191 ≡ false = grind (arith, nat_tests) in
     let two : leb b 238 ≡ false = grind (arith, nat_tests) in
-    rw (is, one, two) (both (not (is_reference e)) (leb 195 b)) where
-      both : (x y : Bool) → (x && (y && false)) ≡ false
-      both true true = refl
-      both true false = refl
-      both false y = refl
+    rw (is, one, two) (and_right (not (is_reference e)) _ (and_right (leb 195 b) false refl))
 
 selects : (e : Escaping) (way : ℕ) → agree_below (has_byte PASSED way) (is_passed e) 256 ≡ true →
     bit_and 0 way ≡ 0 → Selects e way
 selects e way low zeros =
-    let same = by_table PASSED way (is_passed e) refl zeros low (unpassed e) in
-    λ b. ap (λ p. p b) same
+    λ b. ap (λ p. p b) (by_table PASSED way (is_passed e) refl zeros low (unpassed e))
 
 pub selects_text : Selects escaping.Text 1
 unfolding is_passed is_passed_high

@@ -5,21 +5,19 @@ use Rattle.std.proofs.lemmas.List.{append-nil, take-append-drop, take_at, drop_a
 use Rattle.std.proofs.lemmas.{Bool.Decides.{nat_tests}, Slice.Eq.{bytes_eq-Decides}}
 use Rattle.std.specs.{Char.{to_ascii_lowercase}, Prelude.{if◌then◌else◌, ◌==◌}}
 use Rattle.html_names_core.specs.Characters.{all, IsOf, is_tag_char}
-use Rattle.html_text.specs.ClosingTags.{is_tag_end, closing, begins_closing, has_closing, holds_closing, ends_closing, ends_exact}
+use Rattle.html_text.specs.ClosingTags.{is_tag_end, closing, begins_closing, has_closing, holds_closing, ends_closing}
 use Rattle.html_dom_tree.specs.{PlainTree.{no_plains}, Tree.{TextPair}}
 use Rattle.typst_html_encode.{proofs.Runs.{read_on, all_of, grows}, specs.Reader.{Raw, Open, with_text, complete, run, step}}
 
 holds_at : (k a s : List ℕ) → 0 < length s → begins_closing k s ≡ true → has_closing k (a ++ s) ≡ true
 holds_at k [] [] l h = absurd (omega arith)
-holds_at k [] (c ∷ cs) l h = or_left (begins_closing k (c ∷ cs)) (has_closing k cs) h
-holds_at k (x ∷ a) s l h = or_right (begins_closing k (x ∷ (a ++ s))) (has_closing k (a ++ s))
-    (holds_at k a s l h)
+holds_at k [] (c ∷ cs) l h = or_left _ _ h
+holds_at k (x ∷ a) s l h = or_right _ _ (holds_at k a s l h)
 
 begins_own : (b : List ℕ) (c : ℕ) (rest : List ℕ) →
     begins_closing (map to_ascii_lowercase b) (b ++ c ∷ rest) ≡ is_tag_end c
 begins_own [] c rest = refl
-begins_own (d ∷ b) c rest = let same = eq-eqb (to_ascii_lowercase d)
-    (to_ascii_lowercase d) refl in rw same (begins_own b c rest)
+begins_own (d ∷ b) c rest = rw (eq-eqb (to_ascii_lowercase d) _ refl) (begins_own b c rest)
 
 -- a text whose end is a closing tag, and an ending character after it
 pub ends_holds : (name text : List ℕ) (c : ℕ) (rest : List ℕ) → is_tag_end c ≡ true →
@@ -28,14 +26,11 @@ ends_holds name text c rest e h =
     let n = length text - length (closing name) in
     let a = take n text in
     let b = drop n text in
-    let same : map to_ascii_lowercase b ≡ closing name =
-    (bytes_eq-Decides (map to_ascii_lowercase b) (closing name)).0 h in
-    let split : (text ++ c ∷ rest) ≡ a ++ (b ++ c ∷ rest) =
+    let same : map to_ascii_lowercase b ≡ closing name = (bytes_eq-Decides _ _).0 h in
+    let split : text ++ c ∷ rest ≡ a ++ (b ++ c ∷ rest) =
     ap (λ t. t ++ c ∷ rest) (sym (take-append-drop n text)) ∙ append_assoc a b (c ∷ rest) in
-    let first : begins_closing (closing name) (b ++ c ∷ rest) ≡ true =
-    ap (λ k. begins_closing k (b ++ c ∷ rest)) (sym same) ∙ (begins_own b c rest ∙ e) in
     ap (holds_closing name) split ∙ holds_at (closing name) a (b ++ c ∷ rest)
-    (omega (arith, length-append b (c ∷ rest))) first
+    (omega (arith, length-append b (c ∷ rest))) (rw (← same) (begins_own b c rest ∙ e))
 
 abbrev pub is_not_less : ℕ → Bool
 is_not_less c = if c == 60 then false else true
@@ -54,49 +49,40 @@ tag_ends = (refl, refl, refl)
 lower_pass : (name : List ℕ) → all is_tag_char name ≡ true →
     all is_not_less (map to_ascii_lowercase name) ≡ true
 lower_pass [] h = refl
-lower_pass (c ∷ cs) h = let both = and_parts (is_tag_char c) (all is_tag_char cs) h in and_from _ _
-    (lower_not_less c both.0) (lower_pass cs both.1)
+lower_pass (c ∷ cs) h =
+    let both = and_parts (is_tag_char c) (all is_tag_char cs) h in
+    and_from _ _ (lower_not_less c both.0) (lower_pass cs both.1)
 
 last_passes : (p : ℕ → Bool) (xs : List ℕ) (c : ℕ) → all p (xs ++ c ∷ []) ≡ true → p c ≡ true
-last_passes p [] c h = (and_parts (p c) true h).0
-last_passes p (x ∷ xs) c h = last_passes p xs c (and_parts (p x) (all p (xs ++ c ∷ [])) h).1
+last_passes p [] c h = (and_parts _ _ h).0
+last_passes p (x ∷ xs) c h = last_passes p xs c (and_parts _ _ h).1
 
 -- after a `<` no closing tag has ended
 not_closing : (xs ys : List ℕ) → all is_not_less ys ≡ true → xs ++ 60 ∷ [] ≡ 60 ∷ 47 ∷ ys → ⊥
 not_closing [] ys h e = absurd (omega (arith, ap length e))
 not_closing (x ∷ []) ys h e = absurd (omega (arith, ap (λ l. get_or l 1 0) e))
 not_closing (x ∷ y ∷ xs) ys h e =
-    let rest : xs ++ 60 ∷ [] ≡ ys = ap (drop 2) e in
-    false≢true (last_passes is_not_less xs 60 (rw rest h))
+    false≢true (last_passes is_not_less xs 60 (rw (ap (drop 2) e) h))
 
 pub no_end_at_less : (name t : List ℕ) → all is_tag_char name ≡ true →
     ends_closing name (t ++ 60 ∷ []) ≡ false
-no_end_at_less name t h =
-    false_from_ne_true _ (λ e.
+no_end_at_less name t h = false_from_ne_true _ (λ e.
     let n = length (t ++ 60 ∷ []) - length (closing name) in
-    let same : map to_ascii_lowercase (drop n (t ++ 60 ∷ [])) ≡ closing name =
-    (bytes_eq-Decides (map to_ascii_lowercase (drop n (t ++ 60 ∷ []))) (closing name)).0 e in
     let cut : drop n (t ++ 60 ∷ []) ≡ drop n t ++ 60 ∷ [] =
     drop-append-le n t (60 ∷ []) (omega (arith, length-append t (60 ∷ []))) in
     not_closing (map to_ascii_lowercase (drop n t)) (map to_ascii_lowercase name)
     (lower_pass name h) (sym (map-append to_ascii_lowercase (drop n t) (60 ∷ []))
-    ∙ (ap (map to_ascii_lowercase) (sym cut) ∙ same)))
+    ∙ (ap (map to_ascii_lowercase) (sym cut) ∙ (bytes_eq-Decides _ _).0 e)))
 
 module _ (name : List ℕ) (attrs : List TextPair) (s : List Open) where
   raw_more : (x cs : List ℕ) → holds_closing name (x ++ cs) ≡ false →
       run (Raw name attrs x s) cs ≡ Raw name attrs (x ++ cs) s
-  raw_more x [] h = ap (λ t. Raw name attrs t s) (sym (append-nil x))
+  raw_more x [] h = rw append-nil refl
   raw_more x (c ∷ cs) h =
-      let here : (is_tag_end c && ends_closing name x) ≡ false =
-      false_from_ne_true _ (λ e. let both = and_parts (is_tag_end c)
-      (ends_closing name x) e in false≢true (sym h ∙ ends_holds name x c cs both.0 both.1)) in
-      let one : step (Raw name attrs x s) c ≡ Raw name attrs (x ++ c ∷ []) s = rw here refl in
-      ap (λ t. run t cs) one ∙ (raw_more (x ++ c ∷ []) cs (rw append_assoc h)
-      ∙ ap (λ t. Raw name attrs t s) (append_assoc x (c ∷ []) cs))
-
-  raw_one : (x : List ℕ) (c : ℕ) → is_tag_char c ≡ true →
-      step (Raw name attrs x s) c ≡ Raw name attrs (x ++ c ∷ []) s
-  raw_one x c h = let e = name_no_end c h in rw e refl
+      let here : (is_tag_end c && ends_closing name x) ≡ false = false_from_ne_true _ (λ e.
+      let both = and_parts (is_tag_end c) (ends_closing name x) e in
+      false≢true (sym h ∙ ends_holds name x c cs both.0 both.1)) in
+      rw here (raw_more (x ++ c ∷ []) cs (rw append_assoc h) ∙ simp append_assoc)
 
   -- at the end tag's `>`
   raw_end : (t : List ℕ) → step (Raw name attrs (t ++ (codes "</" ++ name)) s) 62
@@ -106,16 +92,15 @@ module _ (name : List ℕ) (attrs : List TextPair) (s : List Open) where
       let x : List ℕ = t ++ (codes "</" ++ name) in
       let long : length x - k ≡ length t = omega
       (arith, length-append t (codes "</" ++ name), length-map name to_ascii_lowercase) in
-      let cut : drop (length x - k) x ≡ codes "</" ++ name = ap (λ n. drop n x) long
-      ∙ drop_at t (codes "</" ++ name) (length t) refl in
-      let front : take (length x - k) x ≡ t = ap (λ n. take n x) long
-      ∙ take_at t (codes "</" ++ name) (length t) refl in
-      let ends : ends_closing name x ≡ true =
-      (bytes_eq-Decides (map to_ascii_lowercase (drop (length x - k) x)) (closing name)).1
-      (ap (map to_ascii_lowercase) cut) in
-      let exact : ends_exact name x ≡ true = (bytes_eq-Decides (drop (length x - k) x)
-      (codes "</" ++ name)).1 cut in
-      rw (tag_ends.2, ends, exact, front) refl
+      let cut : drop (length x - k) x ≡ codes "</" ++ name =
+      rw long (drop_at t _ (length t) refl) in
+      let front : take (length x - k) x ≡ t = rw long (take_at t _ (length t) refl) in
+      rw (
+        tag_ends.2,
+        (bytes_eq-Decides _ (closing name)).1 (ap (map to_ascii_lowercase) cut),
+        (bytes_eq-Decides _ (codes "</" ++ name)).1 cut,
+        front,
+      ) refl
 
   -- nothing is cut at the end tag's own characters
   pub raw_back : (t : List ℕ) → IsOf is_tag_char name → holds_closing name t ≡ false →
@@ -124,16 +109,16 @@ module _ (name : List ℕ) (attrs : List TextPair) (s : List Open) where
   raw_back t n h =
       let named : all is_tag_char name ≡ true = all_of is_tag_char name n in
       let x : List ℕ = (t ++ 60 ∷ []) ++ 47 ∷ [] in
-      let less : step (Raw name attrs t s) 60 ≡ Raw name attrs (t ++ 60 ∷ []) s = rw tag_ends.1 refl in
+      let less : step (Raw name attrs t s) 60 ≡ Raw name attrs (t ++ 60 ∷ []) s =
+      rw tag_ends.1 refl in
       let early = no_end_at_less name t named in
       let slash : step (Raw name attrs (t ++ 60 ∷ []) s) 47 ≡ Raw name attrs x s =
       rw (tag_ends.0, early) refl in
-      read_on (Raw name attrs [] s) (Raw name attrs t s) _ t (codes "</" ++ (name ++ codes ">"))
-      (raw_more [] t h)
+      read_on (Raw name attrs [] s) t (codes "</" ++ (name ++ codes ">")) (raw_more [] t h)
       (ap (λ r. run r (47 ∷ (name ++ codes ">"))) less
       ∙ (ap (λ r. run r (name ++ codes ">")) slash
-      ∙ read_on (Raw name attrs x s) (Raw name attrs (x ++ name) s) _ name (codes ">")
-      (grows (λ y. Raw name attrs y s) is_tag_char raw_one x name named)
+      ∙ read_on (Raw name attrs x s) name (codes ">") (grows (λ y. Raw name attrs y s) is_tag_char
+      (λ y c k. rw (name_no_end c k) refl) x name named)
       (ap (λ y. step (Raw name attrs y s) 62)
       (append_assoc (t ++ 60 ∷ []) (47 ∷ []) name ∙ append_assoc t (60 ∷ []) (47 ∷ name))
       ∙ raw_end t)))

@@ -1,5 +1,5 @@
 -- The children of a raw or an escapable raw element, one after another.
-use Rattle.std.proofs.Common.{◌≡◌, List, [], ◌++◌, ℕ, sym, ap, ◌∙◌, append_assoc, append-nil, subst}
+use Rattle.std.proofs.Common.{◌≡◌, List, [], ◌++◌, ℕ, sym, ◌∙◌, append_assoc, append-nil, subst}
 use Rattle.html_dom_tree.specs.Tree.{NodeView, NodesView, none, node}
 use Rattle.typst_html_encode.proofs.{Escapes.{escaped_text-append}, Firsts.{first_of_more}}
 use Rattle.typst_html_encode.specs.ExportFaults.{IsFirst, node_raw_faults, nodes_raw_faults}
@@ -19,13 +19,14 @@ module _ {escaping : Escaping} {left all : NodesView} {out start : List ℕ}
       new_out ≡ out ++ escaped_text escaping (node_raw_text child) →
       node_raw_faults escaping child ≡ [] → RawLeft escaping others all new_out start
   child_written {child} {others} is wrote clean =
-      let text = node_raw_text child in
-      let joined = sym (escaped_text-append escaping text (nodes_raw_text others)) in
       record {
-        agrees = rw (wrote, append_assoc) (ap (λ t. out ++ t) joined
-            ∙ (ap (λ ns. out ++ escaped_text escaping (nodes_raw_text ns)) (sym is) ∙ held.agrees));
-        clean = ap (λ faults. faults ++ nodes_raw_faults escaping others) (sym clean)
-            ∙ (ap (nodes_raw_faults escaping) (sym is) ∙ held.clean);
+        agrees = rw (
+          wrote,
+          append_assoc,
+          ← escaped_text-append escaping (node_raw_text child) (nodes_raw_text others),
+        )
+            (rw is at held.agrees);
+        clean = rw clean at (rw is at held.clean);
       }
 
   -- the first fault of a child is the first that is left
@@ -33,12 +34,11 @@ module _ {escaping : Escaping} {left all : NodesView} {out start : List ℕ}
       left ≡ node child others → IsFirst e (node_raw_faults escaping child) →
       IsFirst e (nodes_raw_faults escaping all)
   child_refused e is refused =
-      subst (IsFirst e) (ap (nodes_raw_faults escaping) (sym is) ∙ held.clean)
-      (first_of_more e _ _ refused)
+      subst (IsFirst e) (rw is at held.clean) (first_of_more e _ _ refused)
 
   pub all_written : left ≡ none →
       (out ≡ start ++ escaped_text escaping (nodes_raw_text all))
       × (nodes_raw_faults escaping all ≡ [])
   all_written is =
-      let done = subst (λ ns. RawLeft escaping ns all out start) is held in
+      let done = rw is at held in
       (sym (append-nil out) ∙ done.agrees, sym done.clean)

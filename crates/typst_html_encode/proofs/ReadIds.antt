@@ -3,7 +3,7 @@ use Rattle.std.{proofs.Common.{◌≡◌, ℕ, Bool, true, false, ◌&&◌, List
 use Rattle.html_dom_tree.specs.PlainTree.{Plains, no_plains, plain, words, branch, put_words, nodes_normal}
 use Rattle.html_dom_tree.specs.Tree.{Head, tag_node, text_node, element_node, frame_node, NodesView, none, node}
 use Rattle.typst_html_encode.specs.Content.{content_kind, by_kind}
-use Rattle.typst_html_encode.specs.ExportFaults.{attrs_faults, node_faults, node_raw_faults, nodes_faults, nodes_raw_faults, raw_content_faults, closing_faults, void_faults}
+use Rattle.typst_html_encode.specs.ExportFaults.{attrs_faults, node_faults, nodes_faults, nodes_raw_faults, raw_content_faults, void_faults}
 use Rattle.typst_html_encode.specs.{FrameWriters.{Frames}, Indented.{content_layout, node_layout, nodes_layout, raw_layout, with_indent}}
 use Rattle.typst_html_encode.specs.Layout.{deeper, due_after, has_indent, indent, is_by_lines, is_pretty_inside, lines_text, margin_inside}
 use Rattle.typst_html_encode.specs.ReadIds.{ElementTexts, plains_texts, LayoutKeepsTexts}
@@ -32,7 +32,7 @@ raw_texts own none e = refl
 raw_texts own (node (tag_node t) ns) e = raw_texts own ns e
 raw_texts own (node (text_node s span) ns) e =
     past_words own s (nodes_normal ns)
-    ∙ raw_texts own ns (right_empty (node_raw_faults escaping.Raw (text_node s span)) _ e)
+    ∙ raw_texts own ns (right_empty _ _ e)
 raw_texts own (node (element_node h kids) ns) e = cc
 raw_texts own (node (frame_node f) ns) e = cc
 
@@ -82,7 +82,7 @@ module _ (own : ElementTexts) (frames : Frames) where
       (raw_content_faults h ns) (nodes_raw_faults escaping.Text ns)
       (nodes_faults frames h.pre_span (pretty && is_pretty_inside h ns) ns) clean
       (λ e. raw_layout_texts own (margin.pretty && is_by_lines h) margin h ns refl
-      (left_empty (nodes_raw_faults escaping.Raw ns) (closing_faults h ns) e))
+      (left_empty _ _ e))
       (λ e. below true (margin_inside margin h ns) h.pre_span (pretty && is_pretty_inside h ns) e)
 
   laid_texts : (ns : NodesView) → AreLaidOut ns
@@ -95,29 +95,26 @@ module _ (own : ElementTexts) (frames : Frames) where
       indent_texts own (margin.pretty && has_indent due (text_node s span)) (deeper margin).level _
       ∙ (past_words own s _
       ∙ (laid_texts ns (due_after due (text_node s span)) margin pre_span pretty
-      (right_empty (node_faults frames pre_span pretty (text_node s span)) _ clean)
+      (right_empty _ _ clean)
       ∙ sym (past_words own s (nodes_normal ns))))
   laid_texts (node (element_node h kids) ns) due margin pre_span pretty clean =
-      let here = left_empty (attrs_faults h.span h.attrs ++ inner_faults pretty h kids)
-      (nodes_faults frames pre_span pretty ns) clean in
-      let inside = right_empty (attrs_faults h.span h.attrs) (inner_faults pretty h kids) here in
-      let behind = right_empty (attrs_faults h.span h.attrs ++ inner_faults pretty h kids)
-      (nodes_faults frames pre_span pretty ns) clean in
+      let values = attrs_faults h.span h.attrs in
+      let here = left_empty (values ++ inner_faults pretty h kids) _ clean in
+      let inside = right_empty values (inner_faults pretty h kids) here in
+      let behind = right_empty (values ++ inner_faults pretty h kids) _ clean in
       indent_texts own (margin.pretty && has_indent due (element_node h kids)) (deeper margin).level _
       ∙ (rw (
         inner_texts (deeper margin) pretty h kids (laid_texts kids) inside,
         laid_texts ns (due_after due (element_node h kids)) margin pre_span pretty behind,
-      )
-      refl)
+      ) refl)
   laid_texts (node (frame_node f) ns) due margin pre_span pretty clean =
       indent_texts own (margin.pretty && has_indent due (frame_node f)) (deeper margin).level _
       ∙ laid_texts ns (due_after due (frame_node f)) margin pre_span pretty
-      (right_empty (node_faults frames pre_span pretty (frame_node f)) _ clean)
+      (right_empty _ _ clean)
 
 pub layout_keeps_texts : LayoutKeepsTexts
 unfolding node_faults
 layout_keeps_texts own frames options root clean =
     inner_texts own frames (root_margin pretty_options) options.pretty root.0 root.1
     (laid_texts own frames root.1)
-    (right_empty (attrs_faults root.0.span root.0.attrs)
-    (inner_faults own frames options.pretty root.0 root.1) clean)
+    (right_empty (attrs_faults root.0.span root.0.attrs) _ clean)

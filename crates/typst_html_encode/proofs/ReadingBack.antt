@@ -1,6 +1,6 @@
 -- Elements and lists of nodes are read back.
-use Rattle.std.proofs.Common.{◌≡◌, ℕ, zero, suc, Bool, true, false, ◌&&◌, ◌||◌, inl, inr, eqb, List, [], ◌∷◌, ◌++◌, Option, Some, None, codes, refl, ap, sym, ◌∙◌, arith, append_assoc, append-nil}
-use Rattle.std.proofs.lemmas.{Bool.{cases_Bool, false≢true, true≢false}, Bool.Decides.{nat_tests}}
+use Rattle.std.proofs.Common.{◌≡◌, ℕ, zero, suc, Bool, true, false, ◌&&◌, ◌||◌, inl, inr, eqb, List, [], ◌∷◌, ◌++◌, Option, Some, None, codes, refl, ap, ◌∙◌, arith, append_assoc, append-nil}
+use Rattle.std.proofs.lemmas.{Bool.{cases_Bool}, Bool.Decides.{nat_tests}}
 use Rattle.std.specs.Prelude.{if◌then◌else◌}
 use Rattle.html_names_core.specs.Characters.{IsOf, is_tag_char, is_element_text_char}
 use Rattle.html_names_core.specs.Kinds.{is_void, is_foreign_self_closing, is_raw, is_escapable_raw}
@@ -9,34 +9,30 @@ use Rattle.typst_html_encode.specs.References.{numeric, reference_to}
 use Rattle.typst_html_encode.specs.declared.escape.Escaping.TheVariants as escaping
 use Rattle.html_text.specs.ClosingTags.{holds_closing}
 use Rattle.typst_html_encode.specs.{Content.{content_kind, by_kind}, declared.fault.ExportFault.{ExportFault}}
-use Rattle.typst_html_encode.specs.declared.fault.ExportFault.TheVariants as fault
 use Rattle.typst_html_encode.proofs.{LinesEnd.{lines_end}, Normals.{joined, joined_is, texts_alone, with_text_none}}
 use Rattle.typst_html_encode.proofs.{Plainly.{shut, plain_stays, ends_plainly}, RawBack.{raw_back}, RawNames.{raw_is, stays_shut}}
 use Rattle.typst_html_encode.proofs.{References.{chars_read, raw_good, text_read}, Runs.{read_on, left_empty, right_empty, test_fails}}
 use Rattle.typst_html_encode.proofs.TagsBack.{started, start_read, end_read}
-use Rattle.typst_html_encode.specs.ExportFaults.{attrs_faults, void_faults, nodes_raw_faults, closing_faults, raw_content_faults, text_faults, node_faults, nodes_faults, document_faults}
+use Rattle.typst_html_encode.specs.ExportFaults.{attrs_faults, void_faults, nodes_raw_faults, closing_faults, raw_content_faults, node_faults, nodes_faults, document_faults}
 use Rattle.typst_html_encode.specs.FrameWriters.{Frames}
-use Rattle.typst_html_encode.specs.Indented.{with_indent, raw_layout, node_layout, nodes_layout, content_layout, element_layout, RawEndsWell, NodeEndsWell, NodesEndWell, ElementEndsWell}
+use Rattle.typst_html_encode.specs.Indented.{with_indent, node_layout, nodes_layout, content_layout, element_layout, RawEndsWell, NodeEndsWell, NodesEndWell, ElementEndsWell}
 use Rattle.typst_html_encode.specs.Layout.{deeper, margin_inside, spaces, indent, indent_where, feed_where, wants_pretty_around, is_pretty_inside, has_indent, is_by_lines, lines_text, raw_text}
-use Rattle.typst_html_encode.specs.Reader.{drops_feed, ◌then◌, Outside, Content, Fresh, Less, Open, ReaderState, with_text, complete, holds_text_alone, run, step, final_root, read}
-use Rattle.typst_html_encode.specs.ReadingBack.{HeadIsNamed, NodeIsNamed, NodesAreNamed, ElementIsNamed, PlainReadsBack, PrettyReadsBack, ReadsBack}
+use Rattle.typst_html_encode.specs.Reader.{drops_feed, ◌then◌, Outside, Content, Fresh, Less, Open, ReaderState, with_text, complete, holds_text_alone, run, final_root, read}
+use Rattle.typst_html_encode.specs.ReadingBack.{HeadIsNamed, NodeIsNamed, NodesAreNamed, ElementIsNamed, PlainReadsBack, ReadsBack}
 use Rattle.typst_html_encode.specs.Text.{root_margin, plain_options, pretty_options, char_text, escaped_text, escaping_of, attrs_text, tag_close, end_tag_text, ends_at_once, begins_with_feed, feed_text, nodes_raw_text, node_text, nodes_text, document_text}
 use Rattle.typst_html_encode.specs.declared.{layout.Margin.{Margin}, options.HtmlOptions.{HtmlOptions}}
 use Rattle.html_dom_tree.specs.FrameFree.{NodeIsFrameFree, NodesAreFrameFree, ElementIsFrameFree}
-use Rattle.html_dom_tree.specs.PlainTree.{Plain, branch, no_plains, plain, put_words, nodes_normal, element_normal}
+use Rattle.html_dom_tree.specs.PlainTree.{Plain, Plains, branch, no_plains, plain, put_words, nodes_normal, element_normal}
 
 -- no line feed stands first
 abbrev pub starts_with_feed : List ℕ → Bool
 starts_with_feed [] = false
 starts_with_feed (c ∷ cs) = eqb c 10
 
-one_fresh : (s : List Open) (c : ℕ) → eqb c 10 ≡ false → step (Fresh s) c ≡ step (Content [] s) c
-one_fresh s c h = rw h refl
-
 fresh_read : (s : List Open) (xs ys : List ℕ) → starts_with_feed xs ≡ false →
     run (Fresh s) (xs ++ 60 ∷ ys) ≡ run (Content [] s) (xs ++ 60 ∷ ys)
 fresh_read s [] ys h = refl
-fresh_read s (c ∷ cs) ys h = ap (λ t. run t (cs ++ 60 ∷ ys)) (one_fresh s c h)
+fresh_read s (c ∷ cs) ys h = rw (h, run) refl
 
 numeric_first : (c : ℕ) (xs : List ℕ) → starts_with_feed (numeric c ++ xs) ≡ false
 unfolding numeric
@@ -48,28 +44,22 @@ reference_first c xs = grind (arith, nat_tests, numeric_first c xs)
 first_char : (full : Bool) (c : ℕ) (xs : List ℕ) → eqb c 10 ≡ false →
     starts_with_feed (char_text (escaping_of full) c ++ xs) ≡ false
 first_char true c xs h = reference_first c xs
-first_char false c xs h =
-    elim (cases_Bool (is_element_text_char c)) [
-      | inl e ↦ rw e h
-      | inr e ↦
-          rw e (reference_first c xs)
-    ]
+first_char false c xs h = elim (cases_Bool (is_element_text_char c)) [
+  | inl e ↦ rw e h
+  | inr e ↦ rw e (reference_first c xs)
+]
 
 -- blanks
 
 spaces_read : (n : ℕ) (text : List ℕ) (s : List Open) →
     run (Content text s) (spaces n) ≡ Content (text ++ spaces n) s
-spaces_read zero text s = ap (λ t. Content t s) (sym (append-nil text))
-spaces_read (suc n) text s =
-    spaces_read n ((text ++ 32 ∷ []) ++ 32 ∷ []) s
-    ∙ ap (λ t. Content t s) (append_assoc (text ++ 32 ∷ []) (32 ∷ []) (spaces n)
-    ∙ append_assoc text (32 ∷ []) (32 ∷ spaces n))
+spaces_read zero text s = rw append-nil refl
+spaces_read (suc n) text s = spaces_read n ((text ++ 32 ∷ []) ++ 32 ∷ []) s ∙ simp append_assoc
 
 indent_read : (level : ℕ) (text : List ℕ) (s : List Open) →
     run (Content text s) (indent level) ≡ Content (text ++ indent level) s
 unfolding indent
-indent_read level text s = spaces_read level (text ++ 10 ∷ []) s
-    ∙ ap (λ t. Content t s) (append_assoc text (10 ∷ []) (spaces level))
+indent_read level text s = spaces_read level (text ++ 10 ∷ []) s ∙ simp append_assoc
 
 -- within an element: what has been gathered of its children after these
 abbrev gathered : List ℕ → Open → List Open → NodesView → ReaderState
@@ -83,8 +73,7 @@ where_read : (b : Bool) (level : ℕ) (text : List ℕ) (o : Open) (os : List Op
     run (Content text (o ∷ os)) (indent_where b level ++ xs)
     ≡ gathered text o os (with_indent b level ns)
 where_read true level text o os xs ns h =
-    read_on (Content text (o ∷ os)) (Content (text ++ indent level) (o ∷ os)) _ (indent level) xs
-    (indent_read level text (o ∷ os)) (h (text ++ indent level))
+    read_on _ (indent level) xs (indent_read level text (o ∷ os)) (h (text ++ indent level))
 where_read false level text o os xs ns h = h text
 
 last_read : (b : Bool) (level : ℕ) (text : List ℕ) (o : Open) (os : List Open) →
@@ -150,16 +139,11 @@ module _ (frames : Frames) where
   nodes_start (node (frame_node b) ns) full due level w e = absurd w.0
 
   module _ (margin : Margin) where
-    -- what stands between the tags
-    abbrev inside : Head → NodesView → List ℕ
-    inside h ns = by_kind (content_kind h.name)
+    abbrev rest : Head → NodesView → List ℕ
+    rest h ns = if ends_at_once h then [] else (feed_text h ns ++ (by_kind (content_kind h.name)
         (raw_text margin h (nodes_raw_text ns))
         (escaped_text escaping.Text (nodes_raw_text ns))
-        (nodes_text frames h.pre_span true (margin_inside margin h ns) ns)
-
-    abbrev rest : Head → NodesView → List ℕ
-    rest h ns =
-        if ends_at_once h then [] else (feed_text h ns ++ (inside h ns ++ end_tag_text h.name))
+        (nodes_text frames h.pre_span true (margin_inside margin h ns) ns) ++ end_tag_text h.name))
 
     abbrev rest_faults : Head → NodesView → List ExportFault
     rest_faults h ns = if ends_at_once h then void_faults h.span ns
@@ -167,24 +151,6 @@ module _ (frames : Frames) where
         (raw_content_faults h ns)
         (nodes_raw_faults escaping.Text ns)
         (nodes_faults frames h.pre_span (margin.pretty && is_pretty_inside h ns) ns)
-
-    -- the content and the end tag are read, as these nodes
-    abbrev InsideRead : Head → NodesView → List Open → NodesView → Type 0
-    InsideRead h ns s ms = run (Content [] (own h ∷ s)) (inside h ns ++ end_tag_text h.name)
-        ≡ complete h.name h.attrs (nodes_normal ms) s
-
-    inside_text : (h : Head) (ns : NodesView) (s : List Open) → is_raw h.name ≡ false →
-        is_escapable_raw h.name ≡ true → IsOf is_tag_char h.name →
-        nodes_raw_faults escaping.Text ns ≡ [] → InsideRead h ns s ns
-    inside_text h ns s r e n f =
-        let here : inside h ns ≡ escaped_text escaping.Text (nodes_raw_text ns) = rw (r, e) refl in
-        ap (λ l. run (Content [] (own h ∷ s)) (l ++ end_tag_text h.name)) here
-        ∙ read_on (Content [] (own h ∷ s)) (Content (nodes_raw_text ns) (own h ∷ s)) _
-        (escaped_text escaping.Text (nodes_raw_text ns)) (end_tag_text h.name)
-        (chars_read false [] (own h ∷ s) (nodes_raw_text ns) (raw_good escaping.Text ns f))
-        (end_read (own h) s (nodes_raw_text ns) n
-        ∙ ap (λ k. complete h.name h.attrs k s)
-        (with_text_none (nodes_raw_text ns) ∙ texts_alone escaping.Text ns f))
 
     -- what is known of the children by the recursion
     abbrev KidsRead : Head → NodesView → List Open → Type 0
@@ -194,94 +160,67 @@ module _ (frames : Frames) where
         (margin_inside margin h ns) ns) ≡ gathered [] (own h) s
         (nodes_layout true (margin_inside margin h ns) ns)
 
-    inside_nodes : (h : Head) (ns : NodesView) (s : List Open) → is_raw h.name ≡ false →
-        is_escapable_raw h.name ≡ false → IsOf is_tag_char h.name →
-        nodes_faults frames h.pre_span (margin.pretty && is_pretty_inside h ns) ns ≡ [] →
-        KidsRead h ns s → InsideRead h ns s (nodes_layout true (margin_inside margin h ns) ns)
-    inside_nodes h ns s r e n f ih =
-        let all = nodes_text frames h.pre_span true (margin_inside margin h ns) ns in
-        let ms = nodes_layout true (margin_inside margin h ns) ns in
-        let here : inside h ns ≡ all = rw (r, e) refl in
-        let j = joined no_plains [] ms in
-        ap (λ l. run (Content [] (own h ∷ s)) (l ++ end_tag_text h.name)) here
-        ∙ read_on (Content [] (own h ∷ s)) (Content j.1
-        (record (own h) { children = j.0 } ∷ s)) _ all (end_tag_text h.name) (ih e f)
-        (end_read (record (own h) { children = j.0 }) s j.1 n
-        ∙ ap (λ k. complete h.name h.attrs k s) (joined_is ms no_plains []))
-
-    -- a line feed that is added is dropped, and no other
-    fed : (b d : Bool) (h : Head) (ns : NodesView) (s : List Open) (ms : NodesView) →
-        begins_with_feed ns ≡ d → (b ≡ true → begins_with_feed ns ≡ false →
-        starts_with_feed (inside h ns) ≡ false) → InsideRead h ns s ms →
+    -- the content and the end tag are read, as these nodes: a line feed that is added is dropped,
+    -- and no other
+    fed : (b d : Bool) (h : Head) (inner : List ℕ) (s : List Open) (ms : NodesView) →
+        (b ≡ true → d ≡ false → starts_with_feed inner ≡ false) →
+        run (Content [] (own h ∷ s)) (inner ++ end_tag_text h.name)
+        ≡ complete h.name h.attrs (nodes_normal ms) s →
         run (if b then Fresh (own h ∷ s) else Content [] (own h ∷ s))
-        ((if b && d then codes "\n" else []) ++ (inside h ns ++ end_tag_text h.name))
+        ((if b && d then codes "\n" else []) ++ (inner ++ end_tag_text h.name))
         ≡ complete h.name h.attrs (nodes_normal ms) s
-    fed false d h ns s ms e f i = i
-    fed true true h ns s ms e f i = i
-    fed true false h ns s ms e f i = fresh_read (own h ∷ s) (inside h ns)
-        (47 ∷ (h.name ++ codes ">")) (f refl e) ∙ i
-
-    -- what follows the start tag of an element that is on the stack
-    content_read : (h : Head) (ns : NodesView) (s : List Open) (ms : NodesView) →
-        is_foreign_self_closing h.name ≡ false → is_void h.name ≡ false → is_raw h.name ≡ false →
-        content_layout margin h ns ≡ ms → (drops_feed h.name ≡ true → begins_with_feed ns ≡ false →
-        starts_with_feed (inside h ns) ≡ false) → InsideRead h ns s ms →
-        run (started h.name h.attrs s) (rest h ns)
-        ≡ complete h.name h.attrs (nodes_normal (content_layout margin h ns)) s
-    content_read h ns s ms p q u l first i =
-        let x : started h.name h.attrs s ≡ (if drops_feed h.name then Fresh (own h ∷ s)
-        else Content [] (own h ∷ s)) = rw (p, q, u) refl in
-        let y : rest h ns ≡ feed_text h ns ++ (inside h ns ++ end_tag_text h.name)
-        = rw (p, q) refl in
-        ap (λ t. run t (rest h ns)) x
-        ∙ (ap (run (if drops_feed h.name then Fresh (own h ∷ s) else Content [] (own h ∷ s))) y
-        ∙ (fed (drops_feed h.name) (begins_with_feed ns) h ns s ms refl first i
-        ∙ ap (λ k. complete h.name h.attrs (nodes_normal k) s) (sym l)))
+    fed false d h inner s ms first i = i
+    fed true true h inner s ms first i = i
+    fed true false h inner s ms first i =
+        fresh_read (own h ∷ s) inner (47 ∷ (h.name ++ codes ">")) (first refl refl) ∙ i
 
     -- what follows the start tag
-    rest_by : (a b r e : Bool) (h : Head) (ns : NodesView) (s : List Open) →
-        is_foreign_self_closing h.name ≡ a → is_void h.name ≡ b → is_raw h.name ≡ r →
-        is_escapable_raw h.name ≡ e →
-        IsOf is_tag_char h.name → rest_faults h ns ≡ [] → NodesAreFrameFree ns →
+    rest_read : (h : Head) (ns : NodesView) (s : List Open) → IsOf is_tag_char h.name →
+        rest_faults h ns ≡ [] → NodesAreFrameFree ns →
         (is_raw h.name ≡ true → RawEndsWell margin.pretty h ns) → KidsRead h ns s →
         run (started h.name h.attrs s) (rest h ns)
         ≡ complete h.name h.attrs (nodes_normal (content_layout margin h ns)) s
-    rest_by true b r e h ns s p q u v n f w x ih =
-        rw p (ap (λ k. complete h.name h.attrs k s) (no_children h.span ns (rw p at f)))
-    rest_by false true r e h ns s p q u v n f w x ih =
-        rw (p, q) (ap (λ k. complete h.name h.attrs k s) (no_children h.span ns (rw (p, q) at f)))
-    rest_by false false true e h ns s p q u v n f w x ih =
-        let b = margin.pretty && is_by_lines h in
-        let g : nodes_raw_faults escaping.Raw ns ++ closing_faults h ns ≡ [] = rw (p, q, u) at f in
-        let holds : holds_closing h.name (nodes_raw_text ns) ≡ false =
-        test_fails (holds_closing h.name (nodes_raw_text ns))
-        (fault.RawClosing (record { 0 = h.span }))
-        (right_empty (nodes_raw_faults escaping.Raw ns) (closing_faults h ns) g) in
-        let keeps = raw_is h.name u in
-        let ends : holds_closing h.name (raw_text margin h (nodes_raw_text ns)) ≡ false =
-        raw_ends b margin.level h.name (nodes_raw_text ns) u holds (x u) in
-        let is : put_words (raw_text margin h (nodes_raw_text ns)) no_plains
-        ≡ nodes_normal (raw_layout margin h ns) =
-        raw_normal b (lines_text margin.level h.name (nodes_raw_text ns)) ns
-        (left_empty (nodes_raw_faults escaping.Raw ns) (closing_faults h ns) g) in
-        rw (p, q, u, keeps) (raw_back h.name h.attrs s
-        (raw_text margin h (nodes_raw_text ns)) n ends
-        ∙ ap (λ k. complete h.name h.attrs k s)
-        (with_text_none (raw_text margin h (nodes_raw_text ns)) ∙ is))
-    rest_by false false false true h ns s p q u v n f w x ih =
-        let g : nodes_raw_faults escaping.Text ns ≡ [] = rw (p, q, u, v) at f in
-        let here : inside h ns ≡ escaped_text escaping.Text (nodes_raw_text ns) = rw (u, v) refl in
-        content_read h ns s ns p q u (rw (p, q, u, v) refl)
-        (λ d k. ap starts_with_feed here ∙ texts_start ns g k) (inside_text h ns s u v n g)
-    rest_by false false false false h ns s p q u v n f w x ih =
-        let g : nodes_faults frames h.pre_span (margin.pretty && is_pretty_inside h ns) ns ≡ [] =
-        rw (p, q, u, v) at f in
-        let ms = nodes_layout true (margin_inside margin h ns) ns in
-        content_read h ns s ms p q u (rw (p, q, u, v) refl)
-        (λ d k. let here : inside h ns ≡ nodes_text frames h.pre_span true (shut margin.level) ns =
-        rw (u, v, stays_shut margin.pretty h ns d) refl in
-        ap starts_with_feed here ∙ nodes_start ns h.pre_span true margin.level w k)
-        (inside_nodes h ns s u v n g ih)
+    rest_read h ns s n f w x ih =
+        let as_kids = λ (k : Plains). complete h.name h.attrs k s in
+        let text = nodes_raw_text ns in
+        elim (cases_Bool (is_foreign_self_closing h.name)) [
+          | inl p ↦ rw p (ap as_kids (no_children h.span ns (rw p at f)))
+          | inr p ↦ elim (cases_Bool (is_void h.name)) [
+            | inl q ↦ rw (p, q) (ap as_kids (no_children h.span ns (rw (p, q) at f)))
+            | inr q ↦ elim (cases_Bool (is_raw h.name)) [
+              | inl u ↦
+                  let b = margin.pretty && is_by_lines h in
+                  let g : nodes_raw_faults escaping.Raw ns ++ closing_faults h ns ≡ []
+                  = rw (p, q, u) at f in
+                  let written = raw_text margin h text in
+                  let ends : holds_closing h.name written ≡ false = raw_ends b margin.level h.name
+                  text u (test_fails _ _ (right_empty _ (closing_faults h ns) g)) (x u) in
+                  rw (p, q, u, raw_is h.name u) (raw_back h.name h.attrs s written n ends
+                  ∙ ap as_kids (with_text_none written ∙ raw_normal b _ ns (left_empty _ _ g)))
+              | inr u ↦ elim (cases_Bool (is_escapable_raw h.name)) [
+                | inl v ↦
+                    let g : nodes_raw_faults escaping.Text ns ≡ [] = rw (p, q, u, v) at f in
+                    rw (p, q, u, v) (fed (drops_feed h.name) (begins_with_feed ns) h
+                    (escaped_text escaping.Text text) s ns (λ d k. texts_start ns g k)
+                    (read_on _ (escaped_text escaping.Text text) _
+                    (chars_read false [] (own h ∷ s) text (raw_good escaping.Text ns g))
+                    (end_read (own h) s text n
+                    ∙ ap as_kids (with_text_none text ∙ texts_alone escaping.Text ns g))))
+                | inr v ↦
+                    let inner = margin_inside margin h ns in
+                    let all = nodes_text frames h.pre_span true inner ns in
+                    let ms = nodes_layout true inner ns in
+                    let j = joined no_plains [] ms in
+                    rw (p, q, u, v) (fed (drops_feed h.name) (begins_with_feed ns) h all s ms
+                    (λ d k. rw (stays_shut margin.pretty h ns d)
+                    (nodes_start ns h.pre_span true margin.level w k))
+                    (read_on _ all _ (ih v (rw (p, q, u, v) at f))
+                    (end_read (record (own h) { children = j.0 }) s j.1 n
+                    ∙ ap as_kids (joined_is ms no_plains []))))
+              ]
+            ]
+          ]
+        ]
 
     -- an element, after its `<`
     abbrev tail : Head → NodesView → List ℕ
@@ -294,11 +233,8 @@ module _ (frames : Frames) where
         run (Less s) (tail h ns) ≡ complete h.name h.attrs
         (nodes_normal (content_layout margin h ns)) s
     tail_read h ns s n g f k w x ih =
-        read_on (Less s) (started h.name h.attrs s) _
-        (h.name ++ (attrs_text h.attrs ++ tag_close h.name)) (rest h ns)
-        (start_read h.name h.attrs s h.span n.0 n.1 g k)
-        (rest_by (is_foreign_self_closing h.name) (is_void h.name) (is_raw h.name)
-        (is_escapable_raw h.name) h ns s refl refl refl refl n.0 f w x ih)
+        read_on _ (h.name ++ (attrs_text h.attrs ++ tag_close h.name)) (rest h ns)
+        (start_read h.name h.attrs s h.span n.0 n.1 g k) (rest_read h ns s n.0 f w x ih)
 
   pub nodes_read : (ns : NodesView) (full due : Bool) (margin : Margin) (text : List ℕ) (o : Open)
       (os : List Open) →
@@ -320,38 +256,30 @@ module _ (frames : Frames) where
       where_read (margin.pretty && has_indent due (text_node s span))
       (deeper margin).level text o os (escaped_text y s ++ more)
       (node (text_node s span) (nodes_layout false margin ns))
-      (λ t. read_on (Content t (o ∷ os)) (Content (t ++ s) (o ∷ os)) _ (escaped_text y s) more
-      (text_read full span t (o ∷ os) s (left_empty (text_faults y span s)
-      (nodes_faults frames full margin.pretty ns) f))
-      (nodes_read ns full false margin (t ++ s) o os e named.1 w.1 x.1
-      (right_empty (text_faults y span s) (nodes_faults frames full margin.pretty ns) f)))
+      (λ t. read_on _ (escaped_text y s) more
+      (text_read full span t (o ∷ os) s (left_empty _ _ f))
+      (nodes_read ns full false margin (t ++ s) o os e named.1 w.1 x.1 (right_empty _ _ f)))
   nodes_read (node (frame_node b) ns) full due margin text o os e named w x f = absurd w.0
   nodes_read (node (element_node h kids) ns) full due margin text o os e named w x f =
       let wants = wants_pretty_around h in
       let inner = deeper margin in
       let more = nodes_text frames full wants margin ns in
       let below = content_layout inner h kids in
-      let own_faults : attrs_faults h.span h.attrs ++ rest_faults inner h kids ≡ [] =
-      left_empty (attrs_faults h.span h.attrs ++ rest_faults inner h kids)
-      (nodes_faults frames full margin.pretty ns) f in
+      let own_faults : attrs_faults h.span h.attrs ++ rest_faults inner h kids ≡ []
+      = left_empty _ _ f in
       where_read (margin.pretty && has_indent due (element_node h kids)) inner.level text o os
-      ((60 ∷ tail inner h kids) ++ more) (node (element_node h below)
-      (nodes_layout wants margin ns))
+      ((60 ∷ tail inner h kids) ++ more)
+      (node (element_node h below) (nodes_layout wants margin ns))
       (λ t. let q : Open = record o { children = with_text t o.children } in
-      read_on (Content t (o ∷ os)) (complete h.name h.attrs (nodes_normal below) (q ∷ os)) _
-      (60 ∷ tail inner h kids) more
-      (tail_read inner h kids (q ∷ os) named.0.0
-      (left_empty (attrs_faults h.span h.attrs) (rest_faults inner h kids) own_faults)
-      (right_empty (attrs_faults h.span h.attrs)
-      (rest_faults inner h kids) own_faults) e w.0 x.0.0
+      read_on (Content t (o ∷ os)) (60 ∷ tail inner h kids) more
+      (tail_read inner h kids (q ∷ os) named.0.0 (left_empty _ _ own_faults)
+      (right_empty (attrs_faults h.span h.attrs) _ own_faults) e w.0 x.0.0
       (λ u g. nodes_read kids h.pre_span true (margin_inside inner h kids) [] (own h)
       (q ∷ os) u named.0.1 w.0 x.0.1 g))
       (nodes_read ns full wants margin [] (record q {
-        children = q.children
-            then plain (branch h.name h.attrs (nodes_normal below)) no_plains;
+        children = q.children then plain (branch h.name h.attrs (nodes_normal below)) no_plains;
       }) os e named.1 w.1 x.1
-      (right_empty (attrs_faults h.span h.attrs ++ rest_faults inner h kids)
-      (nodes_faults frames full margin.pretty ns) f)))
+      (right_empty (attrs_faults h.span h.attrs ++ rest_faults inner h kids) _ f)))
 
   -- what stands before and after the root
   begun : (pretty : Bool) (xs : List ℕ) → run (Outside None) (indent_where pretty 0 ++ 60 ∷ xs)
@@ -366,10 +294,8 @@ module _ (frames : Frames) where
   ended false root = refl
 
   whole : (options : HtmlOptions) (e : ElementView) → ElementIsNamed e → ElementIsFrameFree e →
-      ElementEndsWell options.pretty e →
-      document_faults frames options e ≡ [] →
-      read (document_text frames options e)
-      ≡ Some (branch e.0.name e.0.attrs (nodes_normal
+      ElementEndsWell options.pretty e → document_faults frames options e ≡ [] →
+      read (document_text frames options e) ≡ Some (branch e.0.name e.0.attrs (nodes_normal
       (content_layout (root_margin options) e.0 e.1)))
   unfolding node_text node_faults NodeIsNamed NodeEndsWell
   whole options e named frameless ended_well no_faults =
@@ -377,21 +303,13 @@ module _ (frames : Frames) where
       let kids = e.1 in
       let margin = root_margin options in
       let last = feed_where options.pretty in
-      let root = branch h.name h.attrs (nodes_normal (content_layout margin h kids)) in
-      let read_root : run (Less []) (tail margin h kids) ≡ Outside (Some root) =
-      tail_read margin h kids [] named.0
-      (left_empty (attrs_faults h.span h.attrs) (rest_faults margin h kids) no_faults)
-      (right_empty (attrs_faults h.span h.attrs)
-      (rest_faults margin h kids) no_faults) refl frameless ended_well.0
-      (λ escapes clean. nodes_read kids h.pre_span true (margin_inside margin h kids) []
-      (own h) [] escapes named.1 frameless ended_well.1 clean) in
+      let clean : attrs_faults h.span h.attrs ++ rest_faults margin h kids ≡ [] = no_faults in
       ap final_root (begun options.pretty (tail margin h kids ++ last)
-      ∙ read_on (Less []) (Outside (Some root)) (Outside (Some root))
-      (tail margin h kids) last read_root (ended options.pretty (Some root)))
-
-  pretty_reads_back : PrettyReadsBack frames
-  pretty_reads_back e named frameless ended_well no_faults =
-      whole pretty_options e named frameless ended_well no_faults
+      ∙ read_on (Less []) (tail margin h kids) last
+      (tail_read margin h kids [] named.0 (left_empty _ _ clean)
+      (right_empty (attrs_faults h.span h.attrs) _ clean) refl frameless ended_well.0
+      (λ escapes fine. nodes_read kids h.pre_span true (margin_inside margin h kids) [] (own h) []
+      escapes named.1 frameless ended_well.1 fine)) (ended options.pretty _))
 
   pub plain_reads_back : PlainReadsBack frames
   plain_reads_back e named frameless no_faults =
@@ -405,29 +323,17 @@ module _ (frames : Frames) where
       × (options.pretty ≡ true → ElementIsFrameFree e → ElementEndsWell true e →
       read text ≡ Some (element_normal (element_layout e)))
 
-  either_by : (pretty : Bool) (e : ElementView) (text : List ℕ) →
-      text ≡ document_text frames (record { pretty = pretty }) e →
-      ElementIsNamed e → document_faults frames (record { pretty = pretty }) e ≡ [] →
-      EitherReadsBack (record { pretty = pretty }) e text
-  either_by false e text is named no_faults = (
-    λ mode frameless. ap read is ∙ plain_reads_back e named frameless no_faults,
-    λ mode frameless ended_well. absurd (false≢true mode),
-  )
-  either_by true e text is named no_faults = (
-    λ mode frameless. absurd (true≢false mode),
-    λ mode frameless ended_well. ap read is
-        ∙ pretty_reads_back e named frameless ended_well no_faults,
-  )
-
   pub either_reads_back : (options : HtmlOptions) (e : ElementView) (text : List ℕ) →
       text ≡ document_text frames options e →
       ElementIsNamed e → document_faults frames options e ≡ [] → EitherReadsBack options e text
-  either_reads_back options e text is named no_faults =
-      either_by options.pretty e text is named no_faults
+  either_reads_back options e text is named no_faults = (
+    λ mode frameless. ap read is
+        ∙ (whole options e named frameless (rw mode (ends_plainly e)) no_faults
+        ∙ rw mode (ap (λ ns. Some (branch e.0.name e.0.attrs (nodes_normal ns)))
+        (plain_stays e.0 e.1))),
+    λ mode frameless ended_well. ap read is
+        ∙ (whole options e named frameless (rw mode ended_well) no_faults ∙ rw mode refl),
+  )
 
 pub reads_back : ReadsBack
-reads_back frames = (
-  λ e named frameless no_faults. plain_reads_back frames e named frameless no_faults,
-  λ e named frameless ended_well no_faults.
-      pretty_reads_back frames e named frameless ended_well no_faults,
-)
+reads_back frames = (plain_reads_back frames, whole frames pretty_options)

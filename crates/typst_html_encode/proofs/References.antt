@@ -7,9 +7,8 @@ use Rattle.html_names_core.{proofs.Basics.{all_append}, specs.Characters.{all, i
 use Rattle.html_dom_tree.specs.Tree.{tag_node, text_node, element_node, frame_node, NodesView, none, node}
 use Rattle.typst_html_encode.specs.References.{numeric, numbered_char, reference, reference_to}
 use Rattle.typst_html_encode.specs.{Text.{char_text, escaped_text, escaping_of, nodes_raw_text}, declared.escape.Escaping.{Escaping}}
-use Rattle.typst_html_encode.specs.declared.fault.ExportFault.TheVariants as fault
 use Rattle.typst_html_encode.proofs.Runs.{grows, read_on, left_empty, right_empty, test_fails}
-use Rattle.typst_html_encode.specs.ExportFaults.{is_reference, is_bad, char_faults, text_faults, nodes_raw_faults}
+use Rattle.typst_html_encode.specs.ExportFaults.{is_bad, char_faults, text_faults, nodes_raw_faults}
 use Rattle.typst_html_encode.specs.Reader.{Content, Reference, Open, ReaderState, or_stop, run, step}
 use lib.Utf8.{scalar, scalar_fits}
 
@@ -56,23 +55,22 @@ by_number c s h e =
     (35 ∷ 120 ∷ ds, e ∙ numeric_is c, pass, numbered-digits c s h)
 
 spelled : (c : ℕ) → scalar c ≡ true → 0 < c → Spelled c
-spelled c s h =
-    elim (cases_Bool (eqb c 38)) [
-      | inl e ↦ by_name c 38 e (codes "amp", refl, refl, refl)
-      | inr e38 ↦ elim (cases_Bool (eqb c 60)) [
-        | inl e ↦ by_name c 60 e (codes "lt", refl, refl, refl)
-        | inr e60 ↦ elim (cases_Bool (eqb c 62)) [
-          | inl e ↦ by_name c 62 e (codes "gt", refl, refl, refl)
-          | inr e62 ↦ elim (cases_Bool (eqb c 34)) [
-            | inl e ↦ by_name c 34 e (codes "quot", refl, refl, refl)
-            | inr e34 ↦ elim (cases_Bool (eqb c 39)) [
-              | inl e ↦ by_name c 39 e (codes "apos", refl, refl, refl)
-              | inr e39 ↦ by_number c s h (rw (e38, e60, e62, e34, e39) refl)
-            ]
-          ]
+spelled c s h = elim (cases_Bool (eqb c 38)) [
+  | inl e ↦ by_name c 38 e (codes "amp", refl, refl, refl)
+  | inr e38 ↦ elim (cases_Bool (eqb c 60)) [
+    | inl e ↦ by_name c 60 e (codes "lt", refl, refl, refl)
+    | inr e60 ↦ elim (cases_Bool (eqb c 62)) [
+      | inl e ↦ by_name c 62 e (codes "gt", refl, refl, refl)
+      | inr e62 ↦ elim (cases_Bool (eqb c 34)) [
+        | inl e ↦ by_name c 34 e (codes "quot", refl, refl, refl)
+        | inr e34 ↦ elim (cases_Bool (eqb c 39)) [
+          | inl e ↦ by_name c 39 e (codes "apos", refl, refl, refl)
+          | inr e39 ↦ by_number c s h (rw (e38, e60, e62, e34, e39) refl)
         ]
       ]
     ]
+  ]
+]
 
 -- states that hold what stands since `&`, and the state after the reference
 module _ (since : List ℕ → ReaderState) (done : ℕ → ReaderState)
@@ -82,14 +80,13 @@ module _ (since : List ℕ → ReaderState) (done : ℕ → ReaderState)
       step (since xs) c ≡ since (xs ++ c ∷ [])
   more_since xs c h = next xs c ∙ rw (not-true (eqb c 59) h) refl
 
-  pub reference_read : (before : ReaderState) → step before 38 ≡ since [] → (c : ℕ) → scalar c ≡ true →
-      0 < c →
-      run before (reference_to c) ≡ done c
+  pub reference_read : (before : ReaderState) → step before 38 ≡ since [] → (c : ℕ) →
+      scalar c ≡ true → 0 < c → run before (reference_to c) ≡ done c
   reference_read before start c ok positive =
       let x : Spelled c = spelled c ok positive in
       ap (run before) x.1
       ∙ (ap (λ t. run t (x.0 ++ 59 ∷ [])) start
-      ∙ read_on (since []) (since x.0) _ x.0 (59 ∷ [])
+      ∙ read_on (since []) x.0 (59 ∷ [])
       (grows since is_no_semicolon more_since [] x.0 x.2)
       (next x.0 59 ∙ ap (λ o. or_stop o done) x.3))
 
@@ -111,30 +108,25 @@ plain_char : (text : List ℕ) (p : List Open) (c : ℕ) → is_element_text_cha
     step (Content text p) c ≡ Content (text ++ c ∷ []) p
 plain_char text p c h =
     let parts = and_parts (is_text_char c && not (eqb c 38)) (not (eqb c 60)) h in
-    let no_less : eqb c 60 ≡ false = not-true (eqb c 60) parts.1 in
-    let no_and : eqb c 38 ≡ false = not-true (eqb c 38)
-    (and_parts (is_text_char c) (not (eqb c 38)) parts.0).1 in
-    rw (no_less, no_and) refl
+    rw (not-true _ parts.1, not-true _ (and_parts (is_text_char c) _ parts.0).1) refl
 
 char_read : (pre_span : Bool) (text : List ℕ) (p : List Open) (c : ℕ) → is_text_char c ≡ true →
     run (Content text p) (char_text (escaping_of pre_span) c) ≡ Content (text ++ c ∷ []) p
 char_read true text p c h = reference_char text p c h
-char_read false text p c h =
-    elim (cases_Bool (is_element_text_char c)) [
-      | inl e ↦ rw e (plain_char text p c e)
-      | inr e ↦ rw e (reference_char text p c h)
-    ]
+char_read false text p c h = elim (cases_Bool (is_element_text_char c)) [
+  | inl e ↦ rw e (plain_char text p c e)
+  | inr e ↦ rw e (reference_char text p c h)
+]
 
 pub chars_read : (pre_span : Bool) (text : List ℕ) (p : List Open) (cs : List ℕ) →
     all is_text_char cs ≡ true →
     run (Content text p) (escaped_text (escaping_of pre_span) cs) ≡ Content (text ++ cs) p
-chars_read pre_span text p [] h = ap (λ t. Content t p) (sym (append-nil text))
+chars_read pre_span text p [] h = rw append-nil refl
 chars_read pre_span text p (c ∷ cs) h =
     let e = escaping_of pre_span in
     let both = and_parts (is_text_char c) (all is_text_char cs) h in
-    read_on _ _ _ (char_text e c) (escaped_text e cs) (char_read pre_span text p c both.0)
-    (chars_read pre_span (text ++ c ∷ []) p cs both.1
-    ∙ ap (λ t. Content t p) (append_assoc text (c ∷ []) cs))
+    read_on _ (char_text e c) (escaped_text e cs) (char_read pre_span text p c both.0)
+    (chars_read pre_span (text ++ c ∷ []) p cs both.1 ∙ simp append_assoc)
 
 -- where nothing is wrong, each character is a text character
 
@@ -146,12 +138,9 @@ pub text_good : (e : Escaping) (span : ℕ) (cs : List ℕ) → text_faults e sp
     all is_text_char cs ≡ true
 text_good e span [] h = refl
 text_good e span (c ∷ cs) h =
-    let one : is_bad e c ≡ false =
-    test_fails (is_bad e c) (fault.Unencodable c (record { 0 = span }))
-    (left_empty (char_faults e span c) (text_faults e span cs) h) in
-    and_from (is_text_char c) (all is_text_char cs)
-    (good_by (is_text_char c) (is_reference e && eqb c 13) one)
-    (text_good e span cs (right_empty (char_faults e span c) (text_faults e span cs) h))
+    let one = test_fails (is_bad e c) _ (left_empty (char_faults e span c) _ h) in
+    and_from (is_text_char c) (all is_text_char cs) (good_by (is_text_char c) _ one)
+    (text_good e span cs (right_empty (char_faults e span c) _ h))
 
 pub raw_good : (e : Escaping) (ns : NodesView) → nodes_raw_faults e ns ≡ [] →
     all is_text_char (nodes_raw_text ns) ≡ true
@@ -159,8 +148,7 @@ raw_good e none h = refl
 raw_good e (node (tag_node t) ns) h = raw_good e ns h
 raw_good e (node (text_node s span) ns) h =
     all_append is_text_char s (nodes_raw_text ns)
-    (text_good e span s (left_empty (text_faults e span s) (nodes_raw_faults e ns) h))
-    (raw_good e ns (right_empty (text_faults e span s) (nodes_raw_faults e ns) h))
+    (text_good e span s (left_empty _ _ h)) (raw_good e ns (right_empty _ _ h))
 raw_good e (node (element_node g kids) ns) h = cc
 raw_good e (node (frame_node b) ns) h = cc
 

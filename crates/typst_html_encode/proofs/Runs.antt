@@ -8,8 +8,9 @@ pub run-append : (s : ReaderState) (xs ys : List ℕ) → run s (xs ++ ys) ≡ r
 run-append s [] ys = refl
 run-append s (x ∷ xs) ys = run-append (step s x) xs ys
 
-pub read_on : (s t u : ReaderState) (xs ys : List ℕ) → run s xs ≡ t → run t ys ≡ u → run s (xs ++ ys) ≡ u
-read_on s t u xs ys h k = run-append s xs ys ∙ (ap (λ r. run r ys) h ∙ k)
+pub read_on : {t u : ReaderState} (s : ReaderState) (xs ys : List ℕ) → run s xs ≡ t →
+    run t ys ≡ u → run s (xs ++ ys) ≡ u
+read_on s xs ys h k = run-append s xs ys ∙ (ap (λ r. run r ys) h ∙ k)
 
 -- a state that holds what it has read so far
 module _ (f : List ℕ → ReaderState) where

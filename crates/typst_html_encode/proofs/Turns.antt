@@ -1,5 +1,5 @@
 -- One turn of a walk over a flat tree: it leaves an element, or comes to a node.
-use Rattle.std.proofs.Common.{◌≡◌, ℕ, ◌<◌, ◌&&◌, Bool, true, false, List, [], ◌∷◌, ◌++◌, refl, sym, ap, ◌∙◌, arith, append_assoc, append-nil, subst}
+use Rattle.std.proofs.Common.{◌≡◌, ℕ, ◌<◌, ◌&&◌, Bool, true, false, List, [], ◌∷◌, ◌++◌, refl, sym, ◌∙◌, arith, append_assoc, append-nil, subst}
 use Rattle.html_dom_tree.specs.Tree.{Head, NodeView, element_node, NodesView, none, node}
 use Rattle.html_dom_flat.{proofs.Flats.{count_some}, specs.Flat.{nodes_count}}
 use Rattle.typst_html_encode.proofs.Firsts.{first_of_more}
@@ -66,10 +66,8 @@ module _ {frames : Frames} {outer : Margin} {whole : NodesView} {start : List �
       (text ≡ start ++ outside_text frames outer whole)
       × (nodes_faults frames false outer.pretty whole ≡ []) × NodesAreNamed whole
   unfolding nodes_faults NodesAreNamed
-  finished {left} {opened} {text} stands is none_open =
-      let done : IsAt frames outer whole start due none [] text
-      = subst (λ os. IsAt frames outer whole start due none os text) none_open
-      (subst (λ ns. IsAt frames outer whole start due ns opened text) is stands) in
+  finished {text = text} stands is none_open =
+      let done = rw (is, none_open) at stands in
       (sym (append-nil text) ∙ done.agrees, sym done.clean, done.named tt)
 
   -- the walk leaves the innermost open element
@@ -79,10 +77,8 @@ module _ {frames : Frames} {outer : Margin} {whole : NodesView} {start : List �
       new_text ≡ text ++ (indent_where o.margin.pretty o.margin.level ++ end_tag_text o.name) →
       IsAt frames outer whole start o.due_after o.after os new_text
   unfolding nodes_text nodes_faults NodesAreNamed
-  leaves {left} {opened} {os} {o} {text} stands is first wrote =
-      let here : IsAt frames outer whole start due none (o ∷ os) text
-      = subst (λ xs. IsAt frames outer whole start due none xs text) first
-      (subst (λ ns. IsAt frames outer whole start due ns opened text) is stands) in
+  leaves stands is first wrote =
+      let here = rw (is, first) at stands in
       record {
         agrees = rw (wrote, append_assoc, append_assoc) here.agrees;
         clean = here.clean;
@@ -94,7 +90,7 @@ module _ {frames : Frames} {outer : Margin} {whole : NodesView} {start : List �
       {text : List ℕ} (stands : IsAt frames outer whole start due left opened text)
       (is : left ≡ node n others) where
     here : IsAt frames outer whole start due (node n others) opened text
-    here = subst (λ ns. IsAt frames outer whole start due ns opened text) is stands
+    here = rw is at stands
 
     pub passes : {place : Place} {next_due : Bool} {new_text : List ℕ} →
         place ≡ next_place outer opened → WritesNode frames place due n text new_text →
@@ -160,11 +156,7 @@ module _ {frames : Frames} {outer : Margin} {whole : NodesView} {start : List �
       o ≡ open_element h (margin_inside place.margin h inside) next_due others →
       new_opened ≡ o ∷ opened →
       IsAt frames outer whole start true inside new_opened new_text
-  enters {left} {inside} {others} {n} {h} {place} {opened = opened} {text = text} {new_text} stands is
-      is_place w entered is_due opening opened_are =
+  enters stands is is_place w entered is_due opening opened_are =
       let element = entered.0 in
-      let first : left ≡ node (element_node h inside) others
-      = is ∙ ap (λ x. node x others) element in
-      rw (opened_are, opening, is_due, element) (enters_here is_place
-      (subst (λ ns. IsAt frames outer whole start due ns opened text) first stands) entered.1
-      (subst (λ x. WritesNode frames place due x text new_text) element w))
+      rw (opened_are, opening, is_due, element) (enters_here is_place (rw (is, element) at stands)
+      entered.1 (rw element at w))

@@ -1,5 +1,6 @@
 -- What a walk over a flat tree writes for a node, and what it has left.
-use Rattle.std.proofs.Common.{◌≡◌, ℕ, ◌+◌, ◌*◌, ◌&&◌, not, Bool, true, false, List, [], ◌∷◌, ◌++◌, refl, sym, ap, ◌∙◌, append_assoc, append-nil, subst}
+use Rattle.std.proofs.Common.{◌≡◌, ℕ, ◌+◌, ◌*◌, ◌&&◌, not, Bool, true, false, List, [], ◌∷◌, ◌++◌, inl, inr, refl, sym, ap, append_assoc, append-nil, subst}
+use Rattle.std.proofs.lemmas.Bool.{and_right, cases_Bool}
 use Rattle.std.specs.Prelude.{if◌then◌else◌, Result}
 use Rattle.html_dom_tree.specs.Tree.{Head, NodeView, tag_node, text_node, element_node, frame_node, NodesView, none, node}
 use Rattle.typst_html_encode.proofs.{Firsts.{first_of_more}, Named.{texts_named, raw_content_named, childless_named}, Runs.{right_empty}}
@@ -14,10 +15,6 @@ use Rattle.typst_html_encode.specs.declared.content.{ContentKind.{ContentKind}, 
 use Rattle.typst_html_encode.specs.declared.escape.Escaping.TheVariants as escaping
 use Rattle.typst_html_encode.specs.declared.{fault.ExportFault.{ExportFault}, layout.Margin.{Margin}}
 use Rattle.html_dom_flat.specs.Flat.{nodes_count}
-
-and_false : (b : Bool) → (b && false) ≡ false
-and_false true = refl
-and_false false = refl
 
 -- a node that the walk enters, and one that it does not
 
@@ -44,7 +41,10 @@ none_inside : (frames : Frames) (margin : Margin) (h : Head) (ns : NodesView) �
     has_nodes ns ≡ false →
     nodes_text frames h.pre_span true (margin_inside margin h ns) ns ≡ []
 unfolding nodes_text is_pretty_inside
-none_inside frames margin h none e = rw (and_false (allows_pretty_inside h.name), and_false margin.pretty) refl
+none_inside frames margin h none e = rw (
+  and_right (allows_pretty_inside h.name) false refl,
+  and_right margin.pretty false refl,
+) refl
 none_inside frames margin h (node n ns) e = cc
 
 pub entered_text : (frames : Frames) (pre_span : Bool) (margin : Margin) (h : Head)
@@ -137,23 +137,17 @@ skipped_named frames pre_span pretty (element_node h ns) e named clean = (
 )
 skipped_named frames pre_span pretty (frame_node f) e named clean = tt
 
-first_in_element : (frames : Frames) (pre_span pretty : Bool) (h : Head) (ns : NodesView)
-    (e : ExportFault) (b : Bool) → is_element_entered h ns ≡ b →
-    IsFirst e (first_faults frames pre_span pretty (element_node h ns)) →
-    IsFirst e (node_faults frames pre_span pretty (element_node h ns))
-first_in_element frames pre_span pretty h ns e true entered is =
-    subst (IsFirst e) (sym (entered_faults frames pre_span pretty h ns entered))
-    (first_of_more e (first_faults frames pre_span pretty (element_node h ns))
-    (nodes_faults frames h.pre_span (pretty && is_pretty_inside h ns) ns) is)
-first_in_element frames pre_span pretty h ns e false entered is =
-    subst (IsFirst e) (sym (skipped_faults frames pre_span pretty (element_node h ns) entered)) is
-
 pub first_in_node : (frames : Frames) (pre_span pretty : Bool) (n : NodeView) (e : ExportFault) →
     IsFirst e (first_faults frames pre_span pretty n) →
     IsFirst e (node_faults frames pre_span pretty n)
 unfolding node_faults
 first_in_node frames pre_span pretty (element_node h ns) e is =
-    first_in_element frames pre_span pretty h ns e (is_element_entered h ns) refl is
+    elim (cases_Bool (is_element_entered h ns)) [
+      | inl b ↦ subst (IsFirst e) (sym (entered_faults frames pre_span pretty h ns b))
+          (first_of_more e _ _ is)
+      | inr b ↦ subst (IsFirst e)
+          (sym (skipped_faults frames pre_span pretty (element_node h ns) b)) is
+    ]
 first_in_node frames pre_span pretty x e is = is
 
 -- what a walk has left to write: nodes in the innermost open element, and what is after each
@@ -207,12 +201,11 @@ module _ (frames : Frames) (outer : Margin) (n : NodeView) (ns : NodesView) wher
       ++ rest_text frames outer (place.margin.pretty && due_after due n) ns os)
   unfolding nodes_text
   rest_text_first [] due = refl
-  rest_text_first (o ∷ os) due =
-      rw (
-        append_assoc,
-        append_assoc,
-        due_if_pretty frames o.pre_span o.margin ns (due_after due n) o.margin.pretty refl,
-      ) refl
+  rest_text_first (o ∷ os) due = rw (
+    append_assoc,
+    append_assoc,
+    due_if_pretty frames o.pre_span o.margin ns (due_after due n) o.margin.pretty refl,
+  ) refl
 
   pub rest_faults_first : (os : List OpenElementView) →
       let place = next_place outer os in
@@ -221,8 +214,7 @@ module _ (frames : Frames) (outer : Margin) (n : NodeView) (ns : NodesView) wher
       ++ rest_faults frames outer ns os
   unfolding nodes_faults
   rest_faults_first [] = refl
-  rest_faults_first (o ∷ os) = append_assoc (node_faults frames o.pre_span o.margin.pretty n)
-      (nodes_faults frames o.pre_span o.margin.pretty ns) (rest_faults frames outer o.after os)
+  rest_faults_first (o ∷ os) = rw append_assoc refl
 
   pub rest_named_first : (os : List OpenElementView) → NodeIsNamed n → RestIsNamed ns os →
       RestIsNamed (node n ns) os
@@ -239,15 +231,8 @@ module _ (frames : Frames) (margin : Margin) (h : Head) (kids ns : NodesView)
       Adds r old new (element_text frames margin (h, kids))
       (element_faults frames margin.pretty (h, kids))
   unfolding nodes_faults
-  root_writes r old new w =
-      let text : outside_text frames margin ns ≡ element_text frames margin (h, kids)
-      = ap (outside_text frames margin) is ∙ append-nil _ in
-      let faults : nodes_faults frames false margin.pretty ns
-      ≡ element_faults frames margin.pretty (h, kids)
-      = ap (nodes_faults frames false margin.pretty) is ∙ append-nil _ in
-      subst (λ fs. Adds r old new (element_text frames margin (h, kids)) fs) faults
-      (subst (λ t. Adds r old new t (nodes_faults frames false margin.pretty ns)) text w)
+  root_writes r old new w = simp append-nil at (rw is at w)
 
   pub root_named : NodesAreNamed ns → ElementIsNamed (h, kids)
   unfolding NodesAreNamed
-  root_named named = (subst NodesAreNamed is named).0
+  root_named named = (rw is at named).0

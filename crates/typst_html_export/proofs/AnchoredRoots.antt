@@ -1,5 +1,5 @@
 -- The tree that links lead into is one to which anchors were added.
-use Rattle.std.proofs.Common.{ℕ, List, [], ◌∷◌, drop, Option, None, Some}
+use Rattle.std.proofs.Common.{ℕ, List, [], ◌∷◌, Option, None, Some}
 use Rattle.html_dom_tree.specs.Tree.{TagView, Head, tag_node, text_node, element_node, frame_node, NodesView, none, node, ElementView}
 use Rattle.html_anchors.specs.Anchors.{with_id, text_in_span, span_before, nodes_size, nodes_with_anchors, element_namings, element_with_anchors}
 use Rattle.html_anchors.specs.{Events.{Targets}, Namings.{Naming}}
@@ -18,30 +18,27 @@ MadePasses P c = Passing P c.made
 all_pass : (P : List ℕ → Type 0) → ((id : List ℕ) → P id) → (cs : List Naming) →
     Each (MadePasses P) cs
 all_pass P any [] = tt
-all_pass P any (c ∷ cs) = (made_passes c.made, all_pass P any cs)
-  where
-    made_passes : (made : Option (List ℕ)) → Passing P made
-    made_passes None = tt
-    made_passes (Some n) = any n
+all_pass P any (c ∷ cs) =
+    (elim c.made as (Passing P) [ None ↦ tt | Some n ↦ any n ], all_pass P any cs)
 
 module _ (P : NewAttribute → List ℕ → Type 0) where
-  tag_anchored : (made : Option (List ℕ)) (t : TagView) (ns ms : NodesView) →
+  tag_anchored : (made : Option (List ℕ)) {t : TagView} {ns ms : NodesView} →
       Passing (P new_id) made → Anchored P ns ms →
       Anchored P (node (tag_node t) ns) (node (tag_node t) (span_before made ms))
-  tag_anchored None t ns ms p r = at_tag r
-  tag_anchored (Some n) t ns ms p r = after_tag (anchor n 0 p) r
+  tag_anchored None p r = at_tag r
+  tag_anchored (Some n) p r = after_tag (anchor n 0 p) r
 
-  text_anchored : (made : Option (List ℕ)) (s : List ℕ) (span : ℕ) (ns ms : NodesView) →
+  text_anchored : (made : Option (List ℕ)) {s : List ℕ} {span : ℕ} {ns ms : NodesView} →
       Passing (P new_id) made → Anchored P ns ms →
       Anchored P (node (text_node s span) ns) (node (text_in_span made s span) ms)
-  text_anchored None s span ns ms p r = at_text r
-  text_anchored (Some n) s span ns ms p r = around_text (anchor n span p) r
+  text_anchored None p r = at_text r
+  text_anchored (Some n) {span = span} p r = around_text (anchor n span p) r
 
-  head_anchored : (made : Option (List ℕ)) (h : Head) (kids new ns ms : NodesView) →
+  head_anchored : (made : Option (List ℕ)) {h : Head} {kids new ns ms : NodesView} →
       Passing (P new_id) made → Anchored P kids new → Anchored P ns ms →
       Anchored P (node (element_node h kids) ns) (node (element_node (with_id made h) new) ms)
-  head_anchored None h kids new ns ms p q r = at_element nothing q r
-  head_anchored (Some n) h kids new ns ms p q r = at_element (given new_id n p) q r
+  head_anchored None p q r = at_element nothing q r
+  head_anchored (Some n) p q r = at_element (given new_id n p) q r
 
   pub nodes_are_anchored : (ns : NodesView) (cs : List Naming) → Each (MadePasses (P new_id)) cs →
       Anchored P ns (nodes_with_anchors cs ns)
@@ -49,23 +46,19 @@ module _ (P : NewAttribute → List ℕ → Type 0) where
   nodes_are_anchored none cs e = at_end
   nodes_are_anchored (node n ns) [] e = unchanged (anchors P) (λ h. nothing) (node n ns)
   nodes_are_anchored (node (tag_node t) ns) (c ∷ cs) e =
-      tag_anchored c.made t ns (nodes_with_anchors cs ns) e.0 (nodes_are_anchored ns cs e.1)
+      tag_anchored c.made e.0 (nodes_are_anchored ns cs e.1)
   nodes_are_anchored (node (text_node s span) ns) (c ∷ cs) e =
-      text_anchored c.made s span ns (nodes_with_anchors cs ns) e.0 (nodes_are_anchored ns cs e.1)
+      text_anchored c.made e.0 (nodes_are_anchored ns cs e.1)
   nodes_are_anchored (node (element_node h kids) ns) (c ∷ cs) e =
-      head_anchored c.made h kids (nodes_with_anchors cs kids) ns
-      (nodes_with_anchors (drop (nodes_size kids) cs) ns) e.0 (nodes_are_anchored kids cs e.1)
-      (nodes_are_anchored ns (drop (nodes_size kids) cs)
+      head_anchored c.made e.0 (nodes_are_anchored kids cs e.1) (nodes_are_anchored ns _
       (Each-drop (MadePasses (P new_id)) (nodes_size kids) cs e.1))
-  nodes_are_anchored (node (frame_node f) ns) (c ∷ cs) e =
-      at_frame (nodes_are_anchored ns cs e.1)
+  nodes_are_anchored (node (frame_node f) ns) (c ∷ cs) e = at_frame (nodes_are_anchored ns cs e.1)
 
   pub root_anchored_by : ((id : List ℕ) → P new_id id) → (x : Targets) (e : ElementView) →
       Anchored P e.1 (element_with_anchors x e).1
   unfolding element_with_anchors
   root_anchored_by any x e =
-      let namings = element_namings x e in
-      nodes_are_anchored e.1 namings (all_pass (P new_id) any namings)
+      nodes_are_anchored e.1 _ (all_pass (P new_id) any (element_namings x e))
 
 pub root_anchored : (x : Targets) (e : ElementView) →
     Anchored IsAny e.1 (element_with_anchors x e).1

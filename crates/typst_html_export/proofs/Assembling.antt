@@ -25,9 +25,8 @@ pub alone_faults : (limit : ℕ) (content : NodesView)
 unfolding items_too_deep
 alone_faults limit content = append-nil (outline_faults (document_outline content) no_items)
 
-styled_by : (o : Outline) (info : InfoView) (head : List NodeView) (content notes : NodesView)
-    → o ≡ document_outline content
-    → styled_root (output_by o info head content notes)
+styled_by : (o : Outline) (info : InfoView) (head : List NodeView) (content notes : NodesView) →
+    o ≡ document_outline content → styled_root (output_by o info head content notes)
     ≡ styled_output (output_by o info head content notes)
 unfolding styled_nodes
 styled_by (own_html place) info head content notes e =

@@ -1,6 +1,6 @@
 -- The first fault of a list is the first of a longer one, and of one after no fault. Of no fault at
 -- all none is the first.
-use Rattle.std.proofs.Common.{◌≡◌, ℕ, List, [], ◌∷◌, ◌++◌, map, refl, ap, sym, ◌∙◌, subst, Result, Ok, Err, IfErr}
+use Rattle.std.proofs.Common.{◌≡◌, ℕ, List, [], ◌++◌, map, refl, ap, sym, subst, Result, Ok, Err, IfErr}
 use Rattle.html_flow_faults.specs.{FlowFaults.{IsFirst}, declared.fault.FlowFault.{FlowFault}}
 use Rattle.html_flow_faults.specs.declared.fault.FlowFault.TheVariants as flow
 use Rattle.typst_html_encode.specs.{Conversions.{of_flow}, FaultViews.{ExportFaultView, too_deep, IsFirstView}}
@@ -29,14 +29,10 @@ first_past_none r fs gs none h = subst (λ xs. IfErr r (λ e. IsFirstView e (xs 
 pub none_after_none : (fs gs : List ExportFaultView) → fs ≡ [] → gs ≡ [] → fs ++ gs ≡ []
 none_after_none fs gs p q = rw (p, q) refl
 
-none_first : {A : Type 0} {f : A} {fs : List A} → fs ≡ [] → (rest : List A) × (fs ≡ f ∷ rest) → ⊥
-none_first {A} {f} none first =
-    let same : [] ≡ f ∷ first.0 = sym none ∙ first.1 in cc
-
 pub memory_alone : (e : ExportFault) (fs : List ExportFaultView) → fs ≡ [] → IsFirstView e fs
     → e ≡ fault.OutOfMemory
 memory_alone fault.OutOfMemory fs none h = refl
-memory_alone e fs none h = absurd (none_first none h)
+memory_alone e fs none h = let first = h.1 in cc
 
 pub fails_by_memory_alone : {A : Type 0} (r : Result A ExportFault) (fs : List ExportFaultView)
     → fs ≡ [] → IfErr r (λ e. IsFirstView e fs) → FailsByMemoryAlone r

@@ -12,17 +12,15 @@ use Rattle.typst_html_export.specs.LinkedRoots.{AnchorsKeepAtoms, LinksKeepAtoms
 
 module _ (P : NewAttribute → List ℕ → Type 0) (hrefs : Hrefs)
     (each : (location : ℕ) (href : List ℕ) → hrefs location ≡ Some href → P new_href href) where
-  head_linked : (href : Option (List ℕ)) (h : Head) (kids new ns ms : NodesView) →
+  head_linked : (href : Option (List ℕ)) {h : Head} {kids new ns ms : NodesView} →
       ((text : List ℕ) → href ≡ Some text → P new_href text) →
       Anchored P kids new → Anchored P ns ms →
       Anchored P (node (element_node h kids) ns)
       (node (element_node (record h { attrs = attrs_with_href href h.attrs }) new) ms)
-  head_linked None h kids new ns ms holds q r = at_element nothing q r
-  head_linked (Some href) h kids new ns ms holds q r =
-      at_element (given new_href href (holds href refl)) q r
+  head_linked None holds q r = at_element nothing q r
+  head_linked (Some href) holds q r = at_element (given new_href href (holds href refl)) q r
 
-  each_given : (dest : Option ℕ) (href : List ℕ) → href_of hrefs dest ≡ Some href →
-      P new_href href
+  each_given : (dest : Option ℕ) (href : List ℕ) → href_of hrefs dest ≡ Some href → P new_href href
   each_given None href is = cc
   each_given (Some location) href is = each location href is
 
@@ -35,10 +33,8 @@ module _ (P : NewAttribute → List ℕ → Type 0) (hrefs : Hrefs)
   links_are_anchored before (node (text_node s span) ns) =
       at_text (links_are_anchored (text_node s span ∷ before) ns)
   links_are_anchored before (node (element_node h kids) ns) =
-      let dest = open_dest h (dest_before before) in
-      head_linked (href_of hrefs dest) h kids (nodes_with_links hrefs [] kids) ns
-      (nodes_with_links hrefs (element_node h kids ∷ before) ns) (each_given dest)
-      (links_are_anchored [] kids) (links_are_anchored (element_node h kids ∷ before) ns)
+      head_linked _ (each_given (open_dest h (dest_before before))) (links_are_anchored [] kids)
+      (links_are_anchored (element_node h kids ∷ before) ns)
   links_are_anchored before (node (frame_node f) ns) =
       at_frame (links_are_anchored (frame_node f ∷ before) ns)
 
@@ -68,17 +64,12 @@ nodes_named : (hrefs : Hrefs) (before : List NodeView) (ns : NodesView) → Node
     NodesAreNamed (nodes_with_links hrefs before ns)
 unfolding node_with_links NodeIsNamed
 nodes_named hrefs before none named = tt
-nodes_named hrefs before (node (tag_node t) ns) named =
-    (tt, nodes_named hrefs (tag_node t ∷ before) ns named.1)
-nodes_named hrefs before (node (text_node s span) ns) named =
-    (tt, nodes_named hrefs (text_node s span ∷ before) ns named.1)
 nodes_named hrefs before (node (element_node h kids) ns) named =
     let href = href_of hrefs (open_dest h (dest_before before)) in (
       ((named.0.0.0, href_named href h.attrs named.0.0.1), nodes_named hrefs [] kids named.0.1),
       nodes_named hrefs (element_node h kids ∷ before) ns named.1,
     )
-nodes_named hrefs before (node (frame_node f) ns) named =
-    (tt, nodes_named hrefs (frame_node f ∷ before) ns named.1)
+nodes_named hrefs before (node n ns) named = (tt, nodes_named hrefs (n ∷ before) ns named.1)
 
 pub links_keep_names : LinksKeepNames
 unfolding NodeIsNamed

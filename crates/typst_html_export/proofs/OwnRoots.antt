@@ -15,9 +15,8 @@ has_place : (o : Outline) → is_root o ≡ true → (place : ℕ) × (o ≡ own
 has_place (own_html place) own = (place, refl)
 has_place o own = absurd (true≢false (sym own))
 
-own_output : (o : Outline) (info : InfoView) (head : List NodeView) (content notes : NodesView)
-    → is_root o ≡ true
-    → output_by o info head content notes ≡ output_by o no_info [] content notes
+own_output : (o : Outline) (info : InfoView) (head : List NodeView) (content notes : NodesView) →
+    is_root o ≡ true → output_by o info head content notes ≡ output_by o no_info [] content notes
 own_output o info head content notes own = rw (has_place o own).1 refl
 
 pub own_roots_have_no_nodes : OwnRootsHaveNoNodes

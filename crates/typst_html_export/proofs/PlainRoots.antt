@@ -27,13 +27,9 @@ no_own (node (element_node h kids) ns) r =
 no_own (node x ns) r = rw (no_own ns r.1) refl
 
 module _ (items : ItemsView) (e : is_plain_flow items ≡ true) where
-  made_plain : ArePlainNodes (document_nodes items)
-  made_plain = (makes_plain_nodes None items e).0
-
   pub plain_outline : document_outline (document_nodes items) ≡ nothing_own
-  plain_outline =
-      let ns = document_nodes items in
-      ap (outline_by (shown_count ns)) (no_own ns made_plain)
+  plain_outline = ap (outline_by (shown_count (document_nodes items)))
+      (no_own _ (makes_plain_nodes None items e).0)
 
 pub plain_documents_are_made : PlainDocumentsAreMade
 unfolding item_too_deep
@@ -123,7 +119,5 @@ module _ (info : InfoView) (head : List NodeView) (items : ItemsView)
       let d : DocumentView = assembled_document_with_head info head items no_items in
       let x : Targets = document_targets d.introspector.is_link_target d in (
         x,
-        with_new_root (output_around info head (document_nodes items) no_items)
-            (root_over info (entries_with info head) (document_nodes items))
-            (output_is info head items e) (λ root. element_with_anchors x root),
+        with_new_root _ _ (output_is info head items e) (λ root. element_with_anchors x root),
       )

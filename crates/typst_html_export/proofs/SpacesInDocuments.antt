@@ -9,7 +9,7 @@ use Rattle.typst_html_encode.proofs.ReadingBack.{reads_back}
 use Rattle.typst_html_encode.specs.{FrameWriters.{Frames}, Indented.{NodeEndsWell}, IndentsCollapse.{NodesAreEdged}}
 use Rattle.typst_html_encode.specs.{ReadingBack.{ElementIsNamed}, Text.{document_text}}
 use Rattle.html_dom_document.specs.Documents.{InfoView, DocumentView, document_root}
-use Rattle.html_anchors.specs.{Anchors.{element_with_anchors}, Links.{Hrefs, nodes_with_links, root_with_links}}
+use Rattle.html_anchors.specs.{Anchors.{element_with_anchors}, Links.{Hrefs, root_with_links}}
 use Rattle.html_flow_convert.specs.Items.{ItemsView, no_items}
 use Rattle.typst_html_spaces.proofs.{Anchored.{anchors_are_unseen, anchors_keep_edges}, DeepNodes.{of_both}}
 use Rattle.typst_html_spaces.proofs.PlainNodes.{makes_plain_nodes, plain_readable}
@@ -32,18 +32,18 @@ record ShowsItems (root : ElementView) (items : ItemsView) : Type 0 where
   edged : NodesAreEdged body
   seen : seen_plains (nodes_normal body) ≡ items_text items
 
-shown : (root : ElementView) (items : ItemsView) → ShowsItems root items → IsShownAs root items
-shown root items shows = record {
+shown : {root : ElementView} {items : ItemsView} → ShowsItems root items → IsShownAs root items
+shown {root} shows = record {
   plain = plain_tree_seen root shows.body shows.body_is ∙ ap Some shows.seen;
   pretty = pretty_tree_seen root shows.body shows.body_is shows.not_raw shows.edged
       ∙ ap Some shows.seen;
 }
 
 -- so is a root with anchors, or with the `href` of its links
-still_shown : (h : Head) (ns ms : NodesView) (items : ItemsView) → Anchored IsAny ns ms →
+still_shown : {h : Head} {ns ms : NodesView} {items : ItemsView} → Anchored IsAny ns ms →
     ShowsItems (h, ns) items → ShowsItems (h, ms) items
-still_shown h ns ms items a shows =
-    let new = anchors_keep_body ns ms shows.body a shows.body_is in
+still_shown a shows =
+    let new = anchors_keep_body _ _ shows.body a shows.body_is in
     record {
       not_raw = shows.not_raw;
       body = new.0;
@@ -58,58 +58,53 @@ record ReadsAsItems (root : ElementView) (items : ItemsView) : Type 0 where
   readable : AreReadable root.1
   shows : ShowsItems root items
 
-read_as : (root : ElementView) (items : ItemsView) → ReadsAsItems root items → IsReadAs root items
+read_as : {root : ElementView} {items : ItemsView} → ReadsAsItems root items → IsReadAs root items
 unfolding NodeEndsWell
-read_as root items reads =
+read_as {root} reads =
     let both = readable_can_be_read root.1 reads.readable in
     record {
       frame_free = both.0;
-      ends_well = (λ r. absurd (both_ways (is_raw root.0.name) reads.shows.not_raw r), both.1 _);
-      shown = shown root items reads.shows;
+      ends_well = (λ r. absurd (both_ways _ reads.shows.not_raw r), both.1 _);
+      shown = shown reads.shows;
     }
 
-still_read : (h : Head) (ns ms : NodesView) (items : ItemsView) → Anchored IsAny ns ms →
+still_read : {h : Head} {ns ms : NodesView} {items : ItemsView} → Anchored IsAny ns ms →
     ReadsAsItems (h, ns) items → ReadsAsItems (h, ms) items
-still_read h ns ms items a reads = record {
-  readable = anchors_keep_readable ns ms a reads.readable;
-  shows = still_shown h ns ms items a reads.shows;
+still_read a reads = record {
+  readable = anchors_keep_readable _ _ a reads.readable;
+  shows = still_shown a reads.shows;
 }
 
 -- a root that is made of items in plain flow, with any nodes in its head
 
 made_shown : (info : InfoView) (entries : List NodeView) (items : ItemsView) →
     is_plain_flow items ≡ true → ShowsItems (root_over info entries (document_nodes items)) items
-made_shown info entries items e =
-    let ns : NodesView = document_nodes items in
-    record {
-      not_raw = made_not_raw.0;
-      body = styled_nodes ns;
-      body_is = body_is info entries ns;
-      edged = (makes_plain_nodes None items e).1;
-      seen = spaces_stay None items e;
-    }
+made_shown info entries items e = record {
+  not_raw = made_not_raw.0;
+  body = styled_nodes (document_nodes items);
+  body_is = body_is info entries (document_nodes items);
+  edged = (makes_plain_nodes None items e).1;
+  seen = spaces_stay None items e;
+}
 
 made_read : (info : InfoView) (head : List NodeView) (items : ItemsView) →
     AreReadable (nodes_of head) → is_plain_flow items ≡ true →
     ReadsAsItems (root_over info (entries_with info head) (document_nodes items)) items
-made_read info head items own e =
-    let ns : NodesView = document_nodes items in
-    record {
-      readable = root_readable info (entries_with info head) ns
-          (of_both _ false (entry_nodes info) head (entries_readable info) own)
-          (plain_readable ns (makes_plain_nodes None items e).0);
-      shows = made_shown info (entries_with info head) items e;
-    }
+made_read info head items own e = record {
+  readable = root_readable info _ _
+      (of_both _ false (entry_nodes info) head (entries_readable info) own)
+      (plain_readable _ (makes_plain_nodes None items e).0);
+  shows = made_shown info _ items e;
+}
 
 linked_shown : (info : InfoView) (head : List NodeView) (items : ItemsView) →
     is_plain_flow items ≡ true → ShowsItems (linked_root_with_head info head items no_items) items
 unfolding element_with_anchors
 linked_shown info head items e =
     let is = linked_root_is info head items e in
-    let old : ElementView = root_over info (entries_with info head) (document_nodes items) in
+    let old = root_over info (entries_with info head) (document_nodes items) in
     subst (λ r. ShowsItems r items) (sym is.1)
-    (still_shown old.0 old.1 (element_with_anchors is.0 old).1 items (root_anchored is.0 old)
-    (made_shown info (entries_with info head) items e))
+    (still_shown (root_anchored is.0 old) (made_shown info _ items e))
 
 linked_read : (info : InfoView) (head : List NodeView) (items : ItemsView) →
     AreReadable (nodes_of head) → is_plain_flow items ≡ true →
@@ -117,53 +112,44 @@ linked_read : (info : InfoView) (head : List NodeView) (items : ItemsView) →
 unfolding element_with_anchors
 linked_read info head items own e =
     let is = linked_root_is info head items e in
-    let old : ElementView = root_over info (entries_with info head) (document_nodes items) in
+    let old = root_over info (entries_with info head) (document_nodes items) in
     subst (λ r. ReadsAsItems r items) (sym is.1)
-    (still_read old.0 old.1 (element_with_anchors is.0 old).1 items (root_anchored is.0 old)
-    (made_read info head items own e))
+    (still_read (root_anchored is.0 old) (made_read info head items own e))
 
 -- without such nodes
 
 pub plain_documents_are_read : PlainDocumentsAreRead
-plain_documents_are_read info items e =
-    read_as (linked_root info items no_items) items (linked_read info [] items tt e)
+plain_documents_are_read info items e = read_as (linked_read info [] items tt e)
 
 pub plain_linked_documents_are_read : PlainLinkedDocumentsAreRead
 plain_linked_documents_are_read info items e hrefs =
-    let old : ElementView = linked_root info items no_items in
-    read_as (root_with_links hrefs old) items
-    (still_read old.0 old.1 (nodes_with_links hrefs [] old.1) items (nodes_linked hrefs old.1)
-    (linked_read info [] items tt e))
+    read_as (still_read (nodes_linked hrefs _) (linked_read info [] items tt e))
 
 -- so in the text of such a root exactly the items' text is seen
 
-text_is_seen : (frames : Frames) (root : ElementView) (items : ItemsView) → IsReadAs root items →
+text_is_seen : (frames : Frames) {root : ElementView} {items : ItemsView} → IsReadAs root items →
     ElementIsNamed root → (pretty : Bool) →
     writing.document_faults frames (record { pretty = pretty }) root ≡ [] →
     seen_text (document_text frames (record { pretty = pretty }) root) ≡ Some (items_text items)
-text_is_seen frames root items is named false clean =
-    ap seen_tree ((reads_back frames).0 root named is.frame_free clean) ∙ is.shown.plain
-text_is_seen frames root items is named true clean =
-    ap seen_tree ((reads_back frames).1 root named is.frame_free is.ends_well clean) ∙ is.shown.pretty
+text_is_seen frames is named false clean =
+    ap seen_tree ((reads_back frames).0 _ named is.frame_free clean) ∙ is.shown.plain
+text_is_seen frames is named true clean =
+    ap seen_tree ((reads_back frames).1 _ named is.frame_free is.ends_well clean) ∙ is.shown.pretty
 
 pub plain_documents_are_seen : PlainDocumentsAreSeen
 plain_documents_are_seen info items e frames options named clean =
-    text_is_seen frames (linked_root info items no_items) items
-    (plain_documents_are_read info items e) named options.pretty clean
+    text_is_seen frames (plain_documents_are_read info items e) named _ clean
 
 pub plain_linked_documents_are_seen : PlainLinkedDocumentsAreSeen
 plain_linked_documents_are_seen info items e hrefs frames options named clean =
-    text_is_seen frames (root_with_links hrefs (linked_root info items no_items)) items
-    (plain_linked_documents_are_read info items e hrefs) named options.pretty clean
+    text_is_seen frames (plain_linked_documents_are_read info items e hrefs) named _ clean
 
 pub spaces_are_left_without_anchors : (info : InfoView) (items notes : ItemsView)
     (d : DocumentView) → d ≡ assembled_document info items notes → SpacesAreLeft d items notes
 spaces_are_left_without_anchors info items notes d is e alone =
-    let root = root_over info (entries_with info []) (document_nodes items) in
-    let top : document_root d ≡ root =
-    ap document_root (is ∙ ap (assembled_document info items) alone)
-    ∙ assembled_root_is info [] items e in
-    subst (λ r. IsReadAs r items) (sym top) (read_as root items (made_read info [] items tt e))
+    subst (λ r. IsReadAs r items)
+    (sym (ap document_root (is ∙ ap (assembled_document info items) alone)
+    ∙ assembled_root_is info [] items e)) (read_as (made_read info [] items tt e))
 
 -- with nodes in the head
 module _ (info : InfoView) (head : List NodeView) (items notes : ItemsView) (d : DocumentView)
@@ -173,14 +159,12 @@ module _ (info : InfoView) (head : List NodeView) (items notes : ItemsView) (d :
       sym (ap document_root is ∙ ap (λ n. linked_root_with_head info head items n) alone)
 
   pub spaces_are_left_with_head : AreReadable (nodes_of head) → SpacesAreLeft d items notes
-  spaces_are_left_with_head own e alone = subst (λ r. IsReadAs r items) (root_is alone)
-      (read_as (linked_root_with_head info head items no_items) items
-      (linked_read info head items own e))
+  spaces_are_left_with_head own e alone =
+      subst (λ r. IsReadAs r items) (root_is alone) (read_as (linked_read info head items own e))
 
   pub spaces_are_shown : SpacesAreShown d items notes
-  spaces_are_shown e alone = subst (λ r. IsShownAs r items) (root_is alone)
-      (shown (linked_root_with_head info head items no_items) items
-      (linked_shown info head items e))
+  spaces_are_shown e alone =
+      subst (λ r. IsShownAs r items) (root_is alone) (shown (linked_shown info head items e))
 
 pub spaces_are_left_with_links : (info : InfoView) (items notes : ItemsView) (hrefs : Hrefs)
     (d : DocumentView) → document_root d ≡ root_with_links hrefs (linked_root info items notes) →

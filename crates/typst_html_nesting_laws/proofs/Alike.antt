@@ -1,22 +1,21 @@
 -- What is known of ancestors is known of the open elements that they are.
-use Rattle.std.proofs.Common.{◌≡◌, ℕ, suc, Bool, true, false, not, ◌&&◌, ◌||◌, List, [], ◌∷◌, length, refl, sym, ap, ◌∙◌, Some}
-use Rattle.std.proofs.{Math.Bool.{or-false}, lemmas.Bool.{false≢true}, lemmas.Option.{none-some}}
-use Rattle.std.specs.{List.{list_any}, Prelude.{if◌then◌else◌}}
+use Rattle.std.proofs.Common.{◌≡◌, ℕ, suc, Bool, true, false, not, ◌&&◌, ◌||◌, List, [], ◌∷◌, length, refl, sym, ap, ◌∙◌, Some, arith}
+use Rattle.std.{proofs.{Math.Bool.{or-false}, lemmas.{Bool.{false≢true}, Option.{none-some}}}, specs.List.{list_any}}
+use Rattle.std.specs.Prelude.{if◌then◌else◌}
 use Rattle.html_dom_tree.specs.Tree.{Head}
+use Rattle.html_page_nesting.specs.Ancestors.{Ancestor, bounds_scope, bounds_button_scope, foreign_space, hides_formatting, is_in, is_point, is_read_as_html, place_of, reading_in, reading_of, space_of}
+use Rattle.html_page_nesting.specs.declared.reading.Space.{Space, TheVariants.{Html, Svg, MathMl}}
 use Rattle.html_page_nesting.specs.Ancestors as nest
-use Rattle.html_page_nesting.specs.Ancestors.{Ancestor, begun_space, bounds_scope, bounds_button_scope, foreign_space, hides_formatting, is_in, is_point, is_read_as_html, is_template, place_in, place_inside, place_of, reading_in, reading_of, space_of}
 use Rattle.html_page_nesting.specs.declared.reading.Place.TheVariants as place
 use Rattle.html_page_nesting.specs.declared.reading.Reading.TheVariants as reading
-use Rattle.html_page_nesting.specs.declared.reading.{Space.{Space}, Space.TheVariants.{Html, Svg, MathMl}}
 use Rattle.html_page_names.specs.PageNames.{of}
 use Rattle.html_page_names.specs.declared.kind.Kind.TheVariants as kind
+use Rattle.html_page_stack.specs.{Pages.{StartTag, Start}, declared.modes.{Mode.{Mode}, Scope.TheVariants.{General, Button}}}
+use Rattle.html_page_stack.specs.OpenElements.{OpenElement, at, bounds, bounds_general, current_space, in_scope, is_active, is_at, is_foreign_bound, has_item, mode, named_mode}
 use Rattle.html_page_stack.specs.OpenElements as open_elements
-use Rattle.html_page_stack.specs.OpenElements.{OpenElement, at, bounds, bounds_general, current_space, in_scope, is_active, is_at, is_foreign_bound, has, has_item, mode, named_mode}
-use Rattle.html_page_stack.specs.{Pages.{StartTag, Start}, declared.modes.Mode.{Mode}}
 use Rattle.html_page_stack.specs.declared.modes.Space.TheVariants as spaces
-use Rattle.html_page_stack.specs.declared.modes.Scope.TheVariants.{General, Button}
 use Rattle.html_page_tree.specs.PageTrees.{holds_html_in, holds_svg_in, holds_text_in, is_foreign_token, says_html}
-use Rattle.typst_html_nesting_laws.proofs.{KindFacts.{fails_of, names}, Modes.{mode_in, place_mode}}
+use Rattle.typst_html_nesting_laws.proofs.{KindFacts.{fails_of, names}, Modes.{mode_in, place_mode}, Branches.{decide}}
 use Rattle.typst_html_nesting_laws.proofs.Ways.{AreAlike, HaveNoTemplate, IsAlike, open_space}
 
 pub html_is : (s : Space) → open_elements.is_html (open_space s) ≡ nest.is_html s
@@ -39,7 +38,7 @@ space_html a o s = ap open_elements.is_html s.space ∙ html_is a.space
 
 pub of_is : (test : List ℕ → Bool) (a : Ancestor) (o : OpenElement) → IsAlike a o →
     open_elements.is_of test o ≡ nest.is_of test a
-of_is test a o s = rw (space_html a o s, s.name) refl
+of_is test a o s = rw (space_html _ _ s, s.name) refl
 
 pub point_is : (a : Ancestor) (o : OpenElement) → IsAlike a o →
     is_foreign_bound o.space o.head.name ≡ is_point a.space a.head.name
@@ -82,17 +81,12 @@ reaches_is goal bound open_goal open_bound g b above os s = absurd s
 -- the reader's search with fewer goals and more bounds finds nothing where the other does not
 fewer : (g g' b b' r r' : Bool) → (g' ≡ true → g ≡ true) → (b ≡ true → b' ≡ true) →
     (r ≡ false → r' ≡ false) → (g || (not b && r)) ≡ false → (g' || (not b' && r')) ≡ false
-fewer true g' b b' r r' goal bound rest h = absurd (false≢true (sym h))
-fewer false true b b' r r' goal bound rest h = absurd (false≢true (goal refl))
-fewer false false b true r r' goal bound rest h = refl
-fewer false false true false r r' goal bound rest h = absurd (false≢true (bound refl))
-fewer false false false false r r' goal bound rest h = rest h
+fewer g g' b b' r r' goal bound rest h = grind arith
 
 pub unreached : (goal bound : Ancestor → Bool) (open_goal open_bound : OpenElement → Bool) →
     ((a : Ancestor) (o : OpenElement) → IsAlike a o → of kind.Template a.head.name ≡ false →
-    open_goal o ≡ true → goal a ≡ true) →
-    ((a : Ancestor) (o : OpenElement) → IsAlike a o → of kind.Template a.head.name ≡ false →
-    bound a ≡ true → open_bound o ≡ true) →
+    open_goal o ≡ true → goal a ≡ true) → ((a : Ancestor) (o : OpenElement) →
+    IsAlike a o → of kind.Template a.head.name ≡ false → bound a ≡ true → open_bound o ≡ true) →
     (above : List Ancestor) (os : List OpenElement) → AreAlike above os → HaveNoTemplate above →
     nest.reaches goal bound above ≡ false → open_elements.reaches open_goal open_bound os ≡ false
 unreached goal bound open_goal open_bound g b [] [] s plain h = refl
@@ -103,8 +97,7 @@ unreached goal bound open_goal open_bound g b (a ∷ above) (o ∷ os) s plain h
 unreached goal bound open_goal open_bound g b above os s plain h = absurd s
 
 pub in_scope_is : (test : List ℕ → Bool) (above : List Ancestor) (os : List OpenElement) →
-    AreAlike above os →
-    in_scope General test os ≡ nest.reaches (nest.is_of test) bounds_scope above
+    AreAlike above os → in_scope General test os ≡ nest.reaches (nest.is_of test) bounds_scope above
 in_scope_is test above os s = reaches_is (nest.is_of test) bounds_scope (open_elements.is_of test)
     (bounds General) (of_is test) scope_is above os s
 
@@ -123,13 +116,10 @@ none_active test above os s plain h = unreached (nest.is_of test) hides_formatti
     (λ a o t k e. sym (of_is test a o t) ∙ e) marks_it above os s plain h where
       marked : (html marker template : Bool) → template ≡ false →
           (html && (marker || template)) ≡ true → (html && marker) ≡ true
-      marked true true template k e = refl
-      marked true false template k e = absurd (false≢true (sym k ∙ e))
-      marked false marker template k e = absurd (false≢true e)
+      marked html marker template k e = grind arith
 
-      marks_it : (a : Ancestor) (o : OpenElement) → IsAlike a o →
-          of kind.Template a.head.name ≡ false → hides_formatting a ≡ true →
-          open_elements.is_of (of kind.Marker) o ≡ true
+      marks_it : (a : Ancestor) (o : OpenElement) → IsAlike a o → of kind.Template a.head.name
+          ≡ false → hides_formatting a ≡ true → open_elements.is_of (of kind.Marker) o ≡ true
       marks_it a o t k e = of_is (of kind.Marker) a o t ∙ marked (nest.is_html a.space)
           (of kind.Marker a.head.name) (of kind.Template a.head.name) k e
 
@@ -148,12 +138,10 @@ none_item test above os s plain h = unreached (nest.is_of test) nest.bounds_item
       bounds_it Html true false search name e = refl
       bounds_it Html false passed search name e = absurd (false≢true e)
       bounds_it Html true true search name e = absurd (false≢true e)
-      bounds_it Svg special passed search name e = ap (λ b. b && true) e
-      bounds_it MathMl special passed search name e = ap (λ b. b && true) e
+      bounds_it sp special passed search name e = ap (λ b. b && true) e
 
-      bounded : (a : Ancestor) (o : OpenElement) → IsAlike a o →
-          of kind.Template a.head.name ≡ false → nest.bounds_item a ≡ true →
-          open_elements.bounds_item o ≡ true
+      bounded : (a : Ancestor) (o : OpenElement) → IsAlike a o → of kind.Template a.head.name
+          ≡ false → nest.bounds_item a ≡ true → open_elements.bounds_item o ≡ true
       bounded a o t k e =
           let special = of_is (of kind.Special) a o t in
           let point = point_is a o t in
@@ -224,39 +212,29 @@ foreign_in MathMl h name e = math_space (of kind.MathText h.name) (of kind.Annot
     (list_any nest.says_html h.attrs)
 
 -- it is that of the current element
-pub space_is : (name : List ℕ) (above : List Ancestor) (os : List OpenElement) →
-    AreAlike above os → is_read_as_html (reading_of above) name ≡ false →
+pub space_is : (name : List ℕ) (above : List Ancestor) (os : List OpenElement) → AreAlike above os →
+    is_read_as_html (reading_of above) name ≡ false →
     current_space os ≡ open_space (space_of (reading_of above) name)
 space_is name [] os s h = absurd (false≢true (sym h))
 space_is name (a ∷ above) (o ∷ os) s h =
-    s.0.space ∙ (ap open_space (foreign_in a.space a.head name h)
-    ∙ ap (λ b. open_space
-    (if b then begun_space name else foreign_space (reading_in a.space a.head))) (sym h))
+    rw (s.0.space, h) (ap open_space (foreign_in a.space a.head name h))
 space_is name (a ∷ above) [] s h = absurd s
 
 -- the mode of a place
 
-html_in : (m : Mode) (s : Space) (b : Bool) (n : List ℕ) → mode_in (place_inside b s n) ≡ Some m →
-    nest.is_html s ≡ true
-html_in m Html b n h = refl
-html_in m s b n h = absurd (none-some m h)
-
 -- there the current element is one of HTML
 pub placed_html : (m : Mode) (a : Ancestor) (above : List Ancestor) →
     mode_in (place_of (a ∷ above)) ≡ Some m → nest.is_html a.space ≡ true
-placed_html m a above h = html_in m a.space (is_in (of kind.Head) above) a.head.name h
+placed_html m a above h = decide (nest.is_html a.space) (λ e. e)
+    (λ e. absurd (none-some m (rw e at h)))
 
 pub mode_is : (m : Mode) (above : List Ancestor) (os : List OpenElement) → AreAlike above os →
     mode_in (place_of above) ≡ Some m → mode os ≡ m
 mode_is m [] os s h = absurd (none-some m h)
 mode_is m (a ∷ above) (o ∷ os) s h =
     let html = placed_html m a above h in
-    let in_html : open_elements.is_html o.space ≡ true = space_html a o s.0 ∙ html in
-    let there =
-    ap (λ b. mode_in (place_in b a.head.name)) (at_is (of kind.Head) above os s.1)
-    ∙ (ap (λ b. mode_in (if b then place_in (is_in (of kind.Head) above) a.head.name
-    else place.Body)) (sym html) ∙ h) in
-    let named : named_mode o.head.name os ≡ Some m =
-    ap (λ n. named_mode n os) s.0.name ∙ place_mode a.head.name os m there in
+    let in_html : open_elements.is_html o.space ≡ true = space_html _ _ s.0 ∙ html in
+    let named : named_mode o.head.name os ≡ Some m = rw s.0.name (place_mode a.head.name os m
+    (rw (at_is (of kind.Head) above os s.1) (rw html at h))) in
     rw (in_html, named) refl
 mode_is m (a ∷ above) [] s h = absurd s

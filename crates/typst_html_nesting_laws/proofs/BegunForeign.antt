@@ -1,18 +1,17 @@
 -- The start tag of an element that stays in SVG or MathML opens it, and does nothing else.
-use Rattle.std.proofs.{Common.{◌≡◌, ◌<◌, false, ◌&&◌, ◌||◌, List, length, inl, inr, refl, sym, ap, ◌∙◌}, Math.Bool.{or-false}}
-use Rattle.std.{proofs.lemmas.Bool.{and_cases, and_left, and_right, or_from, or_parts}, specs.List.{list_any}}
+use Rattle.std.proofs.{Common.{◌≡◌, ◌<◌, false, ◌||◌, List, length, inl, inr, refl, sym, ap, ◌∙◌}, Math.Bool.{or-false}}
+use Rattle.std.proofs.lemmas.Bool.{and_cases, and_left, and_right, or_from, or_parts}
 use Rattle.html_names_core.specs.Kinds.{is_foreign_self_closing}
 use Rattle.html_dom_tree.specs.Tree.{Head, NodesView}
-use Rattle.html_page_nesting.specs.Ancestors.{Ancestor, is_read_as_html, reading_of, space_of}
+use Rattle.html_page_nesting.specs.{Ancestors.{Ancestor, is_read_as_html, reading_of, space_of}, WrittenTags.{capital_attrs, capital_tags}}
+use Rattle.html_page_nesting.specs.declared.reading.Space.{Space, TheVariants.{Html}}
 use Rattle.html_page_nesting.specs.NestingRules as rules
-use Rattle.html_page_nesting.specs.{WrittenTags.{capital_attrs, capital_tags}, declared.reading.Space.{Space}}
-use Rattle.html_page_nesting.specs.declared.reading.Space.TheVariants.{Html}
 use Rattle.html_page_names.specs.{ForeignNames.{is_font_attr, lowered}, PageNames.{of}}
 use Rattle.html_page_names.specs.declared.kind.Kind.TheVariants as kind
 use Rattle.html_page_stack.specs.Pages.{Page, Start, taken}
 use Rattle.html_page_tree.specs.{PageBodies.{entered}, PageTrees.{breaks_out, in_foreign}}
 use Rattle.typst_html_nesting_laws.proofs.{Alike.{space_is}, Branches.{skip}, Capitals.{attrs_fail, fails_small}, KeptTags.{entered_back}}
-use Rattle.typst_html_nesting_laws.proofs.{KindFacts.{AllFail, names}, Opened.{one_of}, Readers.{lowered_attrs, written_tag}}
+use Rattle.typst_html_nesting_laws.proofs.{KindFacts.{AllFail, names}, Opened.{one_of}, Readers.{written_tag}}
 use Rattle.typst_html_nesting_laws.proofs.{Rules.{StaysForeign, TagFits}, Ways.{IsCalm, begun, ends_at_once}}
 
 -- no name with capitals is in small letters one that closes SVG and MathML
@@ -26,16 +25,12 @@ capitals_stay s = (refl, refl, refl)
 stays_inside : (s : Space) (h : Head) → TagFits s h → rules.breaks_out h ≡ false →
     breaks_out (written_tag h) ≡ false
 stays_inside s h kept e =
-    let font = list_any (λ a. is_font_attr a.0) h.attrs in
-    let small_font = list_any (λ a. is_font_attr a.0) (lowered_attrs h.attrs) in
-    let both = or_parts (of kind.Breakout h.name) (of kind.Font h.name && font) e in
+    let both = or_parts _ _ e in
     let stay = capitals_stay s in
-    or_from (of kind.Breakout (lowered h.name)) (of kind.Font (lowered h.name) && small_font)
-    (fails_small (of kind.Breakout) (capital_tags s) h.name kept.case stay.0 both.0)
-    (elim (and_cases (of kind.Font h.name) font both.1) [
-      | inl f ↦ and_left (of kind.Font (lowered h.name)) small_font
-          (fails_small (of kind.Font) (capital_tags s) h.name kept.case stay.1 f)
-      | inr f ↦ and_right (of kind.Font (lowered h.name)) small_font
+    or_from _ _ (fails_small (of kind.Breakout) (capital_tags s) h.name kept.case stay.0 both.0)
+    (elim (and_cases _ _ both.1) [
+      | inl f ↦ and_left _ _ (fails_small (of kind.Font) (capital_tags s) h.name kept.case stay.1 f)
+      | inr f ↦ and_right _ _
           (attrs_fail (capital_attrs s) is_font_attr h.attrs kept.attrs stay.2 f)
     ])
 
@@ -46,8 +41,7 @@ pub foreign_taken : (above : List Ancestor) (h : Head) (kids : NodesView) (p : P
 foreign_taken above h kids p calm kept fits foreign stays =
     let s = space_of (reading_of above) h.name in
     let own = is_foreign_self_closing h.name in
-    skip (breaks_out (written_tag h)) _ _ (taken (one_of (ends_at_once h) (begun h above p)))
-    (stays_inside s h kept stays.inside)
+    skip _ (stays_inside s h kept stays.inside)
     (ap (λ x. taken (entered x (written_tag h) p))
     (space_is h.name above p.stack calm.alike foreign)
     ∙ (ap taken (entered_back h p fits s kept)

@@ -1,6 +1,6 @@
 -- The start tag of an element that stays in a head or in a table opens it, and does nothing else.
-use Rattle.std.proofs.Common.{◌≡◌, ℕ, Bool, true, false, not, ◌&&◌, ◌||◌, List, inl, inr, map, refl, sym, ap, ◌∙◌}
-use Rattle.std.{proofs.lemmas.Bool.{and_parts, not-true, or_cases}, specs.Prelude.{Option, Some, None}}
+use Rattle.std.proofs.{Common.{◌≡◌, ℕ, Bool, true, false, not, ◌&&◌, List, map, refl, sym, ap, ◌∙◌}, lemmas.Bool.{and_parts, not-true}}
+use Rattle.std.specs.Prelude.{Option, Some, None}
 use Rattle.html_names_core.specs.Kinds.{is_void}
 use Rattle.html_page_nesting.specs.{Contents.{has_unread_end}, NestingRules.{has_place, is_in_tables}, declared.reading.Place.{Place}}
 use Rattle.html_page_nesting.specs.declared.reading.Place.TheVariants as place
@@ -9,7 +9,7 @@ use Rattle.html_page_names.specs.declared.kind.Kind.TheVariants as kind
 use Rattle.html_page_stack.specs.{Pages.{Page, Reads, Start, StartTag, Turn, opened, taken}, declared.modes.Mode.{Mode}}
 use Rattle.html_page_stack.specs.declared.modes.Mode.TheVariants.{InHead, InHeadNoscript, InTable, InColumns, InSection, InRow}
 use Rattle.html_page_tree.specs.{PageBodies.{head_element, leaf}, PageTrees.{by_mode}}
-use Rattle.typst_html_nesting_laws.proofs.{Branches.{first_true}, KindFacts.{AllPass, agree_of, names, passes_of}, Modes.{mode_in}}
+use Rattle.typst_html_nesting_laws.proofs.{Branches.{first_true, of_two}, KindFacts.{AllPass, agree_of, names, passes_of}, Modes.{mode_in}}
 use Rattle.typst_html_nesting_laws.proofs.Opened.{Opens, head_begun, leaf_begun, one_of}
 
 -- neither `svg` nor `math`
@@ -38,15 +38,14 @@ module _ (tag : StartTag) (p q : Page) (ops : Opens tag p q)
       by_mode m (Start tag) p ≡ result
   part m k same whole h =
       let test = λ (l : List ℕ). not (is_void l) && is_html_name l in
-      let a = and_parts (not (is_void n)) (is_html_name n) (passes_of test k n whole h) in
-      let b = and_parts (not (of kind.Svg n)) (not (of kind.Math n)) a.1 in
+      let a = and_parts _ _ (passes_of test k n whole h) in
+      let b = and_parts _ _ a.1 in
       agree_of (read_in m) (λ l. taken (opened l tag.attrs p)) k n same h
-      ∙ ap taken (ops.plain (not-true (of kind.Svg n) b.0) (not-true (of kind.Math n) b.1)
-      ∙ ap (λ v. one_of v q) (sym (not-true (is_void n) a.0)))
+      ∙ ap taken (ops.plain (not-true _ b.0) (not-true _ b.1)
+      ∙ ap (λ v. one_of v q) (sym (not-true _ a.0)))
 
   -- or as elements of a head
-  content : (m : Mode) (k : Kind) →
-      map (read_in m) (kind_names k)
+  content : (m : Mode) (k : Kind) → map (read_in m) (kind_names k)
       ≡ map (λ l. taken (head_element (with_name l) p)) (kind_names k) →
       AllPass (of kind.HeadContent) (kind_names k) → of k n ≡ true →
       by_mode m (Start tag) p ≡ result
@@ -55,18 +54,15 @@ module _ (tag : StartTag) (p q : Page) (ops : Opens tag p q)
       ∙ ap taken (head_begun tag p q ops (passes_of (of kind.HeadContent) k n head h) ends)
 
   script : is_in_tables n ≡ true → of kind.ScriptOrStyle n ≡ true
-  script h = first_true (of kind.ScriptOrStyle n) (of kind.Template n) h plain
+  script h = first_true h plain
 
   column : of kind.Col n ≡ true → by_mode InColumns (Start tag) p ≡ result
   column h =
       let test = λ (l : List ℕ). is_void l && is_html_name l in
-      let a = and_parts (is_void n) (is_html_name n)
-      (passes_of test kind.Col n (unfold names in refl) h) in
-      let b = and_parts (not (of kind.Svg n)) (not (of kind.Math n)) a.1 in
+      let a = and_parts _ _ (passes_of test kind.Col n (unfold names in refl) h) in
+      let b = and_parts _ _ a.1 in
       agree_of (read_in InColumns) (λ l. taken (leaf (with_name l) p)) kind.Col n
-      (unfold names in refl) h
-      ∙ ap taken
-      (leaf_begun tag p q ops (not-true (of kind.Svg n) b.0) (not-true (of kind.Math n) b.1)
+      (unfold names in refl) h ∙ ap taken (leaf_begun tag p q ops (not-true _ b.0) (not-true _ b.1)
       ∙ ap (λ v. one_of v q) (sym a.0))
 
   -- by the rules of the mode of that place, if it is one
@@ -77,32 +73,16 @@ module _ (tag : StartTag) (p q : Page) (ops : Opens tag p q)
   pub place_taken : (l : Place) → has_place l n ≡ true → TakenIn (mode_in l)
   unfolding names
   place_taken place.Page h = tt
-  place_taken place.Head h =
-      elim (or_cases (of kind.HeadContent n) (of kind.Noscript n)
-      (first_true (of kind.HeadContent n || of kind.Noscript n) (of kind.Template n) h plain)) [
-        | inl e ↦ content InHead kind.HeadContent refl refl e
-        | inr e ↦ part InHead kind.Noscript refl refl e
-      ]
+  place_taken place.Head h = of_two (first_true h plain) (content InHead kind.HeadContent refl refl)
+      (part InHead kind.Noscript refl refl)
   place_taken place.HeadNoscript h = content InHeadNoscript kind.NoscriptContent refl refl h
   place_taken place.Table h =
-      elim (or_cases (of kind.Caption n || of kind.Colgroup n || of kind.Section n)
-      (is_in_tables n) h) [
-        | inl c ↦ elim (or_cases (of kind.Caption n || of kind.Colgroup n) (of kind.Section n) c) [
-          | inl d ↦ elim (or_cases (of kind.Caption n) (of kind.Colgroup n) d) [
-            | inl e ↦ part InTable kind.Caption refl refl e
-            | inr e ↦ part InTable kind.Colgroup refl refl e
-          ]
-          | inr e ↦ part InTable kind.Section refl refl e
-        ]
-        | inr e ↦ content InTable kind.ScriptOrStyle refl refl (script e)
-      ]
-  place_taken place.Section h = elim (or_cases (of kind.Tr n) (is_in_tables n) h) [
-    | inl e ↦ part InSection kind.Tr refl refl e
-    | inr e ↦ content InSection kind.ScriptOrStyle refl refl (script e)
-  ]
-  place_taken place.Row h = elim (or_cases (of kind.Cell n) (is_in_tables n) h) [
-    | inl e ↦ part InRow kind.Cell refl refl e
-    | inr e ↦ content InRow kind.ScriptOrStyle refl refl (script e)
-  ]
-  place_taken place.Columns h = column (first_true (of kind.Col n) (of kind.Template n) h plain)
+      of_two h (λ c. of_two c (λ d. of_two d (part InTable kind.Caption refl refl)
+      (part InTable kind.Colgroup refl refl)) (part InTable kind.Section refl refl))
+      (λ e. content InTable kind.ScriptOrStyle refl refl (script e))
+  place_taken place.Section h = of_two h (part InSection kind.Tr refl refl)
+      (λ e. content InSection kind.ScriptOrStyle refl refl (script e))
+  place_taken place.Row h = of_two h (part InRow kind.Cell refl refl)
+      (λ e. content InRow kind.ScriptOrStyle refl refl (script e))
+  place_taken place.Columns h = column (first_true h plain)
   place_taken place.Body h = tt

@@ -1,14 +1,12 @@
 -- Names that keep their case get their capitals back, once all their letters are small.
 use Rattle.std.proofs.Common.{◌≡◌, ℕ, Bool, true, false, not, List, [], ◌∷◌, bytes_eq, map, map-id, refl, sym, ap, ◌∙◌, arith, None, unwrap_or, find}
-use Rattle.std.proofs.lemmas.{Bool.{and_from, and_parts, both_ways, false_from_ne_true, not-true, or_parts}, Bool.Decides.{nat_tests}}
-use Rattle.std.proofs.lemmas.Slice.Eq.{bytes_eq-Decides}
-use Rattle.std.specs.{Char.{to_ascii_lowercase}, List.{list_any}, Prelude.{if◌then◌else◌}}
-use Rattle.html_names_core.{proofs.Basics.{bytes_eq-same}, specs.Characters.{is_capital}, specs.Names.{stands_in}}
+use Rattle.std.proofs.lemmas.Bool.{and_from, and_parts, both_ways, false_from_ne_true, not-true, or_parts, Decides.{nat_tests}}
+use Rattle.std.{proofs.lemmas.Slice.Eq.{bytes_eq-Decides}, specs.{Char.{to_ascii_lowercase}, List.{list_any}}}
+use Rattle.html_names_core.{proofs.Basics.{bytes_eq-same}, specs.{Characters.{is_capital}, Names.{stands_in}}}
 use Rattle.html_dom_tree.specs.{Attributes.{first, has_name, names_differ}, Tree.{TextPair}}
-use Rattle.html_page_nesting.specs.{WrittenTags.{capital_attrs, keep_case}, declared.reading.Space.{Space}}
-use Rattle.html_page_nesting.specs.declared.reading.Space.TheVariants.{Html}
+use Rattle.html_page_nesting.specs.{WrittenTags.{capital_attrs, keep_case}, declared.reading.Space.{Space, TheVariants.{Html}}}
 use Rattle.html_page_names.specs.ForeignNames.{keeps_case, lowered, with_capitals}
-use Rattle.typst_html_nesting_laws.proofs.{Branches.{absent_parts}, KindFacts.{AllFail, agree_in}, Readers.{lowered_attrs}}
+use Rattle.typst_html_nesting_laws.proofs.{Branches.{absent_parts, decide}, KindFacts.{AllFail, agree_in}, Readers.{lowered_attrs}}
 
 -- a name without capitals is itself in small letters
 
@@ -18,7 +16,7 @@ small_char c h = grind (arith, nat_tests)
 small : (n : List ℕ) → list_any is_capital n ≡ false → lowered n ≡ n
 small [] h = refl
 small (c ∷ cs) h =
-    let both = or_parts (is_capital c) (list_any is_capital cs) h in
+    let both = or_parts _ _ h in
     ap (λ d. d ∷ lowered cs) (small_char c both.0) ∙ ap (λ ds. c ∷ ds) (small cs both.1)
 
 -- nothing is found where no test passes
@@ -30,20 +28,12 @@ find_none test (m ∷ ms) h =
     rw both.0 (find_none test ms both.1)
 
 -- by whether it has capitals, such a name is one of the list, or stays as it is
-case_by : (capitals : Bool) (names : List (List ℕ)) (n : List ℕ) → (P : Type 0) →
-    (if capitals then stands_in names n else not (list_any (λ m. bytes_eq (lowered m) n) names))
-    ≡ true → (capitals ≡ true → stands_in names n ≡ true → P) →
-    (capitals ≡ false → list_any (λ m. bytes_eq (lowered m) n) names ≡ false → P) → P
-case_by true names n P h one other = one refl h
-case_by false names n P h one other =
-    other refl (not-true (list_any (λ m. bytes_eq (lowered m) n) names) h)
-
 pub by_case : (names : List (List ℕ)) (n : List ℕ) (P : Type 0) → keeps_case names n ≡ true →
     (stands_in names n ≡ true → P) →
     (lowered n ≡ n → list_any (λ m. bytes_eq (lowered m) n) names ≡ false → P) → P
 unfolding keeps_case
-by_case names n P h one other = case_by (list_any is_capital n) names n P h (λ c s. one s)
-    (λ c none. other (small n c) none)
+by_case names n P h one other = decide (list_any is_capital n) (λ c. one (rw c at h))
+    (λ c. other (small n c) (not-true _ (rw c at h)))
 
 -- the names of a list differ by their small letters
 abbrev pub ComeBack : List (List ℕ) → Type 0
@@ -66,12 +56,10 @@ pub small_back : (n : List ℕ) → keeps_case [] n ≡ true → lowered n ≡ n
 small_back n h = capitals_back [] n refl h
 
 -- a test that the name fails, and all of the list in small letters, fails it in small letters
-pub fails_small : (test : List ℕ → Bool) (names : List (List ℕ)) (n : List ℕ) →
-    keeps_case names n ≡ true → AllFail (λ m. test (lowered m)) names →
-    test n ≡ false → test (lowered n) ≡ false
-fails_small test names n h all fails = by_case names n (test (lowered n) ≡ false) h
-    (λ s. agree_in (λ m. test (lowered m)) (λ m. false) names n all s)
-    (λ same none. ap test same ∙ fails)
+pub fails_small : (test : List ℕ → Bool) (names : List (List ℕ)) (n : List ℕ) → keeps_case names n
+    ≡ true → AllFail (λ m. test (lowered m)) names → test n ≡ false → test (lowered n) ≡ false
+fails_small test names n h all fails = by_case names n (test (lowered n) ≡ false) h (λ s. agree_in
+    (λ m. test (lowered m)) (λ m. false) names n all s) (λ same none. ap test same ∙ fails)
 
 -- the same of attributes
 
@@ -80,53 +68,42 @@ module _ (names : List (List ℕ)) where
       map (λ a. (with_capitals names a.0, a.1)) (lowered_attrs attrs) ≡ attrs
   attrs_back [] back h = refl
   attrs_back (a ∷ attrs) back h =
-      let both = and_parts (keeps_case names a.0) (keep_case names attrs) h in
+      let both = and_parts _ _ h in
       ap (λ n. (n, a.1) ∷ map (λ b. (with_capitals names b.0, b.1)) (lowered_attrs attrs))
-      (capitals_back names a.0 back both.0)
-      ∙ ap (λ l. a ∷ l) (attrs_back attrs back both.1)
+      (capitals_back names a.0 back both.0) ∙ ap (λ l. a ∷ l) (attrs_back attrs back both.1)
 
   pub attrs_fail : (test : List ℕ → Bool) (attrs : List TextPair) → keep_case names attrs ≡ true →
-      AllFail (λ m. test (lowered m)) names →
-      list_any (λ a. test a.0) attrs ≡ false →
+      AllFail (λ m. test (lowered m)) names → list_any (λ a. test a.0) attrs ≡ false →
       list_any (λ a. test a.0) (lowered_attrs attrs) ≡ false
   attrs_fail test [] h all fails = refl
   attrs_fail test (a ∷ attrs) h all fails =
-      let both = and_parts (keeps_case names a.0) (keep_case names attrs) h in
-      let none = or_parts (test a.0) (list_any (λ b. test b.0) attrs) fails in
+      let both = and_parts _ _ h in
+      let none = or_parts _ _ fails in
       rw (fails_small test names a.0 both.0 all none.0) (attrs_fail test attrs both.1 all none.1)
 
   -- names that differ do so in small letters
-  same_small : (m n : List ℕ) → ComeBack names → keeps_case names m ≡ true →
-      keeps_case names n ≡ true → lowered m ≡ lowered n → m ≡ n
-  same_small m n back h k e = sym (capitals_back names m back h)
-      ∙ (ap (with_capitals names) e ∙ capitals_back names n back k)
-
   differ_small : (m n : List ℕ) → ComeBack names → keeps_case names m ≡ true →
       keeps_case names n ≡ true → bytes_eq m n ≡ false → bytes_eq (lowered m) (lowered n) ≡ false
-  differ_small m n back h k e = false_from_ne_true (bytes_eq (lowered m) (lowered n))
-      (λ same. both_ways (bytes_eq m n) e ((bytes_eq-Decides m n).1
-      (same_small m n back h k (bytes_eq-same (lowered m) (lowered n) same))))
+  differ_small m n back h k e = false_from_ne_true _ (λ same. both_ways _ e
+      ((bytes_eq-Decides m n).1 (sym (capitals_back names m back h)
+      ∙ (ap (with_capitals names) (bytes_eq-same _ _ same) ∙ capitals_back names n back k))))
 
   no_name_small : (attrs : List TextPair) (n : List ℕ) → ComeBack names →
       keep_case names attrs ≡ true → keeps_case names n ≡ true → has_name attrs n ≡ false →
       has_name (lowered_attrs attrs) (lowered n) ≡ false
   no_name_small [] n back h k e = refl
   no_name_small (a ∷ attrs) n back h k e =
-      let both = and_parts (keeps_case names a.0) (keep_case names attrs) h in
-      let none = absent_parts (bytes_eq a.0 n) a.1 (first attrs n) e in
-      rw (differ_small a.0 n back both.0 k none.0)
-      (no_name_small attrs n back both.1 k none.1)
+      let both = and_parts _ _ h in
+      let none = absent_parts a.1 (first attrs n) e in
+      rw (differ_small a.0 n back both.0 k none.0) (no_name_small attrs n back both.1 k none.1)
 
-  pub names_lowered_differ : (attrs : List TextPair) → ComeBack names →
-      keep_case names attrs ≡ true → names_differ attrs ≡ true →
-      names_differ (lowered_attrs attrs) ≡ true
+  pub names_lowered_differ : (attrs : List TextPair) → ComeBack names → keep_case names attrs
+      ≡ true → names_differ attrs ≡ true → names_differ (lowered_attrs attrs) ≡ true
   names_lowered_differ [] back h d = refl
   names_lowered_differ (a ∷ attrs) back h d =
-      let both = and_parts (keeps_case names a.0) (keep_case names attrs) h in
-      let differ = and_parts (not (has_name attrs a.0)) (names_differ attrs) d in
-      and_from (not (has_name (lowered_attrs attrs) (lowered a.0)))
-      (names_differ (lowered_attrs attrs))
-      (ap not (no_name_small attrs a.0 back both.1 both.0 (not-true (has_name attrs a.0) differ.0)))
+      let both = and_parts _ _ h in
+      let differ = and_parts _ _ d in
+      and_from _ _ (ap not (no_name_small attrs a.0 back both.1 both.0 (not-true _ differ.0)))
       (names_lowered_differ attrs back both.1 differ.1)
 
 -- where no names have capitals

@@ -7,7 +7,7 @@ use Rattle.html_page_names.specs.PageNames.{of}
 use Rattle.html_page_names.specs.declared.kind.Kind.TheVariants as kind
 use Rattle.html_page_stack.specs.OpenElements.{OpenElement, is_of, with_last_text, with_text, without_current}
 use Rattle.html_page_stack.specs.Pages.{Page, behind_marker, closed, is_lost, lost_with, loses_some}
-use Rattle.typst_html_nesting_laws.proofs.Ways.{AreAlike, IsCalm, begun, begun_element, marks}
+use Rattle.typst_html_nesting_laws.proofs.{Ways.{AreAlike, IsCalm, begun, begun_element, marks}, Branches.{either_way}}
 
 -- what holds of a page with such elements, and such that are lost, holds of one that has them
 pub at_stack : (P : Page → Type 0) (p : Page) (s : List OpenElement) (l : List (Option (List ℕ))) →
@@ -18,20 +18,13 @@ at_stack P p s l e k h = subst (λ x. P (record p { stack = x })) (sym e)
 -- where no formatting element is lost, none is made again
 pub marks_lose_none : (os : List OpenElement) → loses_some (marks os) ≡ false
 marks_lose_none [] = refl
-marks_lose_none (o ∷ os) = by_mark (is_of (of kind.Marker) o) (marks os) (marks_lose_none os) where
-  by_mark : (b : Bool) (ls : List (Option (List ℕ))) → loses_some ls ≡ false →
-      loses_some (if b then None ∷ ls else ls) ≡ false
-  by_mark true ls h = refl
-  by_mark false ls h = h
+marks_lose_none (o ∷ os) =
+    either_way loses_some (is_of (of kind.Marker) o) refl (marks_lose_none os)
 
 pub marks_hold_none : (name : List ℕ) (os : List OpenElement) → is_lost name (marks os) ≡ false
 marks_hold_none name [] = refl
 marks_hold_none name (o ∷ os) =
-    by_mark (is_of (of kind.Marker) o) (marks os) (marks_hold_none name os) where
-      by_mark : (b : Bool) (ls : List (Option (List ℕ))) → is_lost name ls ≡ false →
-          is_lost name (if b then None ∷ ls else ls) ≡ false
-      by_mark true ls h = refl
-      by_mark false ls h = h
+    either_way (is_lost name) (is_of (of kind.Marker) o) refl (marks_hold_none name os)
 
 -- the current node is closed by its own end tag, which takes its mark with it
 lost_by : (marker formatting : Bool) (x : Option (List ℕ)) (ls : List (Option (List ℕ))) →

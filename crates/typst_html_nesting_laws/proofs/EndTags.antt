@@ -3,16 +3,11 @@ use Rattle.std.proofs.Common.{◌≡◌, ℕ, ◌+◌, Bool, true, List, [], ◌
 use Rattle.html_names_core.specs.Characters.{IsOf, is_tag_char}
 use Rattle.typst_html_encode.specs.Text.{end_tag_text}
 use Rattle.html_page_nesting.specs.WrittenTags.{begins_with_letter}
-use Rattle.typst_html_nesting_laws.proofs.Readers.{Emits, data_at, started}
-use Rattle.typst_html_nesting_laws.proofs.TagChars.{Finishes, at_state, finishes_on, name_lowered, name_moves, tag_named}
 use Rattle.html_page_names.specs.ForeignNames.{lowered}
 use Rattle.html_page_stack.specs.Pages.{Page, End}
-use Rattle.html_page_read.specs.PageTokens.{EndTagOpen, TagName, is_name}
-
--- behind its name
-end_finishes : (name : List ℕ) → is_name name ≡ true → (fresh : Bool) (place : ℕ) (p : Page) →
-    Finishes (at_state (TagName (tag_named true name)) fresh place p) (62 ∷ []) (End name) p
-end_finishes name h fresh place p = record { place = place; is = λ after taken. rw (h, taken) refl }
+use Rattle.html_page_read.specs.PageTokens.{EndTagOpen}
+use Rattle.typst_html_nesting_laws.proofs.Readers.{Emits, data_at, started}
+use Rattle.typst_html_nesting_laws.proofs.TagChars.{Finishes, at_state, finishes_on, name_lowered, name_moves}
 
 pub end_emits : (name : List ℕ) → IsOf is_tag_char name → begins_with_letter name ≡ true →
     (fresh : Bool) (place : ℕ) (p : Page) →
@@ -20,8 +15,8 @@ pub end_emits : (name : List ℕ) → IsOf is_tag_char name → begins_with_lett
 end_emits name named letter fresh place p =
     let begun = started place p in
     let q = at_state EndTagOpen fresh (place + 1 + 1) begun in
-    let f : Finishes q (name ++ 62 ∷ []) (End (lowered name)) begun =
-    finishes_on q (TagName (tag_named true (lowered name))) fresh begun name (62 ∷ []) _
+    let f : Finishes q (name ++ 62 ∷ []) (End (lowered name)) begun = finishes_on name (62 ∷ [])
     (name_moves true EndTagOpen (λ c r h. rw h refl) name named letter fresh (place + 1 + 1) begun)
-    (λ here. end_finishes (lowered name) (name_lowered name named) fresh here begun) in
+    (λ here. record { place = here; is = λ after taken. rw (name_lowered name named, taken) refl })
+    in
     record { start = place; place = f.place; is = f.is }

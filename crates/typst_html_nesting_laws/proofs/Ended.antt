@@ -1,31 +1,30 @@
 -- An end tag of the current node's name closes it, where nothing is misnested.
-use Rattle.std.proofs.Common.{◌≡◌, ℕ, Bool, true, false, not, ◌&&◌, ◌||◌, List, ◌∷◌, length, inl, inr, refl, sym, ap, subst, ◌∙◌, Ok}
-use Rattle.std.proofs.lemmas.{Bool.{and_from, and_parts, cases_Bool, false≢true, or_from, or_left, or_parts}, Slice.Eq.{bytes_eq-Decides}}
-use Rattle.std.specs.Prelude.{None, bytes_eq, if◌then◌else◌}
-use Rattle.html_names_core.specs.Kinds.{is_foreign_self_closing, is_void}
+use Rattle.std.proofs.Common.{◌≡◌, ℕ, Bool, true, false, not, ◌&&◌, ◌||◌, List, ◌∷◌, inl, inr, refl, sym, ap, subst, ◌∙◌}
+use Rattle.std.proofs.lemmas.{Bool.{and_from, and_parts, false≢true, or_from, or_left, or_parts}, Slice.Eq.{bytes_eq-Decides}}
+use Rattle.std.specs.Prelude.{None}
+use Rattle.html_names_core.specs.Kinds.{is_void}
 use Rattle.html_dom_tree.specs.Tree.{Head, NodesView}
-use Rattle.html_page_nesting.specs.Ancestors as nest
 use Rattle.html_page_nesting.specs.{Ancestors.{Ancestor, ancestor, place_of, reading_of, space_of}, NestingRules.{element_misnesting}}
 use Rattle.html_page_nesting.specs.{Surroundings.{surroundings_of}, WrittenTags.{capital_tags}, declared.reading.Place.{Place}}
+use Rattle.html_page_nesting.specs.declared.reading.Space.{Space, TheVariants.{Html}}
+use Rattle.html_page_nesting.specs.Ancestors as nest
 use Rattle.html_page_nesting.specs.declared.reading.Place.TheVariants as place
-use Rattle.html_page_nesting.specs.declared.reading.{Space.{Space}, Space.TheVariants.{Html}}
 use Rattle.html_page_names.specs.{ForeignNames.{keeps_case, lowered}, PageNames.{is, kind_names, of}, declared.kind.Kind.{Kind}}
 use Rattle.html_page_names.specs.declared.kind.Kind.TheVariants as kind
-use Rattle.html_page_stack.specs.OpenElements.{OpenElement, at, bounds, in_scope, is_at, is_foreign_of, is_html, mode, named_mode}
-use Rattle.html_page_stack.specs.Pages.{Page, End, ◌next◌, closed, closed_in, closed_to, closed_to_goal, closed_while, implied_closed, loses_some, no_name, noted, noted_if, refused, taken}
-use Rattle.html_page_stack.specs.declared.error.PageError.TheVariants as error
-use Rattle.html_page_stack.specs.declared.fault.PageRefusal.TheVariants as refusal
+use Rattle.html_page_stack.specs.OpenElements.{OpenElement, bounds, is_at, is_foreign_of, is_html, mode, named_mode}
+use Rattle.html_page_stack.specs.Pages.{Page, End, closed, closed_in, closed_to_goal, loses_some, no_name, taken}
 use Rattle.html_page_stack.specs.declared.modes.{Mode.{Mode}, Scope.{Scope}}
 use Rattle.html_page_stack.specs.declared.modes.Mode.TheVariants.{InHead, InHeadNoscript, InBody, InText, InTable, InCaption, InColumns, InSection, InRow, InCell}
+use Rattle.html_page_stack.specs.declared.error.PageError.TheVariants as error
+use Rattle.html_page_stack.specs.declared.fault.PageRefusal.TheVariants as refusal
 use Rattle.html_page_stack.specs.declared.modes.Scope.TheVariants as scope
-use Rattle.html_page_tree.proofs.OwnEnds as own
 use Rattle.html_page_tree.specs.PageBodies.{element_ended, form_closed}
-use Rattle.html_page_tree.specs.PageTrees.{by_mode, closes_foreign, foreign_closed, in_foreign, in_foreign_end, part_closed, token_read, turn}
-use Rattle.typst_html_nesting_laws.proofs.{Alike.{space_html}, Branches.{either, pick}, Capitals.{fails_small}}
-use Rattle.typst_html_nesting_laws.proofs.{Closed.{at_stack, marks_lose_none}, KeptTags.{small_html}}
-use Rattle.typst_html_nesting_laws.proofs.{KindFacts.{AllFail, fails_of, names, outside_of}, Modes.{brings, own_mode}}
-use Rattle.typst_html_nesting_laws.proofs.{Rules.{foreign_fits, tag_fits}, Stands.{Stands, html_stands, parts}, Steady.{around_steady}}
-use Rattle.typst_html_nesting_laws.proofs.Turns.{turn_taken}
+use Rattle.html_page_tree.specs.PageTrees.{by_mode, foreign_closed, in_foreign_end, part_closed, token_read, turn}
+use Rattle.html_page_tree.proofs.OwnEnds as own
+use Rattle.typst_html_nesting_laws.proofs.{Alike.{space_html}, Branches.{either, pick, decide, skip}, Capitals.{fails_small}}
+use Rattle.typst_html_nesting_laws.proofs.{KeptTags.{small_html}, Closed.{at_stack, marks_lose_none}, Modes.{brings, own_mode}}
+use Rattle.typst_html_nesting_laws.proofs.{KindFacts.{AllFail, fails_of, names, outside_of}, Rules.{foreign_fits, tag_fits}}
+use Rattle.typst_html_nesting_laws.proofs.{Stands.{Stands, html_stands, parts}, Steady.{around_steady}, Turns.{turn_taken}}
 use Rattle.typst_html_nesting_laws.proofs.Ways.{AreAlike, IsAlike, IsCalm, IsSteady, ends_at_once, is_body_mode, is_page_place, marks}
 
 -- the current node, an element of HTML
@@ -45,18 +44,12 @@ module _ (p : Page) (o : OpenElement) (os : List OpenElement) (html : is_html o.
   unimplied k none h = fails_of (of kind.Implied) k n none h
 
   end_form : of kind.Form n ≡ true → form_closed q ≡ closed true q
-  end_form h =
-      let last = λ (r : Page). if is_at (of kind.Form) r.stack then closed true r
-      else refused refusal.CrossedElement r in
-      ap (λ b. if not b then Ok (noted error.EndTagWithoutStart q)
-      else ((if in_scope scope.General (of kind.Form) q.stack then implied_closed no_name q
-      else Ok q) next last)) (own.reached p o os html (of kind.Form) (λ e. false) h)
-      ∙ (ap (λ b. (if b then implied_closed no_name q else Ok q) next last)
-      (own.reached p o os html (of kind.Form) (bounds scope.General) h)
-      ∙ (ap (λ x. x next last) (own.none_implied_at_all p o os html
-      (unimplied kind.Form (unfold names in refl) h))
-      ∙ ap (λ b. if b then closed true q else refused refusal.CrossedElement q)
-      (own.at_name p o os html (of kind.Form) h)))
+  end_form h = rw (
+    own.reached p o os html (of kind.Form) (λ e. false) h,
+    own.reached p o os html (of kind.Form) (bounds scope.General) h,
+    own.none_implied_at_all p o os html (unimplied kind.Form (unfold names in refl) h),
+    own.at_name p o os html (of kind.Form) h,
+  ) refl
 
   end_item : (s : Scope) → closed_in s (is n) (is n) (is n) q ≡ closed true q
   end_item s = own.within p o os html s (is n) (is n) named (own.but_named p o os html (is n) named)
@@ -68,26 +61,22 @@ module _ (p : Page) (o : OpenElement) (os : List OpenElement) (html : is_html o.
 
   end_element : loses_some p.lost ≡ false → element_ended n q ≡ closed true q
   end_element l =
-      either (of kind.Form n) _ _ (closed true q) end_form (λ f.
-      either (of kind.P n) _ _ (closed true q) (own.end_p p o os html) (λ x.
-      either (of kind.ListItem n) _ _ (closed true q) (λ h. end_item scope.ListItem) (λ i.
-      either (of kind.DescriptionPart n) _ _ (closed true q) (λ h. end_item scope.General) (λ d.
-      either (of kind.Heading n) _ _ (closed true q)
+      either (of kind.Form n) end_form (λ f.
+      either (of kind.P n) (own.end_p p o os html) (λ x.
+      either (of kind.ListItem n) (λ h. end_item scope.ListItem) (λ i.
+      either (of kind.DescriptionPart n) (λ h. end_item scope.General) (λ d.
+      either (of kind.Heading n)
       (λ h. end_scoped (of kind.Heading) h (unimplied kind.Heading (unfold names in refl) h)) (λ k.
-      either (of kind.ClosesInScope n) _ _ (closed true q)
+      either (of kind.ClosesInScope n)
       (λ h. end_scoped (is n) named (unimplied kind.ClosesInScope (unfold names in refl) h)) (λ c.
-      either (of kind.Formatting n) _ _ (closed true q)
+      either (of kind.Formatting n)
       (λ h. own.end_formatting p o os html l) (λ f. own.end_other p o os html)))))))
 
   part_ended : (test : List ℕ → Bool) → test n ≡ true → of kind.Implied n ≡ false →
       part_closed test q ≡ closed true q
   part_ended test h implied =
-      ap (λ x. x next (λ r. closed_to test
-      (noted_if (not (is_at test r.stack)) error.CellOverOpenElements r)))
-      (own.none_implied_at_all p o os html implied)
-      ∙ (ap (λ b. closed_to test (noted_if (not b) error.CellOverOpenElements q))
-      (own.at_name p o os html test h)
-      ∙ own.closes p o os html test h)
+      rw (own.none_implied_at_all p o os html implied, own.at_name p o os html test h)
+      (own.closes p o os html test h)
 
   -- in the mode that the element itself brings
   end_own : (m : Mode) → brings m n os ≡ true → by_mode m (End n) q ≡ taken (closed true q)
@@ -96,8 +85,7 @@ module _ (p : Page) (o : OpenElement) (os : List OpenElement) (html : is_html o.
       let noscript = (and_parts (of kind.Noscript n) (is_at (of kind.Head) os) h).0 in
       rw noscript refl
   end_own InText h = refl
-  end_own InTable h = pick (of kind.Table n) _ _ (taken (closed true q)) h
-      (ap taken (own.closes p o os html (of kind.Table) h))
+  end_own InTable h = pick _ h (ap taken (own.closes p o os html (of kind.Table) h))
   end_own InCaption h =
       let scoped = own.reached p o os html (is n) (bounds scope.Table) named in
       rw (h, scoped) (ap taken (part_ended (of kind.Caption) h
@@ -142,27 +130,13 @@ module _ (p : Page) (o : OpenElement) (os : List OpenElement)
   abbrev r : Page
   r = record p { stack = o ∷ os }
 
-  is_goal : is_foreign_of m o ≡ true
-  is_goal = and_from (not (is_html o.space)) (bytes_eq m m) (ap not foreign)
-      ((bytes_eq-Decides m m).1 refl)
-
-  closes_goal : closed_to_goal (is_foreign_of m) r ≡ closed true r
-  closes_goal = ap (λ b. (if not b then (closed false r) next
-      closed_while (λ s. not (at (is_foreign_of m) s)) (length os) else Ok r)
-      next closed true) is_goal
-
-  foreign_ended : foreign_closed m r ≡ closed true r
-  foreign_ended = ap (λ b. closed_to_goal (is_foreign_of m)
-      (noted_if (not b) error.EndTagOverOpenElements r)) is_goal ∙ closes_goal
-
   end_foreign : (of kind.Br m || of kind.P m) ≡ false → in_foreign_end m r ≡ taken (closed true r)
   end_foreign h =
-      ap (λ b. if b then refused refusal.HtmlInForeign r
-      else (if closes_foreign m r.stack then taken (foreign_closed m r)
-      else by_mode (mode r.stack) (End m) r)) h
-      ∙ (ap (λ b. if b then taken (foreign_closed m r) else by_mode (mode r.stack) (End m) r)
-      (or_left (is_foreign_of m o) _ is_goal)
-      ∙ ap taken foreign_ended)
+      let goal : is_foreign_of m o ≡ true =
+      and_from _ _ (ap not foreign) ((bytes_eq-Decides m m).1 refl) in
+      let closes : closed_to_goal (is_foreign_of m) r ≡ closed true r = rw goal refl in
+      let ended : foreign_closed m r ≡ closed true r = rw goal closes in
+      skip _ h (pick _ (or_left (is_foreign_of m o) _ goal) (ap taken ended))
 
 -- a name of SVG is not that of a `br` or a `p`, whose end tags end SVG and MathML
 
@@ -177,8 +151,7 @@ capitals_unbroken s = refl
 foreign_unbroken : (s : Space) (n : List ℕ) → keeps_case (capital_tags s) n ≡ true →
     of kind.Breakout n ≡ false → breaks (lowered n) ≡ false
 foreign_unbroken s n h b = fails_small breaks (capital_tags s) n h (capitals_unbroken s)
-    (or_from (of kind.Br n) (of kind.P n)
-    (outside_of (of kind.Breakout) kind.Br n (unfold names in refl) b)
+    (or_from _ _ (outside_of (of kind.Breakout) kind.Br n (unfold names in refl) b)
     (outside_of (of kind.Breakout) kind.P n (unfold names in refl) b))
 
 module _ (above : List Ancestor) (h : Head) (kids : NodesView) (p : Page) (o : OpenElement)
@@ -198,26 +171,20 @@ module _ (above : List Ancestor) (h : Head) (kids : NodesView) (p : Page) (o : O
       ends_at_once h ≡ false → nest.is_html s ≡ true →
       turn (End (lowered h.name)) w ≡ taken (closed true w)
   turn_html alike steady t once html =
-      let here : is_html o.space ≡ true = space_html (ancestor h above) o same ∙ html in
-      ap (λ b. if not b then in_foreign (End (lowered h.name)) w
-      else by_mode (mode w.stack) (End (lowered h.name)) w) here
-      ∙ (ap (λ m. by_mode (mode w.stack) (End m) w)
-      (small_html s h.name html keeps ∙ sym same.name)
-      ∙ end_html p o os here (place_of above)
-      (ap is_void same.name
-      ∙ (or_parts (is_foreign_self_closing h.name) (is_void h.name) once).1) kept
+      let here : is_html o.space ≡ true = space_html _ _ same ∙ html in
+      skip _ (ap not here)
+      (ap (λ m. by_mode (mode w.stack) (End m) w) (small_html _ _ html keeps ∙ sym same.name)
+      ∙ end_html p o os here (place_of above) (ap is_void same.name ∙ (or_parts _ _ once).1) kept
       (subst (λ m. Stands m os (place_of above)) (sym same.name)
       (html_stands above h kids os alike page rules html t once))
       (λ body none. around_steady above os alike steady body o
-      (either (is_html o.space) _ _ None (λ e. none) (λ e. refl))))
+      (either (is_html o.space) (λ e. none) (λ e. refl))))
 
   turn_foreign : nest.is_html s ≡ false → turn (End (lowered h.name)) w ≡ taken (closed true w)
   turn_foreign foreign =
-      let here : is_html o.space ≡ false = space_html (ancestor h above) o same ∙ foreign in
+      let here : is_html o.space ≡ false = space_html _ _ same ∙ foreign in
       ap (λ m. turn (End (lowered m)) w) (sym same.name)
-      ∙ (ap (λ b. if not b then in_foreign (End (lowered o.head.name)) w
-      else by_mode (mode w.stack) (End (lowered o.head.name)) w) here
-      ∙ end_foreign p o os here
+      ∙ pick _ (ap not here) (end_foreign p o os here
       (subst (λ m. (of kind.Br (lowered m) || of kind.P (lowered m)) ≡ false) (sym same.name)
       (foreign_unbroken s h.name keeps
       (foreign_fits h kids (surroundings_of above) rules foreign).unbroken)))
@@ -237,8 +204,6 @@ end_taken above h kids p o os e calm steady page rules once =
     (o ∷ os) (marks (o ∷ os)) e (calm.lost ∙ ap marks e)
     (turn_taken (End (lowered h.name)) (record quiet { stack = o ∷ os })
     (closed true (record quiet { stack = o ∷ os })) calm.tables
-    (elim (cases_Bool (nest.is_html (space_of (reading_of above) h.name))) [
-      | inl html ↦ turn_html above h kids quiet o os alike.0 kept page rules alike.1 steady
-          calm.plain.0 once html
-      | inr foreign ↦ turn_foreign above h kids quiet o os alike.0 kept page rules foreign
-    ]))
+    (decide (nest.is_html (space_of (reading_of above) h.name))
+    (λ html. turn_html above h kids quiet o os alike.0 kept page rules alike.1 steady
+    calm.plain.0 once html) (turn_foreign above h kids quiet o os alike.0 kept page rules)))

@@ -1,44 +1,42 @@
 -- An element is opened, filled and closed: what stands in it leads to a page with one child more.
-use Rattle.std.proofs.Common.{◌≡◌, ℕ, ◌+◌, Bool, true, false, ◌&&◌, ◌||◌, inl, inr, List, [], ◌∷◌, ◌++◌, Option, codes, refl, sym, ap, subst, ◌∙◌, arith, Ok}
-use Rattle.std.proofs.lemmas.Bool.{and_from, and_parts, and_right, both_ways, false_from_ne_true, false≢true, not_from_false, or_cases}
+use Rattle.std.proofs.Common.{◌≡◌, ℕ, ◌+◌, Bool, true, false, ◌&&◌, ◌||◌, List, [], ◌∷◌, ◌++◌, Option, codes, refl, sym, ap, ◌∙◌, arith, Ok}
+use Rattle.std.proofs.lemmas.Bool.{and_from, and_parts, and_right, both_ways, false_from_ne_true, false≢true, not_from_false}
 use Rattle.std.specs.{List.{fold}, Prelude.{if◌then◌else◌}}
 use Rattle.html_names_core.specs.{Characters.{IsOf, all, is_tag_char, is_text_char}, Kinds.{is_escapable_raw, is_raw}}
 use Rattle.html_dom_tree.specs.PlainTree.{branch, Plains, plain, put_words, nodes_normal}
-use Rattle.html_dom_tree.specs.Tree.{Head, NodeView, tag_node, text_node, element_node, frame_node, NodesView, none, node, with_last}
-use Rattle.html_page_nesting.specs.Ancestors.{Ancestor, is_html, reading_of, space_of}
-use Rattle.html_page_nesting.specs.Contents.{begin_with_feed, is_escaped, is_listing, is_raw_when_read, state_behind}
-use Rattle.html_page_nesting.specs.{WrittenTags.{begins_with_letter}, WrittenTexts.{has_return, is_empty}}
+use Rattle.html_dom_tree.specs.Tree.{Head, NodeView, text_node, element_node, NodesView, none, node, with_last}
+use Rattle.html_page_nesting.specs.{Ancestors.{Ancestor, is_html, reading_of, space_of}, WrittenTags.{begins_with_letter}}
+use Rattle.html_page_nesting.specs.Contents.{begin_with_feed, is_escaped, is_raw_when_read, state_behind}
+use Rattle.html_page_nesting.specs.WrittenTexts.{has_return, is_empty}
 use Rattle.html_page_nesting.specs.declared.content.ScriptState.TheVariants as state
 use Rattle.typst_html_encode.proofs.{Plainly.{shut}, References.{raw_good}, Runs.{left_empty, right_empty, test_fails}}
-use Rattle.typst_html_encode.specs.Content.{by_kind, content_kind}
+use Rattle.typst_html_encode.specs.{Content.{by_kind, content_kind}, FrameWriters.{Frames}, Reader.{drops_feed}}
 use Rattle.typst_html_encode.specs.ExportFaults.{closing_faults, nodes_faults, nodes_raw_faults, raw_content_faults}
-use Rattle.typst_html_encode.specs.{FrameWriters.{Frames}, Reader.{drops_feed}}
 use Rattle.typst_html_encode.specs.Text.{begins_with_feed, end_tag_text, escaped_text, escaping_of, feed_text, nodes_raw_text, nodes_text, start_tag_text}
 use Rattle.typst_html_encode.specs.declared.fault.ExportFault.{ExportFault}
-use Rattle.html_text.specs.ClosingTags.{holds_closing}
 use Rattle.typst_html_encode.specs.declared.fault.ExportFault.TheVariants as fault
+use Rattle.html_text.specs.ClosingTags.{holds_closing}
 use Rattle.html_page_names.specs.{ForeignNames.{lowered}, PageNames.{of}}
 use Rattle.html_page_names.specs.declared.kind.Kind.TheVariants as kind
-use Rattle.html_page_stack.specs.OpenElements as open_elements
-use Rattle.html_page_stack.specs.OpenElements.{OpenElement, completed, is_at, is_of, with_last_child, with_text}
 use Rattle.html_page_stack.specs.Pages.{Page, StartTag, End, Start, closed}
+use Rattle.html_page_stack.specs.OpenElements.{OpenElement, completed, is_at, is_of, with_last_child, with_text}
+use Rattle.html_page_stack.specs.OpenElements as open_elements
 use Rattle.html_page_stack.specs.declared.modes.Space.TheVariants as spaces
 use Rattle.html_page_tree.specs.PageTrees.{token_read}
 use Rattle.html_page_read.specs.{PageReading.{run}, PageTokens.{PageReader}}
-use Rattle.typst_html_nesting_laws.proofs.{Alike.{html_is, html_space}, Branches.{second_false}, Closed.{closed_is}, EndTags.{end_emits}}
+use Rattle.typst_html_nesting_laws.proofs.{Alike.{html_is, html_space}, Branches.{second_false, of_two}, Closed.{closed_is}}
+use Rattle.typst_html_nesting_laws.proofs.{EndTags.{end_emits}, RawTexts.{IsWithin, escapable_emits, raw_emits}}
 use Rattle.typst_html_nesting_laws.proofs.Forms.{AreGathered, IsFilled, are_texts, filled_normal, on, put_last, put_nodes, put_texted, put_texts, texted_children, texts_by_faults, with_text_is}
 use Rattle.typst_html_nesting_laws.proofs.InnerTexts.{feed_is, first_feed, none_closes, plain_texts, plains_written, states_of, texts_clean, texts_good, texts_written}
 use Rattle.typst_html_nesting_laws.proofs.KindFacts.{dropped_feed, escapable_same, feed_dropped, not_escapable, raw_keeps, script_or_style}
-use Rattle.typst_html_nesting_laws.proofs.RawTexts.{escapable_emits, raw_emits}
-use Rattle.typst_html_nesting_laws.proofs.Readers.{Emits, Takes, behind, data_at, raw_at, run_on, written_tag}
 use Rattle.typst_html_nesting_laws.proofs.{Rules.{ContentFits, ForeignFits}, Ways.{begun, begun_element, marks}}
+use Rattle.typst_html_nesting_laws.proofs.Readers.{Emits, Takes, behind, data_at, raw_at, run_on, written_tag}
 
 -- whether a line feed is still dropped behind a node, and behind nodes
 abbrev pub fresh_after : Bool → NodeView → Bool
-fresh_after fresh (tag_node t) = fresh
 fresh_after fresh (text_node s span) = fresh && is_empty s
 fresh_after fresh (element_node h kids) = false
-fresh_after fresh (frame_node f) = fresh
+fresh_after fresh n = fresh
 
 abbrev pub fresh_behind : Bool → NodesView → Bool
 fresh_behind fresh none = fresh
@@ -119,11 +117,9 @@ module _ (above : List Ancestor) (h : Head) (p : Page) (o : OpenElement) (os : L
         words = [];
         place = f.place;
         start = f.start;
-        is = run_on q behind_start (Ok (data_at false f.place after)) (start_tag_text h) rest starts
-            (f.is after (ends f.children f.words f.start
-            ∙ closes f.children f.words f.start lost inner_lost));
-        same = child_normal kept kids
-            (filled_normal behind_start rest h.name kids opened_page opened around s f);
+        is = run_on q behind_start _ (start_tag_text h) rest starts (f.is after
+            (ends f.children f.words f.start ∙ closes f.children f.words f.start lost inner_lost));
+        same = child_normal kept kids (filled_normal s f);
       }
 
 -- the nodes are read, whatever text stands before
@@ -131,17 +127,15 @@ abbrev pub KidsAreGathered : Frames → (level : ℕ) → NodesView → Page →
     List OpenElement → Type 0
 KidsAreGathered frames level kids p o os = (pre_span fresh : Bool) (place start : ℕ) →
     nodes_faults frames pre_span false kids ≡ [] → (fresh ≡ true → begin_with_feed kids ≡ false) →
-    AreGathered (data_at fresh place (on p o os none [] start))
-    (nodes_text frames pre_span true (shut level) kids) (fresh_behind fresh kids) p o os none []
-    kids
+    AreGathered (data_at fresh place (on p o os none [] start)) (nodes_text frames pre_span true
+    (shut level) kids) (fresh_behind fresh kids) p o os none [] kids
 
 module _ (frames : Frames) (level : ℕ) (name : List ℕ) (kids : NodesView) (p : Page)
     (o : OpenElement) (os : List OpenElement) where
   -- nodes, and the end tag
   pub nodes_filled : IsOf is_tag_char name → begins_with_letter name ≡ true →
       KidsAreGathered frames level kids p o os → (pre_span fresh : Bool) (place start : ℕ) →
-      nodes_faults frames pre_span false kids ≡ [] →
-      (fresh ≡ true → begin_with_feed kids ≡ false) →
+      nodes_faults frames pre_span false kids ≡ [] → (fresh ≡ true → begin_with_feed kids ≡ false) →
       IsFilled (data_at fresh place (on p o os none [] start))
       (nodes_text frames pre_span true (shut level) kids ++ end_tag_text name) name kids p o os
   nodes_filled n l all pre_span fresh place start f first =
@@ -153,11 +147,8 @@ module _ (frames : Frames) (level : ℕ) (name : List ℕ) (kids : NodesView) (p
         words = g.words;
         start = e.start;
         place = e.place + 1;
-        is = λ after r. run_on (data_at fresh place (on p o os none [] start))
-            (data_at last g.place (on p o os g.children g.words g.start))
-            (Ok (data_at false (e.place + 1) after))
-            (nodes_text frames pre_span true (shut level) kids) (end_tag_text name) g.is
-            (e.is after r);
+        is = λ after r. run_on _ _ _ (nodes_text frames pre_span true (shut level) kids)
+            (end_tag_text name) g.is (e.is after r);
         same = g.same;
       }
 
@@ -199,12 +190,8 @@ inside_faults frames h kids = by_kind (content_kind h.name) (raw_content_faults 
 abbrev is_fed : Head → NodesView → Bool
 is_fed h kids = drops_feed h.name && begins_with_feed kids
 
--- it drops no line feed, whatever its space and the letters of its name
-keeps_it : (low html drops : Bool) → drops ≡ false → (low && (html && drops)) ≡ false
-keeps_it low html drops e = and_right low (html && drops) (and_right html drops e)
-
 undropped_by : (n : List ℕ) → of kind.DropsFeed n ≡ false → drops_feed n ≡ false
-undropped_by n e = false_from_ne_true (drops_feed n) (λ d. false≢true (sym e ∙ dropped_feed n d))
+undropped_by n e = false_from_ne_true _ (λ d. false≢true (sym e ∙ dropped_feed n d))
 
 -- what raw elements hold; the escaping of their faults is found, as it has no name here
 raw_texts : (h : Head) (ns : NodesView) → raw_content_faults h ns ≡ [] → are_texts ns ≡ true
@@ -239,24 +226,16 @@ module _ (frames : Frames) (level : ℕ) (above : List Ancestor) (h : Head) (kid
   Filled place = IsFilled (behind (Start (written_tag h)) place page)
       (filling frames level h kids) h.name kids page it outer
 
-  data_filled : is_of (of kind.Raw) it ≡ false →
-      KidsAreGathered frames level kids page it outer →
+  data_filled : is_of (of kind.Raw) it ≡ false → KidsAreGathered frames level kids page it outer →
       (pre_span : Bool) → nodes_faults frames pre_span false kids ≡ [] →
       inside frames level h kids ≡ nodes_text frames pre_span true (shut level) kids →
-      (is_fed h kids ≡ true → drops ≡ true) →
-      (is_fed h kids ≡ false → drops ≡ true → begin_with_feed kids ≡ false) →
-      (place : ℕ) → Filled place
-  data_filled raw all pre_span f same x y place =
-      let nodes = nodes_text frames pre_span true (shut level) kids in
-      let feed = feed_text h kids in
-      subst (λ q. IsFilled q (filling frames level h kids) h.name kids page it outer)
-      (sym (behind_data (written_tag h) place page raw))
-      (subst (λ l. IsFilled (data_at drops (place + 1) page) (feed ++ (l ++ end_tag_text h.name))
-      h.name kids page it outer) (sym same)
+      (is_fed h kids ≡ true → drops ≡ true) → (is_fed h kids ≡ false →
+      drops ≡ true → begin_with_feed kids ≡ false) → (place : ℕ) → Filled place
+  data_filled raw all pre_span f same x y place = rw (raw, same)
       (fed frames level h.name kids page it outer (is_fed h kids) drops
-      (nodes ++ end_tag_text h.name) (place + 1) s x y
+      (nodes_text frames pre_span true (shut level) kids ++ end_tag_text h.name) (place + 1) s x y
       (λ fresh place start first. nodes_filled frames level h.name kids page it outer named letter
-      all pre_span fresh place start f first)))
+      all pre_span fresh place start f first))
 
   -- of an element of HTML
   module _ (html : is_html (space_of (reading_of above) h.name) ≡ true)
@@ -265,44 +244,40 @@ module _ (frames : Frames) (level : ℕ) (above : List Ancestor) (h : Head) (kid
     html_it = html_is (space_of (reading_of above) h.name) ∙ html
 
     drops_it : of kind.DropsFeed h.name ≡ true → drops ≡ true
-    drops_it e = and_from (of kind.DropsFeed (lowered h.name)) (is_of (of kind.DropsFeed) it)
-        (ap (of kind.DropsFeed) small ∙ e)
-        (and_from (open_elements.is_html it.space) (of kind.DropsFeed h.name) html_it e)
+    drops_it e = and_from _ _ (ap (of kind.DropsFeed) small ∙ e) (and_from _ _ html_it e)
 
     it_drops : drops ≡ true → of kind.DropsFeed h.name ≡ true
-    it_drops e = sym (ap (of kind.DropsFeed) small)
-        ∙ (and_parts (of kind.DropsFeed (lowered h.name)) (is_of (of kind.DropsFeed) it) e).0
+    it_drops e = sym (ap (of kind.DropsFeed) small) ∙ (and_parts _ _ e).0
 
     fed_drops : is_fed h kids ≡ true → drops ≡ true
-    fed_drops e = drops_it (dropped_feed h.name
-        (and_parts (drops_feed h.name) (begins_with_feed kids) e).0)
+    fed_drops e = drops_it (dropped_feed h.name (and_parts _ _ e).0)
 
     no_feed : is_fed h kids ≡ false → drops ≡ true → begin_with_feed kids ≡ false
-    no_feed e d = elim (or_cases (drops_feed h.name) (is_listing h.name)
-        (feed_dropped h.name (it_drops d))) [
-          | inl k ↦ sym (feed_is kids returns)
-              ∙ second_false (drops_feed h.name) (begins_with_feed kids) e k
-          | inr k ↦ fits.listing k
-        ]
+    no_feed e d = of_two (feed_dropped h.name (it_drops d))
+        (λ k. sym (feed_is kids returns) ∙ second_false e k) fits.listing
 
-    pub html_filled : of kind.Raw h.name ≡ false → is_raw h.name ≡ false →
-        is_escapable_raw h.name ≡ false → KidsAreGathered frames level kids page it outer →
-        (place : ℕ) → Filled place
-    html_filled raw r e all place =
-        data_filled (and_right (open_elements.is_html it.space) (of kind.Raw h.name) raw) all
-        h.pre_span (rw (r, e) at faultless) (rw (r, e) refl) fed_drops no_feed place
+    pub html_filled : of kind.Raw h.name ≡ false → is_raw h.name ≡ false → is_escapable_raw h.name
+        ≡ false → KidsAreGathered frames level kids page it outer → (place : ℕ) → Filled place
+    html_filled raw r e all place = data_filled (and_right _ _ raw) all h.pre_span
+        (rw (r, e) at faultless) (rw (r, e) refl) fed_drops no_feed place
 
     -- of text alone
     module _ (raw : of kind.Raw h.name ≡ true) (takes : Takes (λ c. true) page) where
       in_html : it.space ≡ spaces.Html
-      in_html = html_space (space_of (reading_of above) h.name) html
+      in_html = html_space _ html
+
+      within : IsWithin h.name page
+      within = record {
+        current = refl;
+        escapable = ap (λ s. open_elements.is_html s && of kind.EscapableRaw h.name) in_html;
+        script = ap (λ s. open_elements.is_html s && of kind.Script h.name) in_html;
+      }
 
       raw_it : is_of (of kind.Raw) it ≡ true
-      raw_it = and_from (open_elements.is_html it.space) (of kind.Raw h.name) html_it raw
+      raw_it = and_from _ _ html_it raw
 
       -- what follows the start tag is read as the texts, and the end tag
-      text_filled : (place : ℕ) → are_texts kids ≡ true →
-          Emits (raw_at drops (place + 1) page)
+      text_filled : (place : ℕ) → are_texts kids ≡ true → Emits (raw_at drops (place + 1) page)
           (filling frames level h kids) (End h.name) (record page { text = nodes_raw_text kids }) →
           Filled place
       text_filled place texts e = record {
@@ -321,42 +296,26 @@ module _ (frames : Frames) (level : ℕ) (above : List Ancestor) (h : Head) (kid
       script_ends e = sym (ap is_escaped (states_of state.Data kids)) ∙ fits.script e
 
       -- in which no references are read
-      pub raw_filled : is_escapable_raw h.name ≡ false →
-          inside frames level h kids ≡ nodes_raw_text kids →
-          are_texts kids ≡ true → all is_text_char (nodes_raw_text kids) ≡ true →
-          holds_closing h.name (nodes_raw_text kids) ≡ false → (place : ℕ) → Filled place
+      pub raw_filled : is_escapable_raw h.name ≡ false → inside frames level h kids
+          ≡ nodes_raw_text kids → are_texts kids ≡ true → all is_text_char (nodes_raw_text kids)
+          ≡ true → holds_closing h.name (nodes_raw_text kids) ≡ false → (place : ℕ) → Filled place
       raw_filled escapable same texts good shuts place =
           let keeps = raw_keeps h.name raw escapable in
-          let words = nodes_raw_text kids in
-          let ends = end_tag_text h.name in
-          let after : Page = record page { text = words } in
-          let kept : drops ≡ false = keeps_it (of kind.DropsFeed (lowered h.name))
-          (open_elements.is_html it.space) (of kind.DropsFeed h.name) keeps in
-          let is : feed_text h kids ++ (inside frames level h kids ++ ends) ≡ words ++ ends =
-          ap (λ b. (if b && begins_with_feed kids then codes "\n" else [])
-          ++ (inside frames level h kids ++ ends)) (undropped_by h.name keeps)
-          ∙ ap (λ l. l ++ ends) same in
-          text_filled place texts (subst (λ b. Emits (raw_at b (place + 1) page)
-          (feed_text h kids ++ (inside frames level h kids ++ ends)) (End h.name) after) (sym kept)
-          (subst (λ l. Emits (raw_at false (place + 1) page) l (End h.name) after) (sym is)
-          (raw_emits h.name words (place + 1) page it outer refl refl in_html raw
-          (escapable_same h.name ∙ escapable) refl takes good returns shuts script_ends)))
+          let kept : drops ≡ false = and_right _ _ (and_right _ _ keeps) in
+          text_filled place texts (rw (kept, undropped_by h.name keeps, same)
+          (raw_emits within takes (nodes_raw_text kids) (place + 1) raw
+          (escapable_same h.name ∙ escapable) good returns shuts script_ends))
 
       -- in which they are
-      pub escapable_filled : is_raw h.name ≡ false → is_escapable_raw h.name ≡ true →
-          (place : ℕ) → Filled place
+      pub escapable_filled : is_raw h.name ≡ false → is_escapable_raw h.name ≡ true → (place : ℕ) →
+          Filled place
       escapable_filled r escapable place =
-          let words = nodes_raw_text kids in
           let f : nodes_raw_faults (escaping_of false) kids ≡ [] = rw (r, escapable) at faultless in
           let texts = texts_by_faults (escaping_of false) kids f in
-          let same : inside frames level h kids ≡ escaped_text (escaping_of false) words
-          = rw (r, escapable) refl in
-          text_filled place texts (subst (λ l. Emits (raw_at drops (place + 1) page)
-          (feed_text h kids ++ (l ++ end_tag_text h.name)) (End h.name)
-          (record page { text = words })) (sym same)
-          (escapable_emits h.name words (is_fed h kids) drops (place + 1) page it outer refl refl
-          in_html raw (escapable_same h.name ∙ escapable) refl takes
-          (raw_good (escaping_of false) kids f) returns fed_drops
+          text_filled place texts (rw (r, escapable)
+          (escapable_emits within takes (escapable_same h.name ∙ escapable) raw
+          (nodes_raw_text kids)
+          (raw_good (escaping_of false) kids f) returns (is_fed h kids) drops (place + 1) fed_drops
           (λ x y. first_feed kids texts (no_feed y x))))
 
       -- each element of text alone
@@ -366,20 +325,18 @@ module _ (frames : Frames) (level : ℕ) (above : List Ancestor) (h : Head) (kid
           let f : raw_content_faults h kids ≡ [] = rw x at faultless in
           raw_filled (not_escapable h.name x) (rw x refl) (raw_texts h kids f)
           (raw_chars h kids f) (test_fails (holds_closing h.name (nodes_raw_text kids))
-          (fault.RawClosing (record { 0 = h.span }))
-          (right_empty _ (closing_faults h kids) f)) place
+          (fault.RawClosing (record { 0 = h.span })) (right_empty _ _ f)) place
       alone_filled false true x y place = escapable_filled x y place
       alone_filled false false x y place =
-          let read : is_raw_when_read h.name ≡ true = and_from (of kind.Raw h.name) _ raw
+          let read : is_raw_when_read h.name ≡ true = and_from _ _ raw
           (not_from_false (of kind.ScriptOrStyle h.name || of kind.EscapableRaw h.name)
           (rw (script_or_style h.name, escapable_same h.name, x, y) refl)) in
           let plain = fits.plain read in
           let texts = plain_texts h.pre_span kids plain in
           let f : nodes_faults frames h.pre_span false kids ≡ [] = rw (x, y) at faultless in
           let good = texts_good frames h.pre_span kids texts.0 f in
-          let same : inside frames level h kids ≡ nodes_text frames h.pre_span true (shut level)
-          kids
-          = rw (x, y) refl in
+          let same : inside frames level h kids
+          ≡ nodes_text frames h.pre_span true (shut level) kids = rw (x, y) refl in
           raw_filled y (same ∙ plains_written frames h.pre_span true level kids plain good) texts.0
           good (none_closes h.name (nodes_raw_text kids) texts.1) place
 
@@ -390,22 +347,19 @@ module _ (frames : Frames) (level : ℕ) (above : List Ancestor) (h : Head) (kid
     html_not = html_is (space_of (reading_of above) h.name) ∙ html
 
     drops_not : drops ≡ false
-    drops_not = and_right (of kind.DropsFeed (lowered h.name)) (is_of (of kind.DropsFeed) it)
-        (ap (λ b. b && of kind.DropsFeed h.name) html_not)
+    drops_not = and_right _ _ (ap (λ b. b && of kind.DropsFeed h.name) html_not)
 
     fed_not : is_fed h kids ≡ true → drops ≡ true
     fed_not e =
-        let both = and_parts (drops_feed h.name) (begins_with_feed kids) e in
-        absurd (both_ways (begins_with_feed kids)
-        (feed_is kids returns ∙ fits.feed both.0) both.1)
+        let both = and_parts _ _ e in
+        absurd (both_ways _ (feed_is kids returns ∙ fits.feed both.0) both.1)
 
     -- texts alone, or nodes
     by_nodes : (pre_span : Bool) → nodes_faults frames pre_span false kids ≡ [] →
         inside frames level h kids ≡ nodes_text frames pre_span true (shut level) kids →
         (place : ℕ) → Filled place
-    by_nodes pre_span f same place =
-        data_filled (ap (λ b. b && of kind.Raw h.name) html_not) all pre_span f same fed_not
-        (λ x d. absurd (false≢true (sym drops_not ∙ d))) place
+    by_nodes pre_span f same place = data_filled (ap (λ b. b && of kind.Raw h.name) html_not)
+        all pre_span f same fed_not (λ x d. absurd (false≢true (sym drops_not ∙ d))) place
 
     pub foreign_filled : (r e : Bool) → is_raw h.name ≡ r → is_escapable_raw h.name ≡ e →
         (place : ℕ) → Filled place
@@ -418,9 +372,8 @@ module _ (frames : Frames) (level : ℕ) (above : List Ancestor) (h : Head) (kid
     foreign_filled false true x y place =
         let f : nodes_raw_faults (escaping_of false) kids ≡ [] = rw (x, y) at faultless in
         let texts = texts_by_faults (escaping_of false) kids f in
-        let same : inside frames level h kids ≡ escaped_text (escaping_of false)
-        (nodes_raw_text kids)
-        = rw (x, y) refl in
+        let same : inside frames level h kids
+        ≡ escaped_text (escaping_of false) (nodes_raw_text kids) = rw (x, y) refl in
         by_nodes false (texts_clean frames kids texts (raw_good (escaping_of false) kids f))
         (same ∙ sym (texts_written frames true level kids texts)) place
     foreign_filled false false x y place =

@@ -1,9 +1,8 @@
 -- Children that are gathered, with the text since the last of them, and their normal form.
 use Rattle.std.proofs.Common.{◌≡◌, ℕ, Bool, true, false, List, [], ◌∷◌, ◌++◌, refl, sym, ap, ◌∙◌, Ok}
 use Rattle.html_dom_tree.{proofs.Basics.{put_twice}, specs.PlainTree.{branch, Plains, no_plains, plain, put_words, nodes_normal}}
-use Rattle.html_dom_tree.specs.Tree.{NodeView, tag_node, text_node, element_node, frame_node, NodesView, none, node, with_last}
-use Rattle.typst_html_encode.proofs.Runs.{right_empty}
-use Rattle.typst_html_encode.specs.{ExportFaults.{nodes_raw_faults, text_faults, void_faults}, Text.{nodes_raw_text}}
+use Rattle.html_dom_tree.specs.Tree.{NodeView, tag_node, text_node, element_node, NodesView, none, node, with_last}
+use Rattle.typst_html_encode.{proofs.Runs.{right_empty}, specs.{ExportFaults.{nodes_raw_faults, void_faults}, Text.{nodes_raw_text}}}
 use Rattle.html_page_names.specs.ForeignNames.{lowered}
 use Rattle.html_page_stack.specs.{OpenElements.{OpenElement, with_text}, Pages.{Page, End}}
 use Rattle.html_page_tree.specs.PageTrees.{token_read}
@@ -12,10 +11,9 @@ use Rattle.typst_html_nesting_laws.proofs.Readers.{data_at, run_on}
 
 -- plain nodes behind a node, and behind nodes
 abbrev pub put_node : NodeView → Plains → Plains
-put_node (tag_node t) k = k
 put_node (text_node s span) k = put_words s k
 put_node (element_node h kids) k = plain (branch h.name h.attrs (nodes_normal kids)) k
-put_node (frame_node f) k = k
+put_node n k = k
 
 abbrev pub put_nodes : NodesView → Plains → Plains
 put_nodes none k = k
@@ -24,11 +22,10 @@ put_nodes (node n ns) k = put_node n (put_nodes ns k)
 pub normal_is : (ns : NodesView) → nodes_normal ns ≡ put_nodes ns no_plains
 unfolding nodes_normal
 normal_is none = refl
-normal_is (node (tag_node t) ns) = normal_is ns
 normal_is (node (text_node s span) ns) = ap (put_words s) (normal_is ns)
 normal_is (node (element_node h kids) ns) =
     ap (plain (branch h.name h.attrs (nodes_normal kids))) (normal_is ns)
-normal_is (node (frame_node f) ns) = normal_is ns
+normal_is (node n ns) = normal_is ns
 
 pub put_last : (ns : NodesView) (n : NodeView) (k : Plains) →
     put_nodes (with_last ns n) k ≡ put_nodes ns (put_node n k)
@@ -40,9 +37,8 @@ abbrev pub texted_children : (span : ℕ) → NodesView → (text : List ℕ) �
 texted_children span c [] = c
 texted_children span c (x ∷ xs) = with_last c (text_node (x ∷ xs) span)
 
-pub with_text_is : (t : List ℕ) (o : OpenElement) (c : NodesView) →
-    with_text t (record o { children = c })
-    ≡ record o { children = texted_children o.head.span c t }
+pub with_text_is : (t : List ℕ) (o : OpenElement) (c : NodesView) → with_text t
+    (record o { children = c }) ≡ record o { children = texted_children o.head.span c t }
 with_text_is [] o c = refl
 with_text_is (x ∷ xs) o c = refl
 
@@ -58,12 +54,10 @@ are_texts (node (tag_node t) ns) = are_texts ns
 are_texts (node (text_node s span) ns) = are_texts ns
 are_texts (node n ns) = false
 
-pub texts_by_faults : (e : _) (ns : NodesView) → nodes_raw_faults e ns ≡ [] →
-    are_texts ns ≡ true
+pub texts_by_faults : (e : _) (ns : NodesView) → nodes_raw_faults e ns ≡ [] → are_texts ns ≡ true
 texts_by_faults e none f = refl
 texts_by_faults e (node (tag_node t) ns) f = texts_by_faults e ns f
-texts_by_faults e (node (text_node s span) ns) f =
-    texts_by_faults e ns (right_empty (text_faults e span s) (nodes_raw_faults e ns) f)
+texts_by_faults e (node (text_node s span) ns) f = texts_by_faults e ns (right_empty _ _ f)
 texts_by_faults e (node n ns) f = cc
 
 pub put_texts : (ns : NodesView) → are_texts ns ≡ true → (k : Plains) →
@@ -80,8 +74,8 @@ no_children span none h = refl
 no_children span (node n ns) h = cc
 
 -- a page with these children of the current node, and that text since
-abbrev pub on : Page → OpenElement → List OpenElement → NodesView → (text : List ℕ) →
-    (start : ℕ) → Page
+abbrev pub on : Page → OpenElement → List OpenElement → NodesView → (text : List ℕ) → (start : ℕ) →
+    Page
 on p o os c t s = record p { text = t; stack = record o { children = c } ∷ os; start = s }
 
 -- nodes are read, behind children and a text
@@ -96,17 +90,17 @@ pub record AreGathered (q : PageReader) (text : List ℕ) (fresh : Bool) (p : Pa
       put_nodes children (put_words words k) ≡ put_nodes c (put_words t (put_nodes ns k))
 
 -- a node, and then nodes
-pub gathered_on : (q : PageReader) (xs ys : List ℕ) (fresh last : Bool) (p : Page) (o : OpenElement)
-    (os : List OpenElement) (c : NodesView) (t : List ℕ) (n : NodeView) (ns : NodesView) →
+pub gathered_on : {q : PageReader} {xs ys : List ℕ} {fresh last : Bool} {p : Page} {o : OpenElement}
+    {os : List OpenElement} {c : NodesView} {t : List ℕ} {n : NodeView} {ns : NodesView}
     (g : AreGathered q xs fresh p o os c t (node n none)) →
     AreGathered (data_at fresh g.place (on p o os g.children g.words g.start)) ys last p o os
     g.children g.words ns → AreGathered q (xs ++ ys) last p o os c t (node n ns)
-gathered_on q xs ys fresh last p o os c t n ns g h = record {
+gathered_on {xs = xs} {ys = ys} {ns = ns} g h = record {
   children = h.children;
   words = h.words;
   place = h.place;
   start = h.start;
-  is = run_on q (data_at fresh g.place (on p o os g.children g.words g.start)) _ xs ys g.is h.is;
+  is = run_on _ _ _ xs ys g.is h.is;
   same = λ k. h.same k ∙ g.same (put_nodes ns k);
 }
 
@@ -117,16 +111,13 @@ pub record IsFilled (q : PageReader) (text name : List ℕ) (kids : NodesView) (
   pub words : List ℕ
   pub start : ℕ
   pub place : ℕ
-  pub is : (after : Page) →
-      token_read (End (lowered name)) (on p o os children words start) ≡ Ok after →
-      run q text ≡ Ok (data_at false place after)
+  pub is : (after : Page) → token_read (End (lowered name)) (on p o os children words start)
+      ≡ Ok after → run q text ≡ Ok (data_at false place after)
   pub same : (k : Plains) → put_nodes children (put_words words k) ≡ put_nodes kids k
 
 -- the normal form of what was filled in
-pub filled_normal : (q : PageReader) (text name : List ℕ) (kids : NodesView) (p : Page)
-    (o : OpenElement) (os : List OpenElement) (span : ℕ) (f : IsFilled q text name kids p o os) →
+pub filled_normal : {q : PageReader} {text name : List ℕ} {kids : NodesView} {p : Page}
+    {o : OpenElement} {os : List OpenElement} (span : ℕ) (f : IsFilled q text name kids p o os) →
     nodes_normal (texted_children span f.children f.words) ≡ nodes_normal kids
-filled_normal q text name kids p o os span f =
-    normal_is (texted_children span f.children f.words)
-    ∙ (put_texted span f.children f.words no_plains
-    ∙ (f.same no_plains ∙ sym (normal_is kids)))
+filled_normal {kids = kids} span f = normal_is (texted_children span f.children f.words)
+    ∙ (put_texted span f.children f.words no_plains ∙ (f.same no_plains ∙ sym (normal_is kids)))

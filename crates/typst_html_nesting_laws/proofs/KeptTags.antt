@@ -1,20 +1,20 @@
 -- A start tag whose name and attributes keep their case is read as it is.
-use Rattle.std.proofs.Common.{◌≡◌, ℕ, ◌<◌, Bool, true, false, not, List, [], length, inl, inr, map-id, refl, sym, ap, ◌∙◌, Ok}
-use Rattle.std.{proofs.lemmas.Bool.{cases_Bool, false≢true}, specs.Prelude.{if◌then◌else◌}}
+use Rattle.std.proofs.{Common.{◌≡◌, ℕ, ◌<◌, Bool, true, false, not, List, length, map-id, refl, sym, ap, ◌∙◌, Ok}, lemmas.Bool.{false≢true}}
+use Rattle.std.specs.Prelude.{if◌then◌else◌}
 use Rattle.html_names_core.specs.Kinds.{is_foreign_self_closing}
 use Rattle.html_dom_tree.specs.{Attributes.{names_differ}, Tree.{TextPair, Head}}
-use Rattle.html_page_nesting.specs.Ancestors.{begun_space, is_html, is_read_as_html, space_of}
+use Rattle.html_page_nesting.specs.{Ancestors.{begun_space, is_html, is_read_as_html, space_of}, declared.reading.Space.{Space}}
 use Rattle.html_page_nesting.specs.{WrittenTags.{capital_attrs, capital_tags, keep_case}, declared.reading.Reading.{Reading}}
+use Rattle.html_page_nesting.specs.declared.reading.Space.TheVariants.{Html, Svg, MathMl}
 use Rattle.html_page_nesting.specs.declared.reading.Reading.TheVariants as reading
-use Rattle.html_page_nesting.specs.declared.reading.{Space.{Space}, Space.TheVariants.{Html, Svg, MathMl}}
 use Rattle.html_page_names.specs.{ForeignNames.{keeps_case, lowered, svg_attrs, svg_names, math_attrs}, PageNames.{of}}
 use Rattle.html_page_names.specs.declared.kind.Kind.TheVariants as kind
-use Rattle.html_page_stack.specs.Pages.{Page, StartTag, ◌next◌, opened}
+use Rattle.html_page_stack.specs.Pages.{Page, StartTag, opened}
 use Rattle.html_page_stack.specs.declared.modes.Space.TheVariants as spaces
 use Rattle.html_page_tree.specs.PageBodies.{entered, foreign_attrs, foreign_name}
 use Rattle.typst_html_nesting_laws.proofs.Capitals.{attrs_back, attrs_come_back, attrs_small, capitals_back, names_lowered_differ, small_back}
-use Rattle.typst_html_nesting_laws.proofs.{KindFacts.{agree_of, fails_of, names}, Opened.{Opens, made, one_of, opens}}
-use Rattle.typst_html_nesting_laws.proofs.{Readers.{lowered_attrs, written_tag}, Rules.{TagFits}, Ways.{open_space}}
+use Rattle.typst_html_nesting_laws.proofs.{KindFacts.{agree_of, fails_of, names}, Opened.{Opens, made, one_of, opens}, Rules.{TagFits}}
+use Rattle.typst_html_nesting_laws.proofs.{Readers.{lowered_attrs, written_tag}, Ways.{open_space}, Branches.{decide}}
 
 -- its attributes differ in small letters
 pub lowered_differ : (s : Space) (h : Head) → TagFits s h →
@@ -32,9 +32,8 @@ small_html s n html h = absurd (false≢true html)
 
 name_back : (s : Space) (n : List ℕ) → keeps_case (capital_tags s) n ≡ true →
     foreign_name (open_space s) (lowered n) ≡ n
-name_back Html n h = small_back n h
 name_back Svg n h = capitals_back svg_names n refl h
-name_back MathMl n h = small_back n h
+name_back s n h = small_back n h
 
 pairs_back : (s : Space) (attrs : List TextPair) → keep_case (capital_attrs s) attrs ≡ true →
     foreign_attrs (open_space s) (lowered_attrs attrs) ≡ attrs
@@ -48,22 +47,20 @@ module _ (h : Head) (p : Page) (fits : length p.stack < p.limit) where
 
   pub entered_back : (s : Space) → TagFits s h → entered (open_space s) tag p
       ≡ one_of (is_foreign_self_closing h.name) (made (open_space s) h.name h.attrs p)
-  entered_back s kept =
-      let own = is_foreign_self_closing h.name in
-      ap (λ r. r next (one_of own))
-      (opens (open_space s) (foreign_name (open_space s) tag.name)
-      (foreign_attrs (open_space s) tag.attrs) p fits)
-      ∙ (ap (λ n. one_of own (made (open_space s) n (foreign_attrs (open_space s) tag.attrs) p))
-      (name_back s h.name kept.case)
-      ∙ ap (λ l. one_of own (made (open_space s) h.name l p)) (pairs_back s h.attrs kept.attrs))
+  entered_back s kept = rw (
+    opens (open_space s) _ _ p fits,
+    name_back s h.name kept.case,
+    pairs_back s h.attrs kept.attrs,
+  ) refl
 
   -- by the rules of HTML
   pub opened_back : (s : Space) → s ≡ Html → TagFits s h →
       opened tag.name tag.attrs p ≡ Ok (made (open_space s) h.name h.attrs p)
-  opened_back Html e kept =
-      opens spaces.Html tag.name tag.attrs p fits
-      ∙ (ap (λ n. Ok (made spaces.Html n tag.attrs p)) (small_back h.name kept.case)
-      ∙ ap (λ l. Ok (made spaces.Html h.name l p)) (attrs_small h.attrs kept.attrs))
+  opened_back Html e kept = rw (
+    opens spaces.Html tag.name tag.attrs p fits,
+    small_back h.name kept.case,
+    attrs_small h.attrs kept.attrs,
+  ) refl
   opened_back s e kept = absurd (cc)
 
   begun_back : (s t : Space) → s ≡ t → TagFits s h → is_foreign_self_closing h.name ≡ false →
@@ -73,19 +70,11 @@ module _ (h : Head) (p : Page) (fits : length p.stack < p.limit) where
 
 -- a name that is read by the rules of HTML has no capitals
 
-not_svg : (a b : Bool) → a ≡ false →
-    capital_tags (if a then Svg else (if b then MathMl else Html)) ≡ []
-not_svg true b h = absurd (false≢true (sym h))
-not_svg false true h = refl
-not_svg false false h = refl
-
-pub small_begun : (n : List ℕ) → keeps_case (capital_tags (begun_space n)) n ≡ true →
-    lowered n ≡ n
-small_begun n h = elim (cases_Bool (of kind.Svg n)) [
-  | inl e ↦ agree_of lowered (λ m. m) kind.Svg n (unfold names in refl) e
-  | inr e ↦ small_back n (ap (λ names. keeps_case names n)
-      (sym (not_svg (of kind.Svg n) (of kind.Math n) e)) ∙ h)
-]
+pub small_begun : (n : List ℕ) → keeps_case (capital_tags (begun_space n)) n ≡ true → lowered n ≡ n
+small_begun n h = decide (of kind.Svg n)
+    (λ e. agree_of lowered (λ m. m) kind.Svg n (unfold names in refl) e)
+    (λ e. decide (of kind.Math n) (λ f. small_back n (rw (e, f) at h))
+    (λ f. small_back n (rw (e, f) at h)))
 
 small_in : (b : Bool) (n : List ℕ) →
     keeps_case (capital_tags (if b then begun_space n else MathMl)) n ≡ true → lowered n ≡ n
@@ -95,28 +84,18 @@ small_in false n h = small_back n h
 -- how it is read does not change in small letters
 pub reading_small : (r : Reading) (n : List ℕ) → keeps_case (capital_tags (space_of r n)) n ≡ true →
     is_read_as_html r (lowered n) ≡ is_read_as_html r n
-reading_small reading.AsHtml n h = refl
-reading_small reading.AsSvg n h = refl
-reading_small reading.AsMathMl n h = refl
 reading_small reading.AsMathText n h =
     ap (λ m. not (of kind.Glyph m)) (small_in (not (of kind.Glyph n)) n h)
 reading_small reading.AsAnnotation n h = ap (of kind.Svg) (small_in (of kind.Svg n) n h)
+reading_small r n h = refl
 
 -- the element that it opens by the rules of HTML
 pub written_opens : (h : Head) (p : Page) (s : Space) → length p.stack < p.limit →
-    s ≡ begun_space h.name → TagFits s h → lowered h.name ≡ h.name →
-    is_foreign_self_closing h.name ≡ false →
-    Opens (written_tag h) p (made (open_space s) h.name h.attrs p)
+    s ≡ begun_space h.name → TagFits s h → lowered h.name ≡ h.name → is_foreign_self_closing h.name
+    ≡ false → Opens (written_tag h) p (made (open_space s) h.name h.attrs p)
 written_opens h p s fits is kept small c = record {
-  plain = λ a b. opened_back h p fits s
-      (is ∙ (ap (λ x. if x then Svg else (if of kind.Math h.name then MathMl else Html))
-      (sym (ap (of kind.Svg) small) ∙ a)
-      ∙ ap (λ x. if x then MathMl else Html) (sym (ap (of kind.Math) small) ∙ b))) kept;
-  svg = λ a. begun_back h p fits s Svg
-      (is ∙ ap (λ x. if x then Svg else (if of kind.Math h.name then MathMl else Html))
-      (sym (ap (of kind.Svg) small) ∙ a)) kept c;
-  math = λ a. let m = sym (ap (of kind.Math) small) ∙ a in begun_back h p fits s MathMl
-      (is ∙ (ap (λ x. if x then Svg else (if of kind.Math h.name then MathMl else Html))
-      (fails_of (of kind.Svg) kind.Math h.name (unfold names in refl) m)
-      ∙ ap (λ x. if x then MathMl else Html) m)) kept c;
+  plain = λ a b. opened_back h p fits s (is ∙ rw (rw small at a, rw small at b) refl) kept;
+  svg = λ a. begun_back h p fits s Svg (is ∙ rw (rw small at a) refl) kept c;
+  math = λ a. let m = rw small at a in begun_back h p fits s MathMl
+      (is ∙ rw (fails_of (of kind.Svg) kind.Math h.name (unfold names in refl) m, m) refl) kept c;
 }

@@ -1,14 +1,13 @@
 -- What holds of each name of a list holds of a name that stands in it: so kinds are compared.
 use Rattle.std.proofs.Common.{◌≡◌, ℕ, Bool, true, false, not, ◌||◌, List, [], ◌∷◌, bytes_eq, codes, inl, inr, map, refl, ap, subst, ◌∙◌}
 use Rattle.std.proofs.lemmas.Bool.{both_ways, false_from_ne_true, false≢true, not-true, or_cases}
-use Rattle.html_names_core.proofs.Basics.{bytes_eq-same}
+use Rattle.html_names_core.{proofs.Basics.{bytes_eq-same}, specs.Names.{stands_in}}
 use Rattle.html_names_core.specs.Kinds.{foreign_self_closing_names, is_escapable_raw, is_foreign_self_closing, is_raw, is_void, void_names}
-use Rattle.html_names_core.specs.Names.{stands_in}
 use Rattle.html_page_nesting.specs.Contents.{is_listing}
 use Rattle.typst_html_encode.specs.Reader.{drops_feed}
-use Rattle.html_page_names.specs.{ForeignNames.{lowered}, PageNames.{kind_names, is, of}, declared.kind.Kind.{Kind}}
+use Rattle.html_page_names.specs.{ForeignNames.{lowered}, PageNames.{kind_names, of}, declared.kind.Kind.{Kind}}
 use Rattle.html_page_names.specs.declared.kind.Kind.TheVariants as kind
-use Rattle.typst_html_nesting_laws.proofs.Branches.{second_true}
+use Rattle.typst_html_nesting_laws.proofs.Branches.{second_true, of_two}
 
 -- what is said of the names of a kind is computed where this unfolds
 unfoldable pub names : Unit {0}
@@ -29,10 +28,7 @@ agree_in f g [] n same h = absurd (false≢true h)
 agree_in f g (m ∷ ms) n same h =
     let here : f m ≡ g m = cc in
     let more : map f ms ≡ map g ms = cc in
-    elim (or_cases (bytes_eq m n) (stands_in ms n) h) [
-      | inl e ↦ subst (λ x. f x ≡ g x) (bytes_eq-same m n e) here
-      | inr e ↦ agree_in f g ms n more e
-    ]
+    of_two h (λ e. subst (λ x. f x ≡ g x) (bytes_eq-same _ _ e) here) (agree_in f g ms n more)
 
 -- the same of the names of a kind, which `unfold names in refl` compares
 pub agree_of : {A : Type 0} (f g : List ℕ → A) (k : Kind) (n : List ℕ) →
@@ -51,18 +47,12 @@ fails_of test k n none h = agree_of test (λ m. false) k n none h
 -- a name that passes a test is none of a kind whose names all fail it
 pub none_of : (test : List ℕ → Bool) (k : Kind) (n : List ℕ) → AllFail test (kind_names k) →
     test n ≡ true → of k n ≡ false
-none_of test k n none h =
-    false_from_ne_true (of k n) (λ e. both_ways (test n) (fails_of test k n none e) h)
+none_of test k n none h = false_from_ne_true _ (λ e. both_ways _ (fails_of test k n none e) h)
 
 -- and one that fails it is none of a kind whose names all pass it
 pub outside_of : (test : List ℕ → Bool) (k : Kind) (n : List ℕ) → AllPass test (kind_names k) →
     test n ≡ false → of k n ≡ false
-outside_of test k n all h =
-    false_from_ne_true (of k n) (λ e. both_ways (test n) h (passes_of test k n all e))
-
--- names that are equal are of the same kinds
-pub of_same : (k : Kind) (m n : List ℕ) → is n m ≡ true → of k m ≡ of k n
-of_same k m n h = ap (of k) (bytes_eq-same m n h)
+outside_of test k n all h = false_from_ne_true _ (λ e. both_ways _ h (passes_of test k n all e))
 
 -- kinds of the writer's names, and of the reader's
 
@@ -89,9 +79,8 @@ module _ (n : List ℕ) where
 
   -- of raw elements only `textarea` drops a line feed
   pub raw_keeps : of kind.Raw n ≡ true → is_escapable_raw n ≡ false → of kind.DropsFeed n ≡ false
-  raw_keeps h e = not-true (of kind.DropsFeed n) (second_true (is_escapable_raw n) _
-      (passes_of (λ m. is_escapable_raw m || not (of kind.DropsFeed m)) kind.Raw n
-      (unfold names in refl) h) e)
+  raw_keeps h e = not-true _ (second_true (passes_of (λ m. is_escapable_raw m
+      || not (of kind.DropsFeed m)) kind.Raw n (unfold names in refl) h) e)
 
   pub feed_dropped : of kind.DropsFeed n ≡ true → (drops_feed n || is_listing n) ≡ true
   feed_dropped h = passes_of (λ m. drops_feed m || is_listing m) kind.DropsFeed n
@@ -110,7 +99,5 @@ module _ (n : List ℕ) where
   unfolding names
   once_keeps h =
       let drops = λ (m : List ℕ). of kind.DropsFeed (lowered m) in
-      elim (or_cases (is_foreign_self_closing n) (is_void n) h) [
-        | inl e ↦ agree_in drops (λ m. false) foreign_self_closing_names n refl e
-        | inr e ↦ agree_in drops (λ m. false) void_names n refl e
-      ]
+      of_two h (λ e. agree_in drops (λ m. false) foreign_self_closing_names n refl e)
+      (λ e. agree_in drops (λ m. false) void_names n refl e)

@@ -1,12 +1,11 @@
 -- The mode that an element of HTML brings, that around it, and what may stand in it.
 use Rattle.std.proofs.{Common.{◌≡◌, ℕ, Bool, true, false, ◌&&◌, List, ◌∷◌, length, map, refl, ap, ◌∙◌}, Math.Dec.{eqb-suc-zero}}
-use Rattle.std.proofs.lemmas.{Bool.{and_parts, false≢true}, Option.{none-some}}
-use Rattle.std.specs.Prelude.{if◌then◌else◌, ◌==◌, Option, Some, None, unwrap_or}
+use Rattle.std.{proofs.lemmas.{Bool.{and_parts, false≢true}, Option.{none-some}}, specs.Prelude.{if◌then◌else◌, Option, Some, None}}
 use Rattle.html_page_nesting.specs.{Ancestors.{place_in}, declared.reading.Place.{Place}}
 use Rattle.html_page_nesting.specs.declared.reading.Place.TheVariants as place
 use Rattle.html_page_names.specs.{PageNames.{kind_names, of}, declared.kind.Kind.{Kind}}
 use Rattle.html_page_names.specs.declared.kind.Kind.TheVariants as kind
-use Rattle.html_page_stack.specs.{OpenElements.{OpenElement, html_mode, is_at, is_html, mode, named_mode}, declared.modes.Mode.{Mode}}
+use Rattle.html_page_stack.specs.{OpenElements.{OpenElement, is_at, is_html, mode, named_mode}, declared.modes.Mode.{Mode}}
 use Rattle.html_page_stack.specs.declared.modes.Mode.TheVariants.{InHead, InHeadNoscript, InText, InTable, InCaption, InColumns, InSection, InRow, InCell}
 use Rattle.typst_html_nesting_laws.proofs.KindFacts.{agree_of, names}
 
@@ -23,47 +22,38 @@ brings InRow n os = of kind.Tr n
 brings InCell n os = of kind.Cell n
 brings m n os = false
 
+brought_by : (n : List ℕ) (os : List OpenElement) (k : Kind) (m : Mode) → map (λ l. named_mode l os)
+    (kind_names k) ≡ map (λ l. Some m) (kind_names k) → of k n ≡ true → named_mode n os ≡ Some m
+brought_by n os k m same h = agree_of (λ l. named_mode l os) (λ l. Some m) k n same h
+
 pub brought : (m : Mode) (n : List ℕ) (os : List OpenElement) → brings m n os ≡ true →
     named_mode n os ≡ Some m
 unfolding names
-brought m n os h = by_mode m h where
-  by_kind : (k : Kind) (m : Mode) →
-      map (λ l. named_mode l os) (kind_names k) ≡ map (λ l. Some m) (kind_names k) →
-      of k n ≡ true → named_mode n os ≡ Some m
-  by_kind k m same h = agree_of (λ l. named_mode l os) (λ l. Some m) k n same h
-
-  by_mode : (m : Mode) → brings m n os ≡ true → named_mode n os ≡ Some m
-  by_mode InHead h = by_kind kind.Head InHead refl h
-  by_mode InHeadNoscript h =
-      let both = and_parts (of kind.Noscript n) (is_at (of kind.Head) os) h in
-      let in_head = λ (b : Bool). if b then Some InHeadNoscript else None in
-      agree_of (λ l. named_mode l os) (λ l. in_head (is_at (of kind.Head) os)) kind.Noscript n refl
-      both.0 ∙ ap in_head both.1
-  by_mode InText h = by_kind kind.Raw InText refl h
-  by_mode InTable h = by_kind kind.Table InTable refl h
-  by_mode InCaption h = by_kind kind.Caption InCaption refl h
-  by_mode InColumns h = by_kind kind.Colgroup InColumns refl h
-  by_mode InSection h = by_kind kind.Section InSection refl h
-  by_mode InRow h = by_kind kind.Tr InRow refl h
-  by_mode InCell h = by_kind kind.Cell InCell refl h
-  by_mode _ h = absurd (false≢true h)
+brought InHead n os h = brought_by n os kind.Head InHead refl h
+brought InHeadNoscript n os h =
+    let both = and_parts _ _ h in
+    let in_head = λ (b : Bool). if b then Some InHeadNoscript else None in
+    agree_of (λ l. named_mode l os) (λ l. in_head (is_at (of kind.Head) os)) kind.Noscript n refl
+    both.0 ∙ ap in_head both.1
+brought InText n os h = brought_by n os kind.Raw InText refl h
+brought InTable n os h = brought_by n os kind.Table InTable refl h
+brought InCaption n os h = brought_by n os kind.Caption InCaption refl h
+brought InColumns n os h = brought_by n os kind.Colgroup InColumns refl h
+brought InSection n os h = brought_by n os kind.Section InSection refl h
+brought InRow n os h = brought_by n os kind.Tr InRow refl h
+brought InCell n os h = brought_by n os kind.Cell InCell refl h
+brought _ n os h = absurd (false≢true h)
 
 -- where such an element is the current one
 pub own_mode : (o : OpenElement) (os : List OpenElement) (m : Mode) → is_html o.space ≡ true →
     brings m o.head.name os ≡ true → mode (o ∷ os) ≡ m
-own_mode o os m html h =
-    ap (λ b. unwrap_or (if b then named_mode o.head.name os else None)
-    (if length os == 0 then html_mode o.children else mode os)) html
-    ∙ ap (λ x. unwrap_or x (if length os == 0 then html_mode o.children else mode os))
-    (brought m o.head.name os h)
+own_mode o os m html h = rw (html, brought m o.head.name os h) refl
 
 -- an element that brings none stands in the mode around it
 pub mode_around : (o q : OpenElement) (qs : List OpenElement) →
     (if is_html o.space then named_mode o.head.name (q ∷ qs) else None) ≡ None →
     mode (o ∷ q ∷ qs) ≡ mode (q ∷ qs)
-mode_around o q qs h =
-    ap (λ x. unwrap_or x (if length (q ∷ qs) == 0 then html_mode o.children else mode (q ∷ qs))) h
-    ∙ ap (λ b. if b then html_mode o.children else mode (q ∷ qs)) (eqb-suc-zero (length qs))
+mode_around o q qs h = rw (h, eqb-suc-zero (length qs)) refl
 
 -- the mode of a place but a body
 abbrev pub mode_in : Place → Option Mode

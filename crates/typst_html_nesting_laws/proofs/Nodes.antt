@@ -6,34 +6,30 @@ use Rattle.html_names_core.specs.Kinds.{is_escapable_raw, is_raw}
 use Rattle.html_dom_tree.{proofs.Basics.{put_twice}, specs.FrameFree.{NodeIsFrameFree, NodesAreFrameFree}}
 use Rattle.html_dom_tree.specs.Tree.{Head, NodeView, tag_node, text_node, element_node, frame_node, NodesView, none, node}
 use Rattle.html_page_nesting.specs.{Ancestors.{Ancestor, ancestor, is_html, place_of, reading_of, space_of}, Contents.{begin_with_feed}}
-use Rattle.html_page_nesting.specs.Misnested.{Finding, found, node_misnested, nodes_misnested}
-use Rattle.html_page_nesting.specs.NestingRules.{element_misnesting, is_too_deep, stranger_misnesting, text_misnesting}
-use Rattle.html_page_nesting.specs.{Surroundings.{surroundings_of}, WrittenTexts.{has_return, is_empty, is_white, is_white_char}}
+use Rattle.html_page_nesting.specs.{Misnested.{Finding, found, node_misnested, nodes_misnested}, Surroundings.{surroundings_of}}
+use Rattle.html_page_nesting.specs.{NestingRules.{element_misnesting, stranger_misnesting, text_misnesting}, declared.reading.Space.{Space}}
+use Rattle.html_page_nesting.specs.{WrittenTexts.{has_return, is_empty, is_white, is_white_char}, declared.reading.Place.{Place}}
 use Rattle.html_page_nesting.specs.declared.misnesting.Misnesting.TheVariants as why
-use Rattle.html_page_nesting.specs.declared.reading.Place.{Place}
 use Rattle.html_page_nesting.specs.declared.reading.Place.TheVariants as place
-use Rattle.html_page_nesting.specs.declared.reading.Space.{Space}
-use Rattle.typst_html_encode.proofs.{Plainly.{shut}, Runs.{left_empty, right_empty}}
-use Rattle.typst_html_encode.specs.{ExportFaults.{attrs_faults, node_faults, nodes_faults, text_faults, void_faults}, FrameWriters.{Frames}}
-use Rattle.typst_html_encode.specs.{Layout.{due_after}, ReadingBack.{HeadIsNamed, NodeIsNamed, NodesAreNamed}}
+use Rattle.typst_html_encode.{proofs.{Plainly.{shut}, Runs.{left_empty, right_empty}}, specs.{FrameWriters.{Frames}, Layout.{due_after}}}
+use Rattle.typst_html_encode.specs.ExportFaults.{attrs_faults, node_faults, nodes_faults, text_faults, void_faults}
+use Rattle.typst_html_encode.specs.ReadingBack.{HeadIsNamed, NodeIsNamed, NodesAreNamed}
 use Rattle.typst_html_encode.specs.Text.{escaped_text, escaping_of, node_text, nodes_raw_text, nodes_text, start_tag_text}
 use Rattle.html_page_names.specs.{ForeignNames.{lowered}, PageNames.{of}}
 use Rattle.html_page_names.specs.declared.kind.Kind.TheVariants as kind
-use Rattle.html_page_stack.specs.{OpenElements.{OpenElement, is_at, is_of}, Pages.{Page, End, Start, closed}}
+use Rattle.html_page_stack.specs.{OpenElements.{OpenElement, is_of}, Pages.{Page, End, Start, closed}}
 use Rattle.html_page_tree.specs.PageTrees.{token_read}
 use Rattle.html_page_read.specs.{PageReading.{run}, PageTokens.{PageReader, most_attrs}}
-use Rattle.typst_html_nesting_laws.proofs.{Alike.{html_is, html_space}, Begun.{start_taken}, Branches.{else_none, if_none}}
-use Rattle.typst_html_nesting_laws.proofs.{Closed.{calm_begun}, Ended.{end_taken}}
+use Rattle.typst_html_nesting_laws.proofs.{Alike.{html_is, html_space}, Begun.{start_taken}, Branches.{else_none, if_none, decide}}
+use Rattle.typst_html_nesting_laws.proofs.{Closed.{calm_begun}, Ended.{end_taken}, InnerTexts.{all_pass, no_return, no_returns}}
 use Rattle.typst_html_nesting_laws.proofs.Fillings.{KidsAreGathered, alone_filled, around, behind_data, child_normal, closes, element_closed, foreign_filled, fresh_behind, html_filled, filling, inside_faults, opened, opened_page, with_child}
 use Rattle.typst_html_nesting_laws.proofs.Forms.{AreGathered, IsFilled, gathered_on, no_children, on, put_nodes, texted_children, with_text_is}
-use Rattle.typst_html_nesting_laws.proofs.{InnerTexts.{all_pass, no_return, no_returns}, KeptTags.{lowered_differ, small_html}}
-use Rattle.typst_html_nesting_laws.proofs.KindFacts.{escapable_of, once_keeps, raw_of}
-use Rattle.typst_html_nesting_laws.proofs.Readers.{Emits, Takes, behind, data_at, written_tag}
+use Rattle.typst_html_nesting_laws.proofs.{KeptTags.{lowered_differ, small_html}, KindFacts.{escapable_of, once_keeps, raw_of}}
+use Rattle.typst_html_nesting_laws.proofs.{Readers.{Emits, Takes, behind, data_at, written_tag}, StartTags.{start_emits}}
 use Rattle.typst_html_nesting_laws.proofs.Rules.{ContentFits, TagFits, content_fits, foreign_fits, found_none, html_read, still_no_page, tag_fits}
-use Rattle.typst_html_nesting_laws.proofs.{StartTags.{start_emits}, Steady.{steady_begun}, Taken.{body_takes, raw_takes, white_takes}}
-use Rattle.typst_html_nesting_laws.proofs.Texts.{begins_with_lf, text_leads}
-use Rattle.typst_html_nesting_laws.proofs.Ways.{AreAlike, IsAlike, IsCalm, IsSteady, ends_at_once, is_page_place, marks}
-use Rattle.typst_html_nesting_laws.specs.TreesStay.{NodeIsReadable, NodesAreReadable}
+use Rattle.typst_html_nesting_laws.proofs.{Steady.{steady_begun}, Taken.{body_takes, raw_takes, white_takes}}
+use Rattle.typst_html_nesting_laws.{proofs.Texts.{begins_with_lf, text_leads}, specs.TreesStay.{NodeIsReadable, NodesAreReadable}}
+use Rattle.typst_html_nesting_laws.proofs.Ways.{AreAlike, IsCalm, IsSteady, ends_at_once, is_page_place, marks}
 
 -- a page in whose current node nodes are read
 pub record IsInside (above : List Ancestor) (p : Page) (o : OpenElement) (os : List OpenElement) :
@@ -62,63 +58,49 @@ pub record ElementFits (above : List Ancestor) (h : Head) (kids : NodesView) : T
   pub fits : element_misnesting h kids (surroundings_of above) ≡ None
   pub below : NodesFit (ancestor h above ∷ above) kids
 
-pub rest_fits : (above : List Ancestor) (n : NodeView) (ns : NodesView) → NodesFit above
-    (node n ns) →
-    NodesFit above ns
+pub rest_fits : {above : List Ancestor} {n : NodeView} {ns : NodesView} →
+    NodesFit above (node n ns) → NodesFit above ns
 unfolding NodesAreNamed NodesAreFrameFree NodesAreReadable nodes_misnested
-rest_fits above n ns f = record {
+rest_fits f = record {
   path = f.path;
   index = suc f.index;
   named = f.named.1;
   frame_free = f.frame_free.1;
   readable = f.readable.1;
-  nested = right_empty (node_misnested (f.path ++ f.index ∷ []) above n)
-      (nodes_misnested f.path (suc f.index) above ns) f.nested;
+  nested = right_empty _ _ f.nested;
 }
 
 shallow_by : (deep : Bool) (path : List ℕ) (span : ℕ) (more : List Finding) →
-    (if deep then found path span (Some why.TooDeep) else more) ≡ [] →
-    (deep ≡ false) × (more ≡ [])
+    (if deep then found path span (Some why.TooDeep) else more) ≡ [] → (deep ≡ false) × (more ≡ [])
 shallow_by true path span more h = (cc, cc)
 shallow_by false path span more h = (refl, h)
 
-pub element_fits : (above : List Ancestor) (h : Head) (kids ns : NodesView) →
+pub element_fits : {above : List Ancestor} {h : Head} {kids ns : NodesView} →
     NodesFit above (node (element_node h kids) ns) → ElementFits above h kids
 unfolding NodeIsNamed NodesAreNamed NodeIsFrameFree NodesAreFrameFree NodeIsReadable
-    NodesAreReadable
-    node_misnested nodes_misnested
-element_fits above h kids ns f =
-    let way = f.path ++ f.index ∷ [] in
-    let here = found way h.span (element_misnesting h kids (surroundings_of above)) in
-    let inner = nodes_misnested way 0 (ancestor h above ∷ above) kids in
-    let x = shallow_by (is_too_deep (surroundings_of above)) way h.span (here ++ inner)
-    (left_empty (node_misnested way above (element_node h kids))
-    (nodes_misnested f.path (suc f.index) above ns) f.nested) in
+    NodesAreReadable node_misnested nodes_misnested
+element_fits f =
+    let x = shallow_by _ _ _ _ (left_empty _ _ f.nested) in
     record {
       named = f.named.0.0;
       template = f.readable.0.0.0;
       few = f.readable.0.0.1;
-      shallow = ltb-false 512 (length above) x.0;
-      fits = found_none way h.span (element_misnesting h kids (surroundings_of above))
-          (left_empty here inner x.1);
+      shallow = ltb-false _ _ x.0;
+      fits = found_none _ _ _ (left_empty _ _ x.1);
       below = record {
-        path = way;
+        path = f.path ++ f.index ∷ [];
         index = 0;
         named = f.named.0.1;
         frame_free = f.frame_free.0;
         readable = f.readable.0.1;
-        nested = right_empty here inner x.1;
+        nested = right_empty _ _ x.1;
       };
     }
 
-pub text_fits : (above : List Ancestor) (s : List ℕ) (span : ℕ) (ns : NodesView) →
+pub text_fits : {above : List Ancestor} {s : List ℕ} {span : ℕ} {ns : NodesView} →
     NodesFit above (node (text_node s span) ns) → text_misnesting s (surroundings_of above) ≡ None
 unfolding node_misnested nodes_misnested
-text_fits above s span ns f =
-    let way = f.path ++ f.index ∷ [] in
-    found_none way span (text_misnesting s (surroundings_of above))
-    (left_empty (found way span (text_misnesting s (surroundings_of above)))
-    (nodes_misnested f.path (suc f.index) above ns) f.nested)
+text_fits f = found_none _ _ _ (left_empty _ _ f.nested)
 
 -- a calm page stays so, whatever children the current node has
 pub calm_on : (above : List Ancestor) (p : Page) (o : OpenElement) (os : List OpenElement)
@@ -133,8 +115,7 @@ calm_on above p o os c t s e calm = record {
   alike_with : (above : List Ancestor) → AreAlike above (o ∷ os) →
       AreAlike above (record o { children = c } ∷ os)
   alike_with [] h = h
-  alike_with (a ∷ above) h =
-      (record { name = h.0.name; attrs = h.0.attrs; space = h.0.space }, h.1)
+  alike_with (a ∷ above) h = (record { name = h.0.name; attrs = h.0.attrs; space = h.0.space }, h.1)
 
 -- characters of a text are taken
 record AreTaken (p : Page) (s : List ℕ) : Type 0 where
@@ -146,8 +127,7 @@ taken_in : (w : Place) (above : List Ancestor) (p : Page) (s : List ℕ) → pla
     IsCalm above p → IsSteady above p.stack → is_page_place (place_of above) ≡ false →
     (if has_return s then Some why.CarriageReturn
     else (if is_white s then None else stranger_misnesting w)) ≡ None → AreTaken p s
-taken_in place.Page above p s e calm steady n m =
-    absurd (true≢false (sym (ap is_page_place e) ∙ n))
+taken_in place.Page above p s e calm steady n m = absurd (true≢false (sym (ap is_page_place e) ∙ n))
 taken_in place.Body above p s e calm steady n m = record {
   passes = λ c. true;
   takes = body_takes above p calm steady e;
@@ -156,15 +136,14 @@ taken_in place.Body above p s e calm steady n m = record {
 taken_in w above p s e calm steady n m = record {
   passes = is_white_char;
   takes = white_takes above p calm n (λ b. let x = sym e ∙ b in cc);
-  all = (else_none (is_white s) _ None (if_none (has_return s) why.CarriageReturn _ m).1).0;
+  all = (else_none _ (if_none why.CarriageReturn m).1).0;
 }
 
 pub text_gathered : (above : List Ancestor) (p : Page) (o : OpenElement) (os : List OpenElement)
     (c : NodesView) (t : List ℕ) (s : ℕ) (pre_span fresh : Bool) (place : ℕ) (text : List ℕ)
     (span : ℕ) (passes : ℕ → Bool) → Takes passes (on p o os c t s) → list_all passes text ≡ true →
-    text_faults (escaping_of pre_span) span text ≡ [] →
-    text_misnesting text (surroundings_of above) ≡ None →
-    (fresh ≡ true → begins_with_lf text ≡ false) →
+    text_faults (escaping_of pre_span) span text ≡ [] → text_misnesting text (surroundings_of above)
+    ≡ None → (fresh ≡ true → begins_with_lf text ≡ false) →
     AreGathered (data_at fresh place (on p o os c t s)) (escaped_text (escaping_of pre_span) text)
     (fresh && is_empty text) p o os c t (node (text_node text span) none)
 text_gathered above p o os c t s pre_span fresh place text span passes takes all f m first =
@@ -183,20 +162,20 @@ text_gathered above p o os c t s pre_span fresh place text span passes takes all
 first_behind : (fresh : Bool) (text : List ℕ) (span : ℕ) (ns : NodesView) →
     (fresh ≡ true → begin_with_feed (node (text_node text span) ns) ≡ false) →
     (fresh && is_empty text) ≡ true → begin_with_feed ns ≡ false
-first_behind fresh [] span ns h e = h (and_parts fresh true e).0
-first_behind fresh (x ∷ xs) span ns h e = absurd (false≢true (and_parts fresh false e).1)
+first_behind fresh [] span ns h e = h (and_parts _ _ e).0
+first_behind fresh (x ∷ xs) span ns h e = absurd (false≢true (and_parts _ _ e).1)
 
 first_in : (fresh : Bool) (text : List ℕ) (span : ℕ) (ns : NodesView) →
-    (fresh ≡ true → begin_with_feed (node (text_node text span) ns) ≡ false) →
-    fresh ≡ true → begins_with_lf text ≡ false
+    (fresh ≡ true → begin_with_feed (node (text_node text span) ns) ≡ false) → fresh ≡ true →
+    begins_with_lf text ≡ false
 first_in fresh [] span ns h e = refl
 first_in fresh (x ∷ xs) span ns h e = h e
 
 -- its start tag is read as one
-pub element_starts : (above : List Ancestor) (h : Head) (kids : NodesView) →
+pub element_starts : {above : List Ancestor} {h : Head} {kids : NodesView} →
     ElementFits above h kids → attrs_faults h.span h.attrs ≡ [] → (fresh : Bool) (place : ℕ)
     (p : Page) → Emits (data_at fresh place p) (start_tag_text h) (Start (written_tag h)) p
-element_starts above h kids f values fresh place p =
+element_starts {above} {h} {kids} f values fresh place p =
     let tag = tag_fits h kids (surroundings_of above) f.fits in
     start_emits h h.span f.named tag.letter values tag.returns
     (lowered_differ (space_of (reading_of above) h.name) h tag) f.few fresh place p
@@ -219,11 +198,10 @@ kids_gathered frames level above p o os kids led there fit pre_span fresh place 
 
 -- what follows a start tag
 abbrev pub rest : Frames → (level : ℕ) → Head → NodesView → List ℕ
-rest frames level h kids = if ends_at_once h then []
-    else filling frames level h kids
+rest frames level h kids = if ends_at_once h then [] else filling frames level h kids
 
-module _ (frames : Frames) (level : ℕ) (above : List Ancestor) (h : Head) (kids : NodesView)
-    (p : Page) (o : OpenElement) (os : List OpenElement) (there : IsInside above p o os)
+module _ (frames : Frames) (level : ℕ) {above : List Ancestor} {h : Head} {kids : NodesView}
+    {p : Page} {o : OpenElement} {os : List OpenElement} (there : IsInside above p o os)
     (f : ElementFits above h kids) (values : attrs_faults h.span h.attrs ≡ [])
     (c : NodesView) (t : List ℕ) where
   -- behind the start tag, which begins there
@@ -252,18 +230,13 @@ module _ (frames : Frames) (level : ℕ) (above : List Ancestor) (h : Head) (kid
     steady_outer = subst (λ x. IsSteady above (x ∷ os)) (sym (with_text_is t o c))
         (there.steady (texted_children o.head.span c t))
 
-    alike_it : (children : NodesView) → IsAlike (ancestor h above)
-        (record it { children = children })
-    alike_it children = record { name = refl; attrs = refl; space = refl }
-
-    inside_it : ends_at_once h ≡ false →
-        (is_html (space_of (reading_of above) h.name) && of kind.Raw h.name) ≡ false →
-        IsInside (ancestor h above ∷ above) page it outer
+    inside_it : ends_at_once h ≡ false → (is_html (space_of (reading_of above) h.name)
+        && of kind.Raw h.name) ≡ false → IsInside (ancestor h above ∷ above) page it outer
     inside_it e r = record {
       calm = calm_filled;
       steady = λ children. steady_begun above h kids outer calm_page.alike.1 steady_outer
-          there.place
-          f.fits f.template e r (record it { children = children }) (alike_it children);
+          there.place f.fits f.template e r (record it { children = children })
+          (record { name = refl; attrs = refl; space = refl });
       place = still_no_page above h kids there.place f.fits;
       raw = ap (λ b. b && of kind.Raw h.name) (html_is (space_of (reading_of above) h.name)) ∙ r;
       limit = there.limit;
@@ -277,11 +250,9 @@ module _ (frames : Frames) (level : ℕ) (above : List Ancestor) (h : Head) (kid
         (calm_filled children words start) steady_outer there.place f.fits e
 
     fill : AreLed frames kids → ends_at_once h ≡ false → inside_faults frames h kids ≡ [] →
-        (html raw : Bool) → is_html (space_of (reading_of above) h.name) ≡ html →
-        of kind.Raw h.name ≡ raw → (place : ℕ) →
-        IsFilled (behind (Start (written_tag h)) place page) (filling frames level h kids) h.name
-        kids page it outer
-    fill led e g html raw x y place = by_kind html raw x y where
+        (place : ℕ) → IsFilled (behind (Start (written_tag h)) place page)
+        (filling frames level h kids) h.name kids page it outer
+    fill led e g place = by_kind (is_html space) (of kind.Raw h.name) refl refl where
       tag : TagFits space h
       tag = tag_fits h kids (surroundings_of above) f.fits
 
@@ -289,11 +260,10 @@ module _ (frames : Frames) (level : ℕ) (above : List Ancestor) (h : Head) (kid
       returns = no_returns f.below.path f.below.index (ancestor h above ∷ above) kids f.below.nested
 
       small : is_html space ≡ true → lowered h.name ≡ h.name
-      small x = small_html space h.name x tag.case
+      small x = small_html _ _ x tag.case
 
       content : is_html space ≡ true → ContentFits h kids
-      content x = content_fits h kids (surroundings_of above) f.fits
-          (html_read (reading_of above) h.name x)
+      content x = content_fits h kids (surroundings_of above) f.fits (html_read _ _ x)
 
       gathered : (is_html space && of kind.Raw h.name) ≡ false →
           KidsAreGathered frames level kids page it outer
@@ -305,17 +275,13 @@ module _ (frames : Frames) (level : ℕ) (above : List Ancestor) (h : Head) (kid
           kids page it outer
       by_kind true true x y =
           alone_filled frames level above h kids p o os c t s f.named.0 tag.letter returns g x
-          (small x) (content x) y
-          (raw_takes (ancestor h above ∷ above) page it outer calm_page refl (html_space space x) y)
-          (is_raw h.name) (is_escapable_raw h.name) refl refl place
+          (small x) (content x) y (raw_takes (ancestor h above ∷ above) page it outer calm_page refl
+          (html_space _ x) y) (is_raw h.name) (is_escapable_raw h.name) refl refl place
       by_kind true false x y =
           html_filled frames level above h kids p o os c t s f.named.0 tag.letter returns g x
-          (small x) (content x) y
-          (false_from_ne_true (is_raw h.name)
-          (λ r. both_ways (of kind.Raw h.name) y (raw_of h.name r)))
-          (false_from_ne_true (is_escapable_raw h.name)
-          (λ r. both_ways (of kind.Raw h.name) y (escapable_of h.name r)))
-          (gathered (and_right (is_html space) (of kind.Raw h.name) y)) place
+          (small x) (content x) y (false_from_ne_true _ (λ r. both_ways _ y (raw_of h.name r)))
+          (false_from_ne_true _ (λ r. both_ways _ y (escapable_of h.name r)))
+          (gathered (and_right _ _ y)) place
       by_kind false raw x y =
           foreign_filled frames level above h kids p o os c t s f.named.0 tag.letter returns g x
           (foreign_fits h kids (surroundings_of above) f.fits x)
@@ -327,7 +293,7 @@ module _ (frames : Frames) (level : ℕ) (above : List Ancestor) (h : Head) (kid
     before = data_at fresh place (on p o os c t s)
 
     starts : Emits before (start_tag_text h) (Start (written_tag h)) (on p o os c t s)
-    starts = element_starts above h kids f values fresh place (on p o os c t s)
+    starts = element_starts f values fresh place (on p o os c t s)
 
     -- where its start tag begins
     abbrev at_start : ℕ
@@ -335,14 +301,12 @@ module _ (frames : Frames) (level : ℕ) (above : List Ancestor) (h : Head) (kid
 
     begins : token_read (Start (written_tag h)) (on p o os c t at_start)
         ≡ (if ends_at_once h then closed true (page at_start) else Ok (page at_start))
-    begins = start_taken above h kids (on p o os c t at_start)
-        (there.calm c t at_start) (there.steady c) there.place f.fits f.template
-        (omega (arith, f.shallow, there.limit))
+    begins = start_taken above h kids (on p o os c t at_start) (there.calm c t at_start)
+        (there.steady c) there.place f.fits f.template (omega (arith, f.shallow, there.limit))
 
     -- an element that is its start tag alone
-    once : ends_at_once h ≡ true → void_faults h.span kids ≡ [] →
-        AreGathered before (start_tag_text h ++ []) false p o os c t
-        (node (element_node h kids) none)
+    once : ends_at_once h ≡ true → void_faults h.span kids ≡ [] → AreGathered before
+        (start_tag_text h ++ []) false p o os c t (node (element_node h kids) none)
     once e clean =
         let after : Page = on p o os (with_child above h p o os c t at_start none) [] at_start in
         let ends : token_read (Start (written_tag h)) (on p o os c t at_start) ≡ Ok after = begins
@@ -357,8 +321,7 @@ module _ (frames : Frames) (level : ℕ) (above : List Ancestor) (h : Head) (kid
           is = ap (run before) (append-nil (start_tag_text h)) ∙ (starts.is after ends
               ∙ (ap (λ q. Ok q) (behind_data (written_tag h) starts.place after there.raw)
               ∙ ap (λ b. Ok (data_at b (starts.place + 1) after))
-              (and_left (of kind.DropsFeed (lowered h.name)) (is_at (of kind.DropsFeed) after.stack)
-              (once_keeps h.name e))));
+              (and_left _ _ (once_keeps h.name e))));
           same = child_normal above h p o os c t at_start none kids (no_children h.span kids clean);
         }
 
@@ -367,80 +330,45 @@ module _ (frames : Frames) (level : ℕ) (above : List Ancestor) (h : Head) (kid
         AreGathered before (start_tag_text h ++ filling frames level h kids) false p o os c t
         (node (element_node h kids) none)
     whole led e g = element_closed above h p o os c t at_start before
-        (behind (Start (written_tag h)) starts.place (page at_start))
-        (filling frames level h kids) kids (there.calm c t s).lost (calm_page at_start).lost
-        (starts.is (page at_start) (begins
+        (behind (Start (written_tag h)) starts.place (page at_start)) (filling frames level h kids)
+        kids (there.calm c t s).lost (calm_page at_start).lost (starts.is (page at_start) (begins
         ∙ ap (λ b. if b then closed true (page at_start) else Ok (page at_start)) e))
-        (fill at_start led e g (is_html (space_of (reading_of above) h.name)) (of kind.Raw h.name)
-        refl refl starts.place) (ends_it at_start e)
-
-    by_ends : (b : Bool) → ends_at_once h ≡ b → AreLed frames kids →
-        (if b then void_faults h.span kids else inside_faults frames h kids) ≡ [] →
-        AreGathered before (start_tag_text h ++ (if b then [] else filling frames level h kids))
-        false p o os c t (node (element_node h kids) none)
-    by_ends true e led clean = once e clean
-    by_ends false e led clean = whole led e clean
+        (fill at_start led e g starts.place) (ends_it at_start e)
 
     pub element_gathered : AreLed frames kids →
         (if ends_at_once h then void_faults h.span kids else inside_faults frames h kids) ≡ [] →
         AreGathered before (start_tag_text h ++ rest frames level h kids) false p o os c t
         (node (element_node h kids) none)
-    element_gathered led clean = by_ends (ends_at_once h) refl led clean
+    element_gathered led clean = decide (ends_at_once h) (λ e. rw e (once e (rw e at clean)))
+        (λ e. rw e (whole led e (rw e at clean)))
 
 pub nodes_lead : (frames : Frames) (ns : NodesView) → AreLed frames ns
 unfolding node_text nodes_text node_faults nodes_faults NodeIsFrameFree NodesAreFrameFree
 nodes_lead frames none pre_span due level above p o os fresh place c t s there f clean first =
-    record {
-      children = c;
-      words = t;
-      place = place;
-      start = s;
-      is = refl;
-      same = λ k. refl;
-    }
-nodes_lead frames (node (tag_node m) ns) pre_span due level above p o os fresh place c t s there f
-    clean first =
-    let g = nodes_lead frames ns pre_span due level above p o os fresh place c t s there
-    (rest_fits above (tag_node m) ns f) clean first in
-    record {
-      children = g.children;
-      words = g.words;
-      place = g.place;
-      start = g.start;
-      is = g.is;
-      same = g.same;
-    }
+    record { children = c; words = t; place = place; start = s; is = refl; same = λ k. refl }
+nodes_lead frames (node (tag_node m) ns)
+    pre_span due level above p o os fresh place c t s there f clean first = gathered_on {xs = []}
+    (record { children = c; words = t; place = place; start = s; is = refl; same = λ k. refl })
+    (nodes_lead frames ns pre_span due level above p o os fresh place c t s there
+    (rest_fits f) clean first)
 nodes_lead frames (node (text_node text span) ns) pre_span due level above p o os fresh place c t s
     there f clean first =
-    let here = text_faults (escaping_of pre_span) span text in
-    let more = nodes_faults frames pre_span false ns in
-    let m = text_fits above text span ns f in
+    let m = text_fits f in
     let x = taken_in (place_of above) above (on p o os c t s) text refl
     (there.calm c t s) (there.steady c) there.place m in
     let g = text_gathered above p o os c t s pre_span fresh place text span x.passes x.takes x.all
-    (left_empty here more clean) m (first_in fresh text span ns first) in
-    gathered_on (data_at fresh place (on p o os c t s)) (escaped_text (escaping_of pre_span) text)
-    (nodes_text frames pre_span false (shut level) ns) (fresh && is_empty text)
-    (fresh_behind (fresh && is_empty text) ns) p o os c t (text_node text span) ns g
-    (nodes_lead frames ns pre_span false level above p o os (fresh && is_empty text) g.place
-    g.children g.words g.start there (rest_fits above (text_node text span) ns f)
-    (right_empty here more clean) (first_behind fresh text span ns first))
-nodes_lead frames (node (frame_node b) ns) pre_span due level above p o os fresh place c t s there f
-    clean first =
-    absurd f.frame_free.0
+    (left_empty _ _ clean) m (first_in fresh text span ns first) in
+    gathered_on g (nodes_lead frames ns pre_span false level above p o os
+    (fresh && is_empty text) g.place g.children g.words g.start there (rest_fits f)
+    (right_empty _ _ clean) (first_behind fresh text span ns first))
+nodes_lead frames (node (frame_node b) ns)
+    pre_span due level above p o os fresh place c t s there f clean first = absurd f.frame_free.0
 nodes_lead frames (node (element_node h kids) ns) pre_span due level above p o os fresh place c t s
     there f clean first =
-    let values = attrs_faults h.span h.attrs in
-    let content = if ends_at_once h then void_faults h.span kids else inside_faults frames h kids in
-    let more = nodes_faults frames pre_span false ns in
-    let here : values ++ content ≡ [] = left_empty (values ++ content) more clean in
-    let g = element_gathered frames (level + 1) above h kids p o os there
-    (element_fits above h kids ns f) (left_empty values content here) c t fresh place s
-    (nodes_lead frames kids) (right_empty values content here) in
-    gathered_on (data_at fresh place (on p o os c t s))
-    (start_tag_text h ++ rest frames (level + 1) h kids)
-    (nodes_text frames pre_span (due_after due (element_node h kids)) (shut level) ns) false
-    (fresh_behind false ns) p o os c t (element_node h kids) ns g
+    let g = element_gathered frames (level + 1) there (element_fits f)
+    (left_empty _ _ (left_empty _ _ clean)) c t fresh place s (nodes_lead frames kids)
+    (right_empty _ _ (left_empty _ _ clean)) in
+    gathered_on g
     (nodes_lead frames ns pre_span (due_after due (element_node h kids)) level above p o os false
-    g.place g.children g.words g.start there (rest_fits above (element_node h kids) ns f)
-    (right_empty (values ++ content) more clean) (λ e. absurd (false≢true e)))
+    g.place g.children g.words g.start there (rest_fits f) (right_empty _ _ clean)
+    (λ e. absurd (false≢true e)))

@@ -1,15 +1,14 @@
 -- An element is opened by its start tag, and closed at once where it is its start tag alone.
-use Rattle.std.proofs.Common.{◌≡◌, ℕ, ◌<◌, Bool, true, false, not, ◌||◌, List, length, refl, sym, ap, ◌∙◌, Ok}
+use Rattle.std.{proofs.Common.{◌≡◌, ℕ, ◌<◌, Bool, true, false, not, ◌||◌, List, length, refl, ap, Ok}, specs.Prelude.{if◌then◌else◌}}
 use Rattle.std.proofs.lemmas.Bool.{both_ways, false_from_ne_true, lt-leb, not-false, not-true, or_from, or_right}
-use Rattle.std.specs.Prelude.{if◌then◌else◌}
 use Rattle.html_names_core.specs.Kinds.{is_void, void_names}
 use Rattle.html_dom_tree.specs.Tree.{TextPair, none}
 use Rattle.html_page_nesting.specs.Contents.{has_unread_end}
 use Rattle.html_page_names.specs.PageNames.{of}
 use Rattle.html_page_names.specs.declared.kind.Kind.TheVariants as kind
-use Rattle.html_page_stack.specs.Pages.{Page, Reads, StartTag, ◌next◌, closed, opened, opened_in, page_head, refused, settled, with_element}
-use Rattle.html_page_stack.specs.declared.fault.PageRefusal.TheVariants as refusal
+use Rattle.html_page_stack.specs.Pages.{Page, Reads, StartTag, ◌next◌, closed, opened, opened_in, page_head, settled, with_element}
 use Rattle.html_page_stack.specs.declared.modes.Space.{Space}
+use Rattle.html_page_stack.specs.declared.fault.PageRefusal.TheVariants as refusal
 use Rattle.html_page_stack.specs.declared.modes.Space.TheVariants as spaces
 use Rattle.html_page_tree.specs.PageBodies.{entered, head_element, leaf}
 use Rattle.typst_html_nesting_laws.proofs.{Branches.{either, second_false, second_true}, KindFacts.{agree_in, fails_of, names, passes_of}}
@@ -25,9 +24,7 @@ one_of at_once q = if at_once then closed true q else Ok q
 
 pub opens : (space : Space) (name : List ℕ) (attrs : List TextPair) (p : Page) →
     length p.stack < p.limit → opened_in space name attrs p ≡ Ok (made space name attrs p)
-opens space name attrs p h =
-    ap (λ b. if b then refused refusal.TooDeep p else Ok (made space name attrs p))
-    (lt-leb p.limit (length p.stack) h)
+opens space name attrs p h = rw (lt-leb p.limit (length p.stack) h) refl
 
 -- a tag opens that element by the rules of HTML
 pub record Opens (tag : StartTag) (p q : Page) : Type 0 where
@@ -41,18 +38,15 @@ pub record Opens (tag : StartTag) (p q : Page) : Type 0 where
 -- one whose end tag would not be read
 pub void_of : (n : List ℕ) → has_unread_end n ≡ false →
     (of kind.Leaf n || of kind.HeadLeaf n) ≡ true → is_void n ≡ true
-void_of n h k = not-false (is_void n)
-    (second_false (of kind.Leaf n || of kind.HeadLeaf n) (not (is_void n)) h k)
+void_of n h k = not-false _ (second_false h k)
 
 pub not_void : (n : List ℕ) → of kind.Leaf n ≡ false → of kind.HeadLeaf n ≡ false →
     of kind.Col n ≡ false → is_void n ≡ false
 unfolding names
 not_void n a b c =
     let test = λ (m : List ℕ). (of kind.Leaf m || of kind.HeadLeaf m) || of kind.Col m in
-    false_from_ne_true (is_void n) (λ e. both_ways (test n)
-    (or_from (of kind.Leaf n || of kind.HeadLeaf n) (of kind.Col n)
-    (or_from (of kind.Leaf n) (of kind.HeadLeaf n) a b) c)
-    (agree_in test (λ m. true) void_names n refl e))
+    false_from_ne_true _ (λ e. both_ways _
+    (or_from _ _ (or_from _ _ a b) c) (agree_in test (λ m. true) void_names n refl e))
 
 -- elements of the head
 module _ (tag : StartTag) (p q : Page) (ops : Opens tag p q) where
@@ -67,8 +61,6 @@ module _ (tag : StartTag) (p q : Page) (ops : Opens tag p q) where
       let math = fails_of (of kind.Math) kind.HeadContent tag.name (unfold names in refl) h in
       let leaf_or_whole = passes_of (λ n. of kind.HeadLeaf n || not (is_void n)) kind.HeadContent
       tag.name (unfold names in refl) h in
-      either (of kind.HeadLeaf tag.name) _ _ (one_of (is_void tag.name) q)
-      (λ k. leaf_begun svg math ∙ ap (λ b. one_of b q)
-      (sym (void_of tag.name e (or_right (of kind.Leaf tag.name) _ k))))
-      (λ k. ops.plain svg math ∙ ap (λ b. one_of b q) (sym (not-true (is_void tag.name)
-      (second_true (of kind.HeadLeaf tag.name) (not (is_void tag.name)) leaf_or_whole k))))
+      either (of kind.HeadLeaf tag.name)
+      (λ k. rw (void_of tag.name e (or_right _ _ k)) (leaf_begun svg math))
+      (λ k. rw (not-true (is_void tag.name) (second_true leaf_or_whole k)) (ops.plain svg math))

@@ -1,27 +1,25 @@
 -- Elements of text alone are read as they are, as far as their end tags.
-use Rattle.std.proofs.Common.{◌≡◌, ℕ, zero, suc, ◌+◌, ◌-◌, ◌<◌, ◌≤◌, min, Bool, true, false, ◌&&◌, ◌⊎◌, inl, inr, eqb, List, [], ◌∷◌, ◌++◌, codes, length, take, drop, map, Some, None, refl, ap, ◌∙◌, sym, subst, append_assoc, arith, length-append, Ok}
-use Rattle.std.proofs.Math.{Bool.{and-false}, Seq.{drop-append-add}}
-use Rattle.std.proofs.lemmas.Bool.{and_parts, and_from, and_left, and_right, both_ways, or_parts, cases_Bool, false_from_ne_true, false≢true, eqb-true, leb-true, le-leb}
-use Rattle.std.proofs.lemmas.{List.{append-nil, take-append-drop, take_at, drop_at, length-map}, Bool.Decides.{nat_tests}}
-use Rattle.std.proofs.lemmas.{List.Sums.{fold-append}, Slice.Eq.{bytes_eq-Decides}}
+use Rattle.std.proofs.Common.{◌≡◌, ℕ, zero, suc, ◌+◌, ◌-◌, ◌<◌, ◌≤◌, min, Bool, true, false, ◌&&◌, ◌⊎◌, inl, inr, eqb, List, [], ◌∷◌, ◌++◌, codes, length, take, drop, map, Some, None, refl, ap, ◌∙◌, sym, append_assoc, arith, length-append, Ok}
+use Rattle.std.proofs.{Math.{Bool.{and-false}, Seq.{drop-append-add}}, lemmas.{Bool.Decides.{nat_tests}, List.Sums.{fold-append}}}
+use Rattle.std.proofs.lemmas.Bool.{and_parts, and_from, and_left, and_right, both_ways, or_parts, false_from_ne_true, false≢true, eqb-true, leb-true, le-leb}
+use Rattle.std.proofs.lemmas.{List.{append-nil, take-append-drop, take_at, drop_at, length-map}, Slice.Eq.{bytes_eq-Decides}}
 use Rattle.std.specs.{Char.{len_utf8, to_ascii_lowercase}, List.{fold}, Prelude.{if◌then◌else◌, nat_le}}
 use Rattle.html_names_core.{proofs.Basics.{all_append}, specs.Characters.{all, is_element_text_char, is_lower, is_tag_char, is_text_char}}
 use Rattle.html_page_nesting.specs.{Contents.{is_escaped, state_behind}, WrittenTexts.{has_return, is_return}}
 use Rattle.html_page_nesting.specs.declared.content.ScriptState.{ScriptState}
 use Rattle.html_page_nesting.specs.declared.content.ScriptState.TheVariants as state
-use Rattle.typst_html_encode.proofs.RawBack.{ends_holds, is_not_less, no_end_at_less, tag_ends}
-use Rattle.typst_html_encode.specs.{References.{reference_to}, Text.{char_text, end_tag_text, escaped_text, escaping_of}}
-use Rattle.html_text.specs.{ClosingTags.{is_tag_end, closing, holds_closing, ends_closing, before_closing}, RawEnds.{ends_in, ends_raw}}
+use Rattle.typst_html_encode.{proofs.RawBack.{ends_holds, is_not_less, no_end_at_less, tag_ends}, specs.References.{reference_to}}
+use Rattle.typst_html_encode.specs.Text.{char_text, end_tag_text, escaped_text, escaping_of}
+use Rattle.html_text.specs.{ClosingTags.{is_tag_end, closing, holds_closing, ends_closing, before_closing}, RawEnds.{ends_in}}
 use Rattle.html_page_names.specs.PageNames.{of}
 use Rattle.html_page_names.specs.declared.kind.Kind.TheVariants as kind
-use Rattle.html_page_stack.specs.{OpenElements.{OpenElement, current_name, is_at}, Pages.{Page, Token, End, ◌next◌}}
+use Rattle.html_page_stack.specs.{OpenElements.{current_name, is_at}, Pages.{Page, Token, End, ◌next◌}}
 use Rattle.html_page_stack.specs.declared.modes.Space.TheVariants as spaces
 use Rattle.html_page_tree.specs.PageTrees.{token_read}
 use Rattle.html_page_read.{proofs.PageStretches.{other}, specs.PageReading.{run}}
-use Rattle.html_page_read.specs.PageTokens.{Raw, Reference, PageReader, depth_behind, ended_name, ended_of, is_name, may_end, step}
-use Rattle.typst_html_nesting_laws.proofs.KindFacts.{fails_of, names, passes_of}
-use Rattle.typst_html_nesting_laws.proofs.Readers.{Emits, Takes, data_at, raw_at, reading_at, run_on, texted}
-use Rattle.typst_html_nesting_laws.proofs.References.{last_step, reference_leads}
+use Rattle.html_page_read.specs.PageTokens.{Raw, Reference, PageReader, depth_behind, ended_name, ended_of, is_name, step}
+use Rattle.typst_html_nesting_laws.proofs.{KindFacts.{fails_of, names, passes_of}, References.{last_step, reference_leads}}
+use Rattle.typst_html_nesting_laws.proofs.{Readers.{Emits, Takes, data_at, reading_at, run_on, texted}, Branches.{decide}}
 use Rattle.typst_html_nesting_laws.proofs.Texts.{begins_with_lf, is_plain_text_char, not_dropped, nothing_dropped}
 
 no_script : (name : List ℕ) → of kind.EscapableRaw name ≡ true → of kind.Script name ≡ false
@@ -32,10 +30,6 @@ lower_no_end : (c : ℕ) → is_lower c ≡ true → is_tag_end c ≡ false
 unfolding is_tag_end
 lower_no_end c h = grind (arith, nat_tests)
 
-no_end_at_and : is_tag_end 38 ≡ false
-unfolding is_tag_end
-no_end_at_and = refl
-
 -- small letters of other characters are themselves
 lower_is : (c n : ℕ) → to_ascii_lowercase c ≡ n → n < 65 → c ≡ n
 lower_is c n e h = grind (arith, nat_tests)
@@ -44,14 +38,13 @@ lower_is c n e h = grind (arith, nat_tests)
 less_first : (y ys : List ℕ) → all is_not_less y ≡ true → map to_ascii_lowercase y ≡ 60 ∷ ys → ⊥
 less_first [] ys h e = cc
 less_first (d ∷ ds) ys h e =
-    let small : to_ascii_lowercase d ≡ 60 = cc in
-    let same : d ≡ 60 = lower_is d 60 small (omega arith) in
-    false≢true (ap is_not_less (sym same) ∙ (and_parts (is_not_less d) (all is_not_less ds) h).0)
+    let same : d ≡ 60 = lower_is d 60 (cc) (omega arith) in
+    false≢true (ap is_not_less (sym same) ∙ (and_parts _ _ h).0)
 
 clean_drop : (n : ℕ) (b : List ℕ) → all is_not_less b ≡ true → all is_not_less (drop n b) ≡ true
 clean_drop zero b h = h
 clean_drop (suc n) [] h = h
-clean_drop (suc n) (c ∷ cs) h = clean_drop n cs (and_parts (is_not_less c) (all is_not_less cs) h).1
+clean_drop (suc n) (c ∷ cs) h = clean_drop n cs (and_parts _ _ h).1
 
 -- so many characters stand behind the last `<`, or all of them
 abbrev Reach : (a b : List ℕ) (since : ℕ) → Type 0
@@ -59,13 +52,11 @@ Reach a b since = (a ≡ []) ⊎ (since ≤ length b)
 
 clean_end : (a b : List ℕ) (since k : ℕ) → all is_not_less b ≡ true → Reach a b since → k ≤ since →
     all is_not_less (drop (length (a ++ b) - k) (a ++ b)) ≡ true
-clean_end a b since k h (inl e) m =
-    ap (λ l. all is_not_less (drop (length (a ++ b) - k) (l ++ b))) e
-    ∙ clean_drop (length (a ++ b) - k) b h
+clean_end a b since k h (inl e) m = ap (λ l. all is_not_less (drop (length (a ++ b) - k) (l ++ b)))
+    e ∙ clean_drop (length (a ++ b) - k) b h
 clean_end a b since k h (inr r) m =
     let far : length (a ++ b) - k ≡ length a + (length b - k) = omega (arith, length-append a b) in
-    let rest : drop (length (a ++ b) - k) (a ++ b) ≡ drop (length b - k) b =
-    ap (λ n. drop n (a ++ b)) far ∙ drop-append-add a b (length b - k) in
+    let rest = ap (λ n. drop n (a ++ b)) far ∙ drop-append-add a b (length b - k) in
     ap (all is_not_less) rest ∙ clean_drop (length b - k) b h
 
 not_within : (name a b : List ℕ) (since : ℕ) → all is_not_less b ≡ true → Reach a b since →
@@ -79,12 +70,9 @@ not_within name a b since h r m e =
 -- no comment begins in a script that is not escaped
 own_word : (y : List ℕ) → map to_ascii_lowercase y ≡ 60 ∷ 33 ∷ 45 ∷ [] → y ≡ 60 ∷ 33 ∷ 45 ∷ []
 own_word (a ∷ b ∷ c ∷ []) e =
-    let first : to_ascii_lowercase a ≡ 60 = cc in
-    let second : to_ascii_lowercase b ≡ 33 = cc in
-    let third : to_ascii_lowercase c ≡ 45 = cc in
-    let x : a ≡ 60 = lower_is a 60 first (omega arith) in
-    let y : b ≡ 33 = lower_is b 33 second (omega arith) in
-    let z : c ≡ 45 = lower_is c 45 third (omega arith) in
+    let x : a ≡ 60 = lower_is a 60 (cc) (omega arith) in
+    let y : b ≡ 33 = lower_is b 33 (cc) (omega arith) in
+    let z : c ≡ 45 = lower_is c 45 (cc) (omega arith) in
     λ i. x i ∷ y i ∷ z i ∷ []
 own_word y e = cc
 
@@ -100,43 +88,27 @@ escapes u cs = stays_escaped cs
 no_comment : (x : List ℕ) (c : ℕ) (cs : List ℕ) →
     is_escaped (fold state_behind state.Data (x ++ c ∷ cs)) ≡ false →
     (eqb c 45 && ends_in (codes "<!-") x) ≡ false
-no_comment x c cs h =
-    false_from_ne_true _ (λ e.
-    let both = and_parts (eqb c 45) (ends_in (codes "<!-") x) e in
+no_comment x c cs h = false_from_ne_true _ (λ e.
+    let both = and_parts _ _ e in
     let n = length x - 3 in
     let a = take n x in
     let y = drop n x in
-    let dash : c ≡ 45 = eqb-true c 45 both.0 in
-    let word : map to_ascii_lowercase y ≡ 60 ∷ 33 ∷ 45 ∷ [] =
-    (bytes_eq-Decides (map to_ascii_lowercase y) (codes "<!-")).0 both.1 in
-    let same : y ≡ 60 ∷ 33 ∷ 45 ∷ [] = own_word y word in
+    let dash : c ≡ 45 = eqb-true _ _ both.0 in
+    let same : y ≡ 60 ∷ 33 ∷ 45 ∷ [] =
+    own_word y ((bytes_eq-Decides (map to_ascii_lowercase y) (codes "<!-")).0 both.1) in
     let split : (x ++ c ∷ cs) ≡ a ++ (60 ∷ 33 ∷ 45 ∷ 45 ∷ cs) =
     ap (λ t. t ++ c ∷ cs) (sym (take-append-drop n x)) ∙ (append_assoc a y (c ∷ cs)
     ∙ (λ i. a ++ (same i ++ dash i ∷ cs))) in
     let all_of_it : fold state_behind state.Data (x ++ c ∷ cs) ≡ state.Escaped =
-    ap (fold state_behind state.Data) split
-    ∙ (fold-append state_behind state.Data a (60 ∷ 33 ∷ 45 ∷ 45 ∷ cs)
-    ∙ escapes (fold state_behind state.Data a) cs) in
+    ap (fold state_behind state.Data) split ∙ (fold-append state_behind state.Data a
+    (60 ∷ 33 ∷ 45 ∷ 45 ∷ cs) ∙ escapes (fold state_behind state.Data a) cs) in
     false≢true (sym h ∙ ap is_escaped all_of_it))
 
 -- a page whose current element is one of HTML of that name
-record IsWithin (name : List ℕ) (p : Page) : Type 0 where
-  current : current_name p.stack ≡ Some name
-  escapable : is_at (of kind.EscapableRaw) p.stack ≡ of kind.EscapableRaw name
-  script : is_at (of kind.Script) p.stack ≡ of kind.Script name
-
-at_is : (test : List ℕ → Bool) (name : List ℕ) (stack : List OpenElement) (o : OpenElement)
-    (os : List OpenElement) → stack ≡ o ∷ os → o.head.name ≡ name → o.space ≡ spaces.Html →
-    is_at test stack ≡ test name
-at_is test name stack o os e n s = ap (is_at test) e ∙ rw (s, n) refl
-
-is_within : (name : List ℕ) (p : Page) (o : OpenElement) (os : List OpenElement) →
-    p.stack ≡ o ∷ os → o.head.name ≡ name → o.space ≡ spaces.Html → IsWithin name p
-is_within name p o os e n s = record {
-  current = ap current_name e ∙ ap Some n;
-  escapable = at_is (of kind.EscapableRaw) name p.stack o os e n s;
-  script = at_is (of kind.Script) name p.stack o os e n s;
-}
+pub record IsWithin (name : List ℕ) (p : Page) : Type 0 where
+  pub current : current_name p.stack ≡ Some name
+  pub escapable : is_at (of kind.EscapableRaw) p.stack ≡ of kind.EscapableRaw name
+  pub script : is_at (of kind.Script) p.stack ≡ of kind.Script name
 
 abbrev depth_of : (b x : Bool) → ℕ
 depth_of b x = if b then (if x then 1 else 0) else 0
@@ -150,39 +122,31 @@ abbrev raw_in : (fresh : Bool) (since place : ℕ) (text : List ℕ) → Page �
 raw_in fresh since place text p =
     record { state = Raw 0 since; reading = reading_at fresh place (texted text p.start p) }
 
-raw_begins : (fresh : Bool) (place : ℕ) (p : Page) → p.text ≡ [] →
-    raw_at fresh place p ≡ raw_in fresh 0 place [] p
-raw_begins fresh place p e = ap (λ t. raw_in fresh 0 place t p) e
-
 -- what is read before an end tag
-emits_on : (q r : PageReader) (cs ds : List ℕ) (token : Token) (p : Page) → run q cs ≡ Ok r →
-    Emits r ds token p → Emits q (cs ++ ds) token p
-emits_on q r cs ds token p h x = record {
+emits_on : {q r : PageReader} {ds : List ℕ} {token : Token} {p : Page} (cs : List ℕ) →
+    run q cs ≡ Ok r → Emits r ds token p → Emits q (cs ++ ds) token p
+emits_on {q} {r} {ds} cs h x = record {
   start = x.start;
   place = x.place;
-  is = λ after e. run_on q r _ cs ds h (x.is after e);
+  is = λ after e. run_on _ _ _ cs ds h (x.is after e);
 }
 
-module _ (name : List ℕ) (p : Page) (within : IsWithin name p) (takes : Takes (λ c. true) p) where
+module _ {name : List ℕ} {p : Page} (within : IsWithin name p) (takes : Takes (λ c. true) p) where
   not_ended : (since : ℕ) (text : List ℕ) (c : ℕ) →
       (is_tag_end c && ends_closing name text) ≡ false → ended_of (Some name) 0 since text c ≡ None
-  not_ended since text c h = ap (λ b. if b then Some name else None)
-      (and_right (may_end name 0 since) (ends_raw name text c) h)
+  not_ended since text c h = ap (λ b. if b then Some name else None) (and_right _ _ h)
 
   depth_stays : (text : List ℕ) (c : ℕ) →
       (of kind.Script name ≡ true → (eqb c 45 && ends_in (codes "<!-") text) ≡ false) →
       depth_behind 0 (texted text p.start p) c ≡ 0
   depth_stays text c h = depth_by (is_at (of kind.Script) p.stack)
-      (eqb c 45 && ends_in (codes "<!-") text)
-      (λ e. h (sym within.script ∙ e))
+      (eqb c 45 && ends_in (codes "<!-") text) (λ e. h (sym within.script ∙ e))
 
   -- a character that is added to the text
   raw_one : (fresh : Bool) (since place : ℕ) (text : List ℕ) (c : ℕ) → eqb c 0 ≡ false →
-      is_return c ≡ false →
-      (fresh && eqb c 10) ≡ false → ended_of (Some name) 0 since text c ≡ None →
-      (eqb c 38 && of kind.EscapableRaw name) ≡ false →
-      (of kind.Script name ≡ true → (eqb c 45 && ends_in (codes "<!-") text) ≡ false) →
-      step (raw_in fresh since place text p) c
+      is_return c ≡ false → (fresh && eqb c 10) ≡ false → ended_of (Some name) 0 since text c
+      ≡ None → (eqb c 38 && of kind.EscapableRaw name) ≡ false → (of kind.Script name ≡ true →
+      (eqb c 45 && ends_in (codes "<!-") text) ≡ false) → step (raw_in fresh since place text p) c
       ≡ Ok (raw_in false (min (since + 1) 255) (place + len_utf8 c) (text ++ c ∷ []) p)
   raw_one fresh since place text c e0 n kept none plain shallow =
       let e10 = and-false (eqb c 10) in
@@ -210,20 +174,18 @@ module _ (name : List ℕ) (p : Page) (within : IsWithin name p) (takes : Takes 
     is = ap (λ t. Ok (raw_in false since place t p)) (sym (append-nil text));
   }
   name_read since place text (c ∷ cs) h =
-      let both = and_parts (is_lower c) (all is_lower cs) h in
-      let inside = and_left (is_tag_end c) (ends_closing name text) (lower_no_end c both.0) in
+      let both = and_parts _ _ h in
+      let inside = and_left _ _ (lower_no_end c both.0) in
       let one = raw_one false since place text c (other is_lower c 0 both.0 refl)
       (other is_lower c 13 both.0 refl) refl (not_ended since text c inside)
-      (and_left (eqb c 38) (of kind.EscapableRaw name) (other is_lower c 38 both.0 refl))
-      (λ s. and_left (eqb c 45) (ends_in (codes "<!-") text) (other is_lower c 45 both.0 refl)) in
+      (and_left _ _ (other is_lower c 38 both.0 refl))
+      (λ s. and_left _ _ (other is_lower c 45 both.0 refl)) in
       let more = name_read (min (since + 1) 255) (place + len_utf8 c) (text ++ c ∷ []) cs both.1 in
       record {
         since = more.since;
         place = more.place;
         enough = λ m low near. more.enough m low (omega (arith, low, near));
-        is = ap (λ r. r next (λ q. run q cs)) one
-            ∙ (more.is ∙ ap (λ t. Ok (raw_in false more.since more.place t p))
-            (append_assoc text (c ∷ []) cs));
+        is = rw (← append_assoc text (c ∷ []) cs) (ap (λ r. r next (λ q. run q cs)) one ∙ more.is);
       }
 
   -- at the end tag's `>`
@@ -243,14 +205,9 @@ module _ (name : List ℕ) (p : Page) (within : IsWithin name p) (takes : Takes 
       let ends : ends_closing name x ≡ true =
       (bytes_eq-Decides (map to_ascii_lowercase (drop (length x - k) x)) (closing name)).1
       (ap (map to_ascii_lowercase) cut) in
-      let may : may_end name 0 since ≡ true = le-leb k since enough in
-      let raw : ends_raw name x 62 ≡ true =
-      and_from (is_tag_end 62) (ends_closing name x) tag_ends.2 ends in
-      let both : (may_end name 0 since && ends_raw name x 62) ≡ true =
-      and_from (may_end name 0 since) (ends_raw name x 62) may raw in
-      let ended : ended_name p.stack 0 since x 62 ≡ Some name =
-      ap (λ o. ended_of o 0 since x 62) within.current
-      ∙ ap (λ b. if b then Some name else None) both in
+      let both = and_from _ _ (le-leb k since enough) (and_from _ _ tag_ends.2 ends) in
+      let ended : ended_name p.stack 0 since x 62 ≡ Some name = ap (λ o. ended_of o 0 since x 62)
+      within.current ∙ ap (λ b. if b then Some name else None) both in
       rw (ended, front, named, e) refl
 
   -- an end tag behind the text
@@ -260,13 +217,11 @@ module _ (name : List ℕ) (p : Page) (within : IsWithin name p) (takes : Takes 
       let lower = passes_of (all is_lower) kind.Raw name (unfold names in refl) raw in
       let chars = passes_of (all is_tag_char) kind.Raw name (unfold names in refl) raw in
       let named = passes_of is_name kind.Raw name (unfold names in refl) raw in
-      let few : length name ≤ 8 = leb-true (length name) 8
+      let few : length name ≤ 8 = leb-true _ _
       (passes_of (λ n. nat_le (length n) 8) kind.Raw name (unfold names in refl) raw) in
       let less = raw_one fresh since place s 60 refl refl (and-false fresh)
-      (not_ended since s 60 (and_left (is_tag_end 60) (ends_closing name s) tag_ends.1)) refl
-      (λ e. refl) in
-      let early = and_right (is_tag_end 47) (ends_closing name (s ++ 60 ∷ []))
-      (no_end_at_less name s chars) in
+      (not_ended since s 60 (and_left _ _ tag_ends.1)) refl (λ e. refl) in
+      let early = and_right _ _ (no_end_at_less name s chars) in
       let slash = raw_one false (min (since + 1) 255) (place + 1) (s ++ 60 ∷ []) 47 refl
       refl refl (not_ended (min (since + 1) 255) (s ++ 60 ∷ []) 47 early) refl (λ e. refl) in
       let read = name_read (min (min (since + 1) 255 + 1) 255) (place + 1 + 1)
@@ -274,19 +229,14 @@ module _ (name : List ℕ) (p : Page) (within : IsWithin name p) (takes : Takes 
       let text_is : ((s ++ 60 ∷ []) ++ 47 ∷ []) ++ name ≡ s ++ (codes "</" ++ name) =
       append_assoc (s ++ 60 ∷ []) (47 ∷ []) name ∙ append_assoc s (60 ∷ []) (47 ∷ name) in
       let long : length (closing name) ≤ read.since =
-      read.enough (length (closing name))
-      (omega (arith, few, length-map name to_ascii_lowercase))
+      read.enough (length (closing name)) (omega (arith, few, length-map name to_ascii_lowercase))
       (omega (arith, length-map name to_ascii_lowercase)) in
       record {
         start = p.start;
         place = read.place;
-        is = λ after e.
-            ap (λ r. r next (λ q. run q (47 ∷ (name ++ 62 ∷ [])))) less
+        is = λ after e. ap (λ r. r next (λ q. run q (47 ∷ (name ++ 62 ∷ [])))) less
             ∙ (ap (λ r. r next (λ q. run q (name ++ 62 ∷ []))) slash
-            ∙ run_on (raw_in false (min (min (since + 1) 255 + 1) 255) (place + 1 + 1)
-            ((s ++ 60 ∷ []) ++ 47 ∷ []) p)
-            (raw_in false read.since read.place (((s ++ 60 ∷ []) ++ 47 ∷ []) ++ name) p) _ name
-            (62 ∷ []) read.is
+            ∙ run_on _ _ _ name (62 ∷ []) read.is
             (last_step (step (raw_in false read.since read.place
             (((s ++ 60 ∷ []) ++ 47 ∷ []) ++ name) p) 62)
             ∙ (ap (λ t. step (raw_in false read.since read.place t p) 62) text_is
@@ -305,32 +255,22 @@ module _ (name : List ℕ) (p : Page) (within : IsWithin name p) (takes : Takes 
       all is_text_char cs ≡ true → has_return cs ≡ false → holds_closing name (x ++ cs) ≡ false →
       (of kind.Script name ≡ true → is_escaped (fold state_behind state.Data (x ++ cs)) ≡ false) →
       RawLeads (raw_in false since place x p) cs (x ++ cs)
-  raw_more since place x [] raw good n closes comment = record {
-    fresh = false;
-    since = since;
-    place = place;
-    is = ap (λ t. Ok (raw_in false since place t p)) (sym (append-nil x));
-  }
+  raw_more since place x [] raw good n closes comment =
+      record { fresh = false; since = since; place = place; is = rw (append-nil x) refl }
   raw_more since place x (c ∷ cs) raw good n closes comment =
-      let both = and_parts (is_text_char c) (all is_text_char cs) good in
-      let no = or_parts (is_return c) (has_return cs) n in
+      let both = and_parts _ _ good in
+      let no = or_parts _ _ n in
       let here : (is_tag_end c && ends_closing name x) ≡ false =
-      false_from_ne_true _ (λ e. let ends = and_parts (is_tag_end c) (ends_closing name x) e in
+      false_from_ne_true _ (λ e. let ends = and_parts _ _ e in
       false≢true (sym closes ∙ ends_holds name x c cs ends.0 ends.1)) in
       let one = raw_one false since place x c (other is_text_char c 0 both.0 refl) no.0 refl
-      (not_ended since x c here) (and_right (eqb c 38) (of kind.EscapableRaw name) raw)
-      (λ s. no_comment x c cs (comment s)) in
+      (not_ended since x c here) (and_right _ _ raw) (λ s. no_comment x c cs (comment s)) in
       let joined = append_assoc x (c ∷ []) cs in
-      let more = raw_more (min (since + 1) 255) (place + len_utf8 c) (x ++ c ∷ []) cs raw both.1
+      let m = raw_more (min (since + 1) 255) (place + len_utf8 c) (x ++ c ∷ []) cs raw both.1
       no.1 (ap (holds_closing name) joined ∙ closes)
       (λ s. ap (λ t. is_escaped (fold state_behind state.Data t)) joined ∙ comment s) in
-      record {
-        fresh = more.fresh;
-        since = more.since;
-        place = more.place;
-        is = ap (λ r. r next (λ q. run q cs)) one
-            ∙ (more.is ∙ ap (λ t. Ok (raw_in more.fresh more.since more.place t p)) joined);
-      }
+      let read = ap (λ r. r next (λ q. run q cs)) one ∙ m.is in
+      rw (← joined) (record { fresh = m.fresh; since = m.since; place = m.place; is = read })
 
   -- with references: no `<` was read since the last one, or since the begin
   record IsClean (text : List ℕ) (since : ℕ) : Type 0 where
@@ -358,11 +298,10 @@ module _ (name : List ℕ) (p : Page) (within : IsWithin name p) (takes : Takes 
 
   no_early : (since : ℕ) (x : List ℕ) (c : ℕ) → IsClean x since →
       ended_of (Some name) 0 since x c ≡ None
-  no_early since x c k =
-      ap (λ t. if t then Some name else None) (false_from_ne_true _ (λ e.
-      let both = and_parts (may_end name 0 since) (ends_raw name x c) e in
-      let ends = and_parts (is_tag_end c) (ends_closing name x) both.1 in
-      not_within name k.a k.b since k.clean k.reach (leb-true (length (closing name)) since both.0)
+  no_early since x c k = ap (λ t. if t then Some name else None) (false_from_ne_true _ (λ e.
+      let both = and_parts _ _ e in
+      let ends = and_parts _ _ both.1 in
+      not_within name k.a k.b since k.clean k.reach (leb-true _ _ both.0)
       (sym (ap (ends_closing name) k.split) ∙ ends.1)))
 
   module _ (escapable : of kind.EscapableRaw name ≡ true) where
@@ -372,160 +311,110 @@ module _ (name : List ℕ) (p : Page) (within : IsWithin name p) (takes : Takes 
       clean : IsClean text since
       is : run q cs ≡ Ok (raw_in false since place text p)
 
-    escaped_plain : (fresh : Bool) (since place : ℕ) (x : List ℕ) (c : ℕ) → IsClean x since →
-        is_element_text_char c ≡ true → is_text_char c ≡ true → is_return c ≡ false →
-        (fresh && eqb c 10) ≡ false →
-        Escaped (raw_in fresh since place x p) (c ∷ []) (x ++ c ∷ [])
-    escaped_plain fresh since place x c k plain good n kept =
-        let e = is_plain_text_char c plain in
-        record {
-          since = min (since + 1) 255;
-          place = place + len_utf8 c;
-          clean = clean_longer x since c k (ap (λ b. if b then false else true) e.1);
-          is = last_step (step (raw_in fresh since place x p) c)
-              ∙ raw_one fresh since place x c (other is_text_char c 0 good refl) n kept
-              (no_early since x c k) (and_left (eqb c 38) (of kind.EscapableRaw name) e.0)
-              (λ s. absurd (both_ways (of kind.Script name) (no_script name escapable) s));
-        }
+    module _ (fresh : Bool) (since place : ℕ) (x : List ℕ) (c : ℕ) (good : is_text_char c ≡ true)
+        (no : is_return c ≡ false) (kept : (fresh && eqb c 10) ≡ false) where
+      escaped_plain : IsClean x since → is_element_text_char c ≡ true →
+          Escaped (raw_in fresh since place x p) (c ∷ []) (x ++ c ∷ [])
+      escaped_plain k plain =
+          let e = is_plain_text_char c plain in
+          record {
+            since = min (since + 1) 255;
+            place = place + len_utf8 c;
+            clean = clean_longer x since c k (ap (λ b. if b then false else true) e.1);
+            is = last_step (step (raw_in fresh since place x p) c) ∙ raw_one fresh since place x c
+                (other is_text_char c 0 good refl) no kept (no_early since x c k) (and_left _ _ e.0)
+                (λ s. absurd (both_ways _ (no_script name escapable) s));
+          }
 
-    escaped_reference : (fresh : Bool) (since place : ℕ) (x : List ℕ) (c : ℕ) →
-        is_text_char c ≡ true → is_return c ≡ false → (fresh && eqb c 10) ≡ false →
-        Escaped (raw_in fresh since place x p) (reference_to c) (x ++ c ∷ [])
-    escaped_reference fresh since place x c good n kept =
-        let ended : ended_name p.stack 0 since x 38 ≡ None =
-        ap (λ o. ended_of o 0 since x 38) within.current ∙ not_ended since x 38
-        (and_left (is_tag_end 38) (ends_closing name x) no_end_at_and) in
-        let is_escapable : is_at (of kind.EscapableRaw) p.stack ≡ true =
-        within.escapable ∙ escapable in
-        let begun : step (raw_in fresh since place x p) 38 ≡ Ok (record {
-          state = Reference [] (Raw 0 since);
-          reading = reading_at fresh (place + 1) (texted x p.start p);
-        }) = rw (ended, is_escapable) refl in
-        let taken = takes c x p.start refl in
-        let read = reference_leads (Raw 0 since) (raw_in fresh since place x p) fresh (place + 1)
-        (texted x p.start p) c good n begun in
-        record {
-          since = 0;
-          place = read.0 + 1;
-          clean = record {
-            a = x ++ c ∷ [];
-            b = [];
-            split = sym (append-nil (x ++ c ∷ []));
-            clean = refl;
-            reach = inr (omega arith);
-          };
-          is = read.1 ∙ rw (kept, taken) refl;
-        }
+      escaped_reference : Escaped (raw_in fresh since place x p) (reference_to c) (x ++ c ∷ [])
+      escaped_reference =
+          let inside : is_tag_end 38 ≡ false = unfold is_tag_end in refl in
+          let ended : ended_name p.stack 0 since x 38 ≡ None = ap (λ o. ended_of o 0 since x 38)
+          within.current ∙ not_ended since x 38 (and_left _ _ inside) in
+          let is_escapable : is_at (of kind.EscapableRaw) p.stack ≡ true =
+          within.escapable ∙ escapable in
+          let begun : step (raw_in fresh since place x p) 38 ≡ Ok (record {
+            state = Reference [] (Raw 0 since);
+            reading = reading_at fresh (place + 1) (texted x p.start p);
+          }) = rw (ended, is_escapable) refl in
+          let taken = takes c x p.start refl in
+          let read = reference_leads (Raw 0 since) (raw_in fresh since place x p) fresh (place + 1)
+          (texted x p.start p) c good no begun in
+          record {
+            since = 0;
+            place = read.0 + 1;
+            clean = record {
+              a = x ++ c ∷ [];
+              b = [];
+              split = sym (append-nil (x ++ c ∷ []));
+              clean = refl;
+              reach = inr (omega arith);
+            };
+            is = read.1 ∙ rw (kept, taken) refl;
+          }
 
-    escaped_one : (fresh : Bool) (since place : ℕ) (x : List ℕ) (c : ℕ) → IsClean x since →
-        is_text_char c ≡ true → is_return c ≡ false → (fresh && eqb c 10) ≡ false →
-        Escaped (raw_in fresh since place x p) (char_text (escaping_of false) c) (x ++ c ∷ [])
-    escaped_one fresh since place x c clean good n kept =
-        elim (cases_Bool (is_element_text_char c)) [
-          | inl e ↦ rw e (escaped_plain fresh since place x c clean e good n kept)
-          | inr e ↦ rw e (escaped_reference fresh since place x c good n kept)
-        ]
+      escaped_one : IsClean x since →
+          Escaped (raw_in fresh since place x p) (char_text (escaping_of false) c) (x ++ c ∷ [])
+      escaped_one clean = decide (is_element_text_char c) (λ e. rw e (escaped_plain clean e))
+          (λ e. rw e escaped_reference)
 
     escaped_more : (fresh : Bool) (since place : ℕ) (x cs : List ℕ) → IsClean x since →
         all is_text_char cs ≡ true → has_return cs ≡ false →
         (fresh ≡ true → begins_with_lf cs ≡ false) →
         RawLeads (raw_in fresh since place x p) (escaped_text (escaping_of false) cs) (x ++ cs)
-    escaped_more fresh since place x [] clean good n kept = record {
-      fresh = fresh;
-      since = since;
-      place = place;
-      is = ap (λ t. Ok (raw_in fresh since place t p)) (sym (append-nil x));
-    }
+    escaped_more fresh since place x [] clean good n kept =
+        record { fresh = fresh; since = since; place = place; is = rw (append-nil x) refl }
     escaped_more fresh since place x (c ∷ cs) clean good n kept =
-        let both = and_parts (is_text_char c) (all is_text_char cs) good in
-        let no = or_parts (is_return c) (has_return cs) n in
-        let one = escaped_one fresh since place x c clean both.0 no.0
-        (not_dropped fresh c cs kept) in
-        let more = escaped_more false one.since one.place (x ++ c ∷ []) cs one.clean both.1 no.1
+        let both = and_parts _ _ good in
+        let no = or_parts _ _ n in
+        let one = escaped_one fresh since place x c both.0 no.0 (not_dropped fresh c cs kept)
+        clean in
+        let m = escaped_more false one.since one.place (x ++ c ∷ []) cs one.clean both.1 no.1
         (nothing_dropped cs) in
-        record {
-          fresh = more.fresh;
-          since = more.since;
-          place = more.place;
-          is = run_on (raw_in fresh since place x p)
-              (raw_in false one.since one.place (x ++ c ∷ []) p) _
-              (char_text (escaping_of false) c) (escaped_text (escaping_of false) cs) one.is
-              (more.is ∙ ap (λ t. Ok (raw_in more.fresh more.since more.place t p))
-              (append_assoc x (c ∷ []) cs));
-        }
+        let read = run_on _ _ _ (char_text (escaping_of false) c)
+        (escaped_text (escaping_of false) cs) one.is m.is in
+        rw (← append_assoc x (c ∷ []) cs)
+        (record { fresh = m.fresh; since = m.since; place = m.place; is = read })
 
-  -- a line feed that is dropped
-  feed_read : of kind.EscapableRaw name ≡ true → (place : ℕ) →
-      step (raw_in true 0 place [] p) 10 ≡ Ok (raw_in false 1 (place + 1) [] p)
-  feed_read escapable place =
-      let ended : ended_name p.stack 0 0 [] 10 ≡ None =
-      ap (λ o. ended_of o 0 0 [] 10) within.current ∙ no_early 0 [] 10 (clean_first 0) in
-      let depth : depth_behind 0 (texted [] p.start p) 10 ≡ 0 =
-      depth_stays [] 10
-      (λ s. absurd (both_ways (of kind.Script name) (no_script name escapable) s)) in
-      rw (ended, depth) refl
+    -- a line feed that is dropped
+    feed_read : (place : ℕ) →
+        step (raw_in true 0 place [] p) 10 ≡ Ok (raw_in false 1 (place + 1) [] p)
+    feed_read place =
+        let ended : ended_name p.stack 0 0 [] 10 ≡ None =
+        ap (λ o. ended_of o 0 0 [] 10) within.current ∙ no_early 0 [] 10 (clean_first 0) in
+        let depth : depth_behind 0 (texted [] p.start p) 10 ≡ 0 =
+        depth_stays [] 10 (λ s. absurd (both_ways _ (no_script name escapable) s)) in
+        rw (ended, depth) refl
 
-  escaped_emits : of kind.EscapableRaw name ≡ true → of kind.Raw name ≡ true →
-      (fresh : Bool) (since place : ℕ) (s : List ℕ) → all is_text_char s ≡ true →
-      has_return s ≡ false → (fresh ≡ true → begins_with_lf s ≡ false) →
-      Emits (raw_in fresh since place [] p)
-      (escaped_text (escaping_of false) s ++ end_tag_text name) (End name) (record p { text = s })
-  escaped_emits escapable raw fresh since place s good n kept =
-      let text = escaped_more escapable fresh since place [] s (clean_first since) good n kept in
-      emits_on (raw_in fresh since place [] p) (raw_in text.fresh text.since text.place s p)
-      (escaped_text (escaping_of false) s) (end_tag_text name) (End name) (record p { text = s })
-      text.is (tag_emits text.fresh text.since text.place s raw)
+    module _ (raw : of kind.Raw name ≡ true) (s : List ℕ) (good : all is_text_char s ≡ true)
+        (no : has_return s ≡ false) where
+      escaped_emits : (fresh : Bool) (since place : ℕ) → (fresh ≡ true → begins_with_lf s ≡ false) →
+          Emits (raw_in fresh since place [] p) (escaped_text (escaping_of false) s
+          ++ end_tag_text name) (End name) (record p { text = s })
+      escaped_emits fresh since place kept =
+          let text = escaped_more fresh since place [] s (clean_first since) good no kept in
+          emits_on (escaped_text (escaping_of false) s) text.is
+          (tag_emits text.fresh text.since text.place s raw)
 
-  fed_emits : of kind.EscapableRaw name ≡ true → of kind.Raw name ≡ true → (feed fresh : Bool)
-      (place : ℕ) (s : List ℕ) → all is_text_char s ≡ true → has_return s ≡ false →
-      (feed ≡ true → fresh ≡ true) → (fresh ≡ true → feed ≡ false → begins_with_lf s ≡ false) →
-      Emits (raw_in fresh 0 place [] p)
-      ((if feed then codes "\n" else [])
-      ++ (escaped_text (escaping_of false) s ++ end_tag_text name)) (End name)
-      (record p { text = s })
-  fed_emits escapable raw true true place s good n fed kept =
-      emits_on (raw_in true 0 place [] p) (raw_in false 1 (place + 1) [] p) (10 ∷ [])
-      (escaped_text (escaping_of false) s ++ end_tag_text name) (End name) (record p { text = s })
-      (last_step (step (raw_in true 0 place [] p) 10) ∙ feed_read escapable place)
-      (escaped_emits escapable raw false 1 (place + 1) s good n (nothing_dropped s))
-  fed_emits escapable raw true false place s good n fed kept = absurd (false≢true (fed refl))
-  fed_emits escapable raw false fresh place s good n fed kept =
-      escaped_emits escapable raw fresh 0 place s good n (λ e. kept e refl)
+      -- one whose text is written with references: `textarea`, `title`. A line feed in front is
+      -- dropped where the start tag was one after which it is
+      pub escapable_emits : (feed fresh : Bool) (place : ℕ) → (feed ≡ true → fresh ≡ true) →
+          (fresh ≡ true → feed ≡ false → begins_with_lf s ≡ false) →
+          Emits (raw_in fresh 0 place [] p) ((if feed then codes "\n" else [])
+          ++ (escaped_text (escaping_of false) s ++ end_tag_text name)) (End name)
+          (record p { text = s })
+      escapable_emits true true place fed kept =
+          emits_on (10 ∷ []) (last_step (step (raw_in true 0 place [] p) 10) ∙ feed_read place)
+          (escaped_emits false 1 (place + 1) (nothing_dropped s))
+      escapable_emits true false place fed kept = absurd (false≢true (fed refl))
+      escapable_emits false fresh place fed kept = escaped_emits fresh 0 place (λ e. kept e refl)
 
--- an element whose text is written as it is: `iframe`, `noembed`, `noframes`, `script`, `style`,
--- `xmp`
-pub raw_emits : (name s : List ℕ) (place : ℕ) (p : Page) (o : OpenElement) (os : List OpenElement) →
-    p.stack ≡ o ∷ os → o.head.name ≡ name → o.space ≡ spaces.Html → of kind.Raw name ≡ true →
-    of kind.EscapableRaw name ≡ false → p.text ≡ [] → Takes (λ c. true) p →
-    all is_text_char s ≡ true → has_return s ≡ false → holds_closing name s ≡ false →
-    (of kind.Script name ≡ true → is_escaped (fold state_behind state.Data s) ≡ false) →
-    Emits (raw_at false place p) (s ++ end_tag_text name) (End name) (record p { text = s })
-raw_emits name s place p o os stack named html is_raw raw empty takes good n closes comment =
-    let within = is_within name p o os stack named html in
-    let text = raw_more name p within takes 0 place [] s raw good n closes comment in
-    subst (λ q. Emits q (s ++ end_tag_text name) (End name) (record p { text = s }))
-    (sym (raw_begins false place p empty))
-    (emits_on (raw_in false 0 place [] p) (raw_in text.fresh text.since text.place s p) s
-    (end_tag_text name) (End name) (record p { text = s }) text.is
-    (tag_emits name p within takes text.fresh text.since text.place s is_raw))
-
--- one whose text is written with references: `textarea`, `title`. A line feed in front is dropped
--- where the start tag was one after which it is
-pub escapable_emits : (name s : List ℕ) (feed fresh : Bool) (place : ℕ) (p : Page) (o : OpenElement)
-    (os : List OpenElement) → p.stack ≡ o ∷ os → o.head.name ≡ name → o.space ≡ spaces.Html →
-    of kind.Raw name ≡ true → of kind.EscapableRaw name ≡ true → p.text ≡ [] → Takes (λ c. true) p →
-    all is_text_char s ≡ true → has_return s ≡ false → (feed ≡ true → fresh ≡ true) →
-    (fresh ≡ true → feed ≡ false → begins_with_lf s ≡ false) →
-    Emits (raw_at fresh place p)
-    ((if feed then codes "\n" else [])
-    ++ (escaped_text (escaping_of false) s ++ end_tag_text name)) (End name)
-    (record p { text = s })
-escapable_emits name s feed fresh place p o os stack named html is_raw escapable empty takes good n
-    fed kept =
-    subst (λ q. Emits q
-    ((if feed then codes "\n" else [])
-    ++ (escaped_text (escaping_of false) s ++ end_tag_text name)) (End name)
-    (record p { text = s }))
-    (sym (raw_begins fresh place p empty))
-    (fed_emits name p (is_within name p o os stack named html) takes escapable
-    is_raw feed fresh place s good n fed kept)
+  -- an element whose text is written as it is: `iframe`, `noembed`, `noframes`, `script`, `style`,
+  -- `xmp`
+  pub raw_emits : (s : List ℕ) (place : ℕ) → of kind.Raw name ≡ true → of kind.EscapableRaw name
+      ≡ false → all is_text_char s ≡ true → has_return s ≡ false → holds_closing name s ≡ false →
+      (of kind.Script name ≡ true → is_escaped (fold state_behind state.Data s) ≡ false) →
+      Emits (raw_in false 0 place [] p) (s ++ end_tag_text name) (End name) (record p { text = s })
+  raw_emits s place is_raw raw good n closes comment =
+      let text = raw_more 0 place [] s raw good n closes comment in
+      emits_on s text.is (tag_emits text.fresh text.since text.place s is_raw)

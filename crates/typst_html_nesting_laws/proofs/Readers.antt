@@ -10,8 +10,7 @@ use Rattle.html_page_read.specs.{PageReading.{run}, PageTokens.{Data, Raw, Readi
 
 -- how far a page is read, where no carriage return was read before
 abbrev pub reading_at : (fresh : Bool) (place : ℕ) → Page → Reading
-reading_at fresh place p =
-    record { page = p; place = place; fresh = fresh; after_return = false }
+reading_at fresh place p = record { page = p; place = place; fresh = fresh; after_return = false }
 
 -- between tokens
 abbrev pub data_at : (fresh : Bool) (place : ℕ) → Page → PageReader

@@ -1,9 +1,8 @@
 -- References that are written are read as the characters that they stand for.
-use Rattle.std.proofs.Common.{◌≡◌, ℕ, ◌+◌, ◌<◌, Bool, true, false, not, ◌||◌, ◌&&◌, inl, inr, subst, eqb, List, [], ◌∷◌, ◌++◌, Some, None, codes, length, arith, refl, ap, ◌∙◌, sym, append_assoc, Ok, Err}
-use Rattle.std.proofs.lemmas.{Bool.{cases_Bool, eqb-true, and_from, and_parts, ne_eqb, not-true, ltb-true}, Fmt.{digits_is_IsNumeral}}
-use Rattle.std.proofs.lemmas.{List.{append-nil}, Bool.Decides.{nat_tests}}
-use Rattle.std.specs.{Char.{digit_value, len_utf8}, Fmt.{digits}, Prelude.{if◌then◌else◌, nat_lt, nat_le}}
-use Rattle.std.specs.Str.Parse.{AllDigits, digits_value}
+use Rattle.std.proofs.Common.{◌≡◌, ℕ, ◌+◌, ◌<◌, Bool, true, false, not, ◌||◌, ◌&&◌, subst, eqb, List, [], ◌∷◌, ◌++◌, Some, None, codes, length, arith, refl, ap, ◌∙◌, sym, append_assoc, Ok, Err}
+use Rattle.std.proofs.lemmas.{Bool.{eqb-true, and_from, and_parts, ne_eqb, not-true, ltb-true}, Fmt.{digits_is_IsNumeral}}
+use Rattle.std.{proofs.lemmas.{List.{append-nil}, Bool.Decides.{nat_tests}}, specs.{Char.{digit_value, len_utf8}, Fmt.{digits}}}
+use Rattle.std.specs.{Prelude.{if◌then◌else◌, nat_lt, nat_le}, Str.Parse.{AllDigits, digits_value}}
 use Rattle.html_names_core.specs.Characters.{is_text_char, is_control, is_noncharacter}
 use Rattle.html_page_nesting.specs.WrittenTexts.{is_return}
 use Rattle.typst_html_encode.{proofs.References.{numeric_is, text_scalar}, specs.References.{numeric, reference_to}}
@@ -14,7 +13,7 @@ use Rattle.html_page_tree.specs.PageBodies.{is_space}
 use Rattle.html_page_read.{proofs.PageStretches.{other}, specs.PageReading.{run}}
 use Rattle.html_page_read.specs.PageReferences.{Resolved, continues, continues_number, is_hex_digit, is_surrogate, numbered, numbered_char, number_error, resolved}
 use Rattle.html_page_read.specs.PageTokens.{TagDraft, TokenState, Value, Reference, PageReader, in_value, past_char, reference_read, step}
-use Rattle.typst_html_nesting_laws.proofs.Readers.{reading_at, run_on}
+use Rattle.typst_html_nesting_laws.proofs.{Readers.{reading_at, run_on}, Branches.{decide}}
 use lib.Utf8.{scalar, scalar_fits}
 
 -- what stands for that character alone
@@ -45,12 +44,12 @@ no_control c h = grind (arith, nat_tests)
 number_whole : (c : ℕ) → is_text_char c ≡ true → is_return c ≡ false →
     numbered c (Some 59) ≡ whole c
 number_whole c h n =
-    let both = and_parts (scalar c && not (is_noncharacter c)) (is_known_control c) h in
-    let first = and_parts (scalar c) (not (is_noncharacter c)) both.0 in
+    let both = and_parts _ _ h in
+    let first = and_parts _ _ both.0 in
     let some = other is_text_char c 0 h refl in
     let beyond : nat_lt 0x10_ffff c ≡ false = not_beyond c first.0 in
     let surrogate : is_surrogate c ≡ false = no_surrogate c first.0 in
-    let nocharacter : is_noncharacter c ≡ false = not-true (is_noncharacter c) first.1 in
+    let nocharacter : is_noncharacter c ≡ false = not-true _ first.1 in
     let windows : (nat_le 128 c && nat_lt c 160) ≡ false = not_windows c both.1 in
     let control : (is_control c && not (is_space c)) ≡ false = no_control c both.1 in
     let char : numbered_char c ≡ c = rw (some, beyond, surrogate, windows) refl in
@@ -62,8 +61,7 @@ number_resolved : (v : Bool) (ds : List ℕ) (c : ℕ) → 0 < length ds → dig
     is_text_char c ≡ true → is_return c ≡ false → resolved v (35 ∷ 120 ∷ ds) (Some 59) ≡ whole c
 unfolding resolved
 number_resolved v [] c long e h n = absurd (omega arith)
-number_resolved v (d ∷ ds) c long e h n =
-    ap (λ m. numbered m (Some 59)) e ∙ number_whole c h n
+number_resolved v (d ∷ ds) c long e h n = ap (λ m. numbered m (Some 59)) e ∙ number_whole c h n
 
 -- a character that may stand in a reference
 abbrev is_inner : ℕ → Bool
@@ -73,30 +71,24 @@ abbrev all_continue : (since cs : List ℕ) → Bool
 all_continue since [] = true
 all_continue since (c ∷ cs) = (is_inner c && continues since c) && all_continue (since ++ c ∷ []) cs
 
-digit_hex : (d : ℕ) → digit_value d < 16 → is_hex_digit d ≡ true
-digit_hex d h = grind (arith, nat_tests)
-
-digit_inner : (d : ℕ) → digit_value d < 16 → is_inner d ≡ true
-digit_inner d h = grind (arith, nat_tests)
+digit_continues : (d : ℕ) → digit_value d < 16 → (is_inner d && is_hex_digit d) ≡ true
+digit_continues d h = grind (arith, nat_tests)
 
 digits_continue : (xs ds : List ℕ) → AllDigits 16 ds → all_continue (35 ∷ 120 ∷ xs) ds ≡ true
 digits_continue xs [] h = refl
 digits_continue xs (d ∷ ds) h =
-    and_from (is_inner d && is_hex_digit d) (all_continue (35 ∷ 120 ∷ (xs ++ d ∷ [])) ds)
-    (and_from (is_inner d) (is_hex_digit d) (digit_inner d h.0) (digit_hex d h.0))
-    (digits_continue (xs ++ d ∷ []) ds h.1)
+    and_from _ _ (digit_continues d h.0) (digits_continue (xs ++ d ∷ []) ds h.1)
 
 -- what stands between `&` and `;`, where a character is written as a reference
 abbrev Spelled : ℕ → Type 0
-Spelled c =
-    (between : List ℕ) × (reference_to c ≡ 38 ∷ (between ++ 59 ∷ []))
+Spelled c = (between : List ℕ) × (reference_to c ≡ 38 ∷ (between ++ 59 ∷ []))
     × (all_continue [] between ≡ true) × ((v : Bool) → resolved v between (Some 59) ≡ whole c)
 
 by_name : (c named s : ℕ) (ss : List ℕ) → eqb c named ≡ true →
     reference_to named ≡ 38 ∷ ((s ∷ ss) ++ 59 ∷ []) → all_continue [] (s ∷ ss) ≡ true →
     eqb s 35 ≡ false → named_reference (s ∷ ss) ≡ Some (named ∷ []) → Spelled c
 unfolding resolved
-by_name c named s ss e written inner no_number found = subst Spelled (sym (eqb-true c named e))
+by_name c named s ss e written inner no_number found = subst Spelled (sym (eqb-true _ _ e))
     (s ∷ ss, written, inner, λ v. rw (no_number, found) refl)
 
 by_number : (c : ℕ) → is_text_char c ≡ true → is_return c ≡ false → reference_to c ≡ numeric c →
@@ -113,32 +105,21 @@ by_number c h n e =
 
 spelled : (c : ℕ) → is_text_char c ≡ true → is_return c ≡ false → Spelled c
 spelled c h n =
-    elim (cases_Bool (eqb c 38)) [
-      | inl e ↦ by_name c 38 97 (codes "mp") e refl refl refl (unfold named in refl)
-      | inr e38 ↦ elim (cases_Bool (eqb c 60)) [
-        | inl e ↦ by_name c 60 108 (codes "t") e refl refl refl (unfold named in refl)
-        | inr e60 ↦ elim (cases_Bool (eqb c 62)) [
-          | inl e ↦ by_name c 62 103 (codes "t") e refl refl refl (unfold named in refl)
-          | inr e62 ↦ elim (cases_Bool (eqb c 34)) [
-            | inl e ↦ by_name c 34 113 (codes "uot") e refl refl refl (unfold named in refl)
-            | inr e34 ↦ elim (cases_Bool (eqb c 39)) [
-              | inl e ↦ by_name c 39 97 (codes "pos") e refl refl refl (unfold named in refl)
-              | inr e39 ↦ by_number c h n (rw (e38, e60, e62, e34, e39) refl)
-            ]
-          ]
-        ]
-      ]
-    ]
+    decide (eqb c 38) (λ e. by_name c 38 97 (codes "mp") e refl refl refl (unfold named in refl))
+    (λ e38. decide (eqb c 60)
+    (λ e. by_name c 60 108 (codes "t") e refl refl refl (unfold named in refl))
+    (λ e60. decide (eqb c 62)
+    (λ e. by_name c 62 103 (codes "t") e refl refl refl (unfold named in refl))
+    (λ e62. decide (eqb c 34)
+    (λ e. by_name c 34 113 (codes "uot") e refl refl refl (unfold named in refl))
+    (λ e34. decide (eqb c 39)
+    (λ e. by_name c 39 97 (codes "pos") e refl refl refl (unfold named in refl))
+    (λ e39. by_number c h n (rw (e38, e60, e62, e34, e39) refl))))))
 
 -- steps that go on where they are
 pub last_step : {A : Type 0} (r : Reads A) → (r next (λ a. Ok a)) ≡ r
 last_step (Ok a) = refl
 last_step (Err e) = refl
-
-through : {A B : Type 0} (r : Reads A) (f : A → Reads B) →
-    ((r next (λ a. Ok a)) next f) ≡ (r next f)
-through (Ok a) f = refl
-through (Err e) f = refl
 
 either_false : (b : Bool) → (if b then false else false) ≡ false
 either_false true = refl
@@ -155,8 +136,7 @@ ends_here (s ∷ ss) = rw (ends_number ss) (either_false (eqb s 35))
 -- within a reference
 module _ (s : TokenState) (fresh : Bool) (p : Page) where
   abbrev since_at : List ℕ → (place : ℕ) → PageReader
-  since_at since place =
-      record { state = Reference since s; reading = reading_at fresh place p }
+  since_at since place = record { state = Reference since s; reading = reading_at fresh place p }
 
   one_since : (since : List ℕ) (place c : ℕ) → is_inner c ≡ true → continues since c ≡ true →
       step (since_at since place) c ≡ Ok (since_at (since ++ c ∷ []) (place + len_utf8 c))
@@ -171,9 +151,8 @@ module _ (s : TokenState) (fresh : Bool) (p : Page) where
       (end : ℕ) × (run (since_at since place) cs ≡ Ok (since_at (since ++ cs) end))
   many_since since [] place h = (place, ap (λ l. Ok (since_at l place)) (sym (append-nil since)))
   many_since since (c ∷ cs) place h =
-      let both = and_parts (is_inner c && continues since c)
-      (all_continue (since ++ c ∷ []) cs) h in
-      let here = and_parts (is_inner c) (continues since c) both.0 in
+      let both = and_parts _ _ h in
+      let here = and_parts _ _ both.0 in
       let more = many_since (since ++ c ∷ []) cs (place + len_utf8 c) both.1 in (
         more.0,
         ap (λ r. r next (λ q. run q cs)) (one_since since place c here.0 here.1)
@@ -181,15 +160,13 @@ module _ (s : TokenState) (fresh : Bool) (p : Page) where
       )
 
   end_since : (since : List ℕ) (place c : ℕ) → ((v : Bool) → resolved v since (Some 59) ≡ whole c) →
-      step (since_at since place) 59
-      ≡ ((reference_read (c ∷ []) s (reading_at fresh place p))
-      next (λ r. Ok (past_char 59 place r)))
+      step (since_at since place) 59 ≡ ((reference_read (c ∷ []) s (reading_at fresh place p)) next
+      (λ r. Ok (past_char 59 place r)))
   end_since since place c e =
       let ended = ends_here since in
       let found = e (in_value s) in
-      rw (ended, found)
-      (through (reference_read (c ∷ []) s (reading_at fresh place p))
-      (λ r. Ok (past_char 59 place r)))
+      rw (ended, found) (ap (λ x. x next (λ r. Ok (past_char 59 place r)))
+      (last_step (reference_read (c ∷ []) s (reading_at fresh place p))))
 
 -- where `&` leads to a reference, one that is written does what its character does
 pub reference_leads : (s : TokenState) (q : PageReader) (fresh : Bool) (place : ℕ) (p : Page)
@@ -205,10 +182,8 @@ reference_leads s q fresh place p c h n start =
     next (λ r. Ok (past_char 59 more.0 r))) =
     last_step (step (since_at s fresh p x.0 more.0) 59) ∙ end_since s fresh p x.0 more.0 c x.3 in (
       more.0,
-      ap (run q) x.1
-          ∙ (ap (λ r. r next (λ t. run t (x.0 ++ 59 ∷ []))) start
-          ∙ run_on (since_at s fresh p [] place) (since_at s fresh p x.0 more.0) _ x.0 (59 ∷ [])
-          more.1 last),
+      ap (run q) x.1 ∙ (ap (λ r. r next (λ t. run t (x.0 ++ 59 ∷ []))) start ∙ run_on _ _ _ x.0
+          (59 ∷ []) more.1 last),
     )
 
 -- within the quotes of a value

@@ -1,5 +1,5 @@
 -- The elements `html`, `head` and `body`: their names, modes and start tags.
-use Rattle.std.proofs.Common.{◌≡◌, ℕ, Bool, true, false, List, [], ◌∷◌, None, codes, length, map, refl, sym, ap, ◌∙◌}
+use Rattle.std.proofs.Common.{◌≡◌, ℕ, Bool, true, false, List, [], ◌∷◌, codes, length, map, refl, sym, ap, ◌∙◌}
 use Rattle.std.{proofs.lemmas.Slice.Eq.{bytes_eq-Decides}, specs.Prelude.{◌==◌, if◌then◌else◌, unwrap_or}}
 use Rattle.html_names_core.specs.{Kinds.{is_escapable_raw, is_foreign_self_closing, is_raw, is_void}, Names.{listed_names, stands_in}}
 use Rattle.html_page_nesting.specs.Ancestors.{begun_space}
@@ -7,9 +7,8 @@ use Rattle.html_page_nesting.specs.declared.reading.Space.TheVariants as nest
 use Rattle.typst_html_encode.specs.Reader.{drops_feed}
 use Rattle.html_page_names.specs.{ForeignNames.{lowered}, PageNames.{kind_names, of}, declared.kind.Kind.{Kind}}
 use Rattle.html_page_names.specs.declared.kind.Kind.TheVariants as kind
+use Rattle.html_page_stack.specs.{OpenElements.{OpenElement, html_mode, mode, named_mode}, Pages.{Page, StartTag, Start, opened, taken}}
 use Rattle.html_page_stack.specs.OpenElements as open_elements
-use Rattle.html_page_stack.specs.OpenElements.{OpenElement, completed, has_elements, html_mode, is_at, mode, named_mode, with_text}
-use Rattle.html_page_stack.specs.{Pages.{Page, StartTag, Start, opened, taken}, declared.modes.Mode.{Mode}}
 use Rattle.html_page_stack.specs.declared.modes.Space.TheVariants as spaces
 use Rattle.html_page_tree.specs.PageBodies.{before as before_element, implied, repeated}
 use Rattle.typst_html_nesting_laws.proofs.KindFacts.{AllFail, agree_in, agree_of, names}
@@ -54,17 +53,11 @@ name_of k name n e h = agree_of (λ m. m) (λ m. name) k n
 pub begins_named : (name : List ℕ) (tag : StartTag) (p : Page) → tag.name ≡ name →
     before_element name (Start tag) p ≡ taken (opened tag.name tag.attrs p)
 begins_named name tag p e =
-    ap (λ b. if b then taken (opened name tag.attrs p)
-    else (if of kind.Html tag.name then taken (repeated tag p) else implied name (Start tag) p))
-    ((bytes_eq-Decides tag.name name).1 e)
-    ∙ ap (λ n. taken (opened n tag.attrs p)) (sym e)
+    rw ((bytes_eq-Decides tag.name name).1 e) (ap (λ n. taken (opened n tag.attrs p)) (sym e))
 
 -- their modes
 
 pub mode_of : (name : List ℕ) (o : OpenElement) (os : List OpenElement) → o.head.name ≡ name →
     o.space ≡ spaces.Html → mode (o ∷ os) ≡ unwrap_or (named_mode name os)
     (if length os == 0 then html_mode o.children else mode os)
-mode_of name o os n e =
-    let around : Mode = if length os == 0 then html_mode o.children else mode os in
-    ap (λ s. unwrap_or (if open_elements.is_html s then named_mode o.head.name os else None) around)
-    e ∙ ap (λ m. unwrap_or (named_mode m os) around) n
+mode_of name o os n e = rw (e, n) refl

@@ -5,42 +5,37 @@ use Rattle.html_names_core.specs.Names.{stands_in}
 use Rattle.html_dom_tree.{proofs.Basics.{put_twice}, specs.PlainTree.{branch, Plains, no_plains, plain, put_words, nodes_normal}}
 use Rattle.html_dom_tree.specs.Tree.{Head, tag_node, text_node, element_node, frame_node, NodesView, none, node, ElementView, with_last}
 use Rattle.html_page_nesting.specs.Ancestors.{Ancestor, ancestor, is_in, place_in, place_inside, place_of, reading_in, reading_of, space_of}
-use Rattle.html_page_nesting.specs.{Misnested.{found, nodes_misnested}, NestingRules.{element_misnesting, root_misnesting}}
-use Rattle.html_page_nesting.specs.{PageRoots.{is_complete, is_page, stage_behind_nodes}, Surroundings.{surroundings_of}}
-use Rattle.html_page_nesting.specs.WrittenTexts.{is_white, is_white_char}
+use Rattle.html_page_nesting.specs.{PageRoots.{is_complete, stage_behind_nodes}, Surroundings.{surroundings_of}}
+use Rattle.html_page_nesting.specs.{WrittenTexts.{is_white, is_white_char}, declared.{page.Stage.{Stage}, reading.Place.{Place}}}
 use Rattle.html_page_nesting.specs.declared.misnesting.Misnesting.TheVariants as why
-use Rattle.html_page_nesting.specs.declared.page.Stage.{Stage}
 use Rattle.html_page_nesting.specs.declared.page.Stage.TheVariants as stage
-use Rattle.html_page_nesting.specs.declared.reading.Place.{Place}
 use Rattle.html_page_nesting.specs.declared.reading.Place.TheVariants as places
 use Rattle.html_page_nesting.specs.declared.reading.Reading.TheVariants as reading
 use Rattle.html_page_nesting.specs.declared.reading.Space.TheVariants as nest
-use Rattle.typst_html_encode.proofs.{Plainly.{shut}, Runs.{left_empty, right_empty}}
-use Rattle.typst_html_encode.specs.{ExportFaults.{attrs_faults, node_faults, nodes_faults, text_faults, void_faults}, FrameWriters.{Frames}}
-use Rattle.typst_html_encode.specs.{Layout.{due_after}, ReadingBack.{NodeIsNamed}}
+use Rattle.typst_html_encode.{proofs.{Plainly.{shut}, Runs.{left_empty, right_empty}}, specs.{FrameWriters.{Frames}, Layout.{due_after}}}
+use Rattle.typst_html_encode.specs.{ExportFaults.{attrs_faults, node_faults, nodes_faults, void_faults}, ReadingBack.{NodeIsNamed}}
 use Rattle.typst_html_encode.specs.Text.{end_tag_text, escaped_text, escaping_of, node_text, nodes_text, start_tag_text}
 use Rattle.html_page_names.specs.{ForeignNames.{lowered}, PageNames.{of}}
 use Rattle.html_page_names.specs.declared.kind.Kind.TheVariants as kind
-use Rattle.html_page_stack.proofs.Children.{element_counts}
-use Rattle.html_page_stack.specs.OpenElements as open_elements
-use Rattle.html_page_stack.specs.OpenElements.{OpenElement, completed, has_elements, html_mode, is_at, mode, with_text}
+use Rattle.html_page_stack.{proofs.Children.{element_counts}, specs.declared.modes.Mode.{Mode}}
+use Rattle.html_page_stack.specs.OpenElements.{OpenElement, completed, has_elements, mode, with_text}
 use Rattle.html_page_stack.specs.Pages.{Notes, Page, Reads, Token, Char, Start, End, Finish, ◌next◌, closed, first_page, opened, taken}
-use Rattle.html_page_stack.specs.declared.modes.{Mode.{Mode}, Mode.TheVariants.{BeforeHtml, BeforeHead, InHead, AfterHead, InBody}}
+use Rattle.html_page_stack.specs.declared.modes.Mode.TheVariants.{BeforeHtml, BeforeHead, InHead, AfterHead, InBody}
+use Rattle.html_page_stack.specs.OpenElements as open_elements
 use Rattle.html_page_stack.specs.declared.modes.Space.TheVariants as spaces
 use Rattle.html_page_stack.specs.declared.modes.TableRule.TheVariants as rule
 use Rattle.html_page_tree.specs.PageTrees.{by_mode, token_read}
 use Rattle.html_page_read.specs.{DocumentTypes.{is_known, table_rule}, PageReading.{first_reader, page_made, run}}
 use Rattle.html_page_read.specs.PageTokens.{PageReader, finished}
-use Rattle.typst_html_nesting_laws.proofs.{Branches.{else_none}, Closed.{calm_begun}, EndTags.{end_emits}}
+use Rattle.typst_html_nesting_laws.proofs.{Branches.{else_none}, Closed.{calm_begun}, EndTags.{end_emits}, InnerTexts.{no_return}}
 use Rattle.typst_html_nesting_laws.proofs.Fillings.{around, behind_data, element_closed, inside_faults, nodes_filled, opened as opened_element, opened_page}
 use Rattle.typst_html_nesting_laws.proofs.Forms.{AreGathered, IsFilled, filled_normal, normal_is, on, put_last, put_nodes, put_texted, texted_children, with_text_is}
-use Rattle.typst_html_nesting_laws.proofs.{InnerTexts.{no_return}, KeptTags.{opened_back}, KindFacts.{names}}
+use Rattle.typst_html_nesting_laws.proofs.{KeptTags.{opened_back}, KindFacts.{names}, Rules.{found_none, tag_fits}, Texts.{text_leads}}
 use Rattle.typst_html_nesting_laws.proofs.Nodes.{ElementFits, IsInside, NodesFit, calm_on, element_fits, element_starts, kids_gathered, nodes_lead, rest, rest_fits, text_fits}
 use Rattle.typst_html_nesting_laws.proofs.Readers.{Emits, Takes, data_at, lowered_attrs, reading_at, run_on, started, written_tag}
 use Rattle.typst_html_nesting_laws.proofs.RootParts.{IsPart, begins_named, mode_of, name_of, part_names, part_of}
-use Rattle.typst_html_nesting_laws.proofs.{Rules.{found_none, tag_fits}, Texts.{text_leads}, Turns.{html_token, mode_taken}}
+use Rattle.typst_html_nesting_laws.{proofs.Turns.{html_token, mode_taken}, specs.TreesStay.{NodeIsReadable, TreesStay, no_notes}}
 use Rattle.typst_html_nesting_laws.proofs.Ways.{IsCalm, begun, begun_element, ends_at_once, is_body_mode, is_page_place, open_space}
-use Rattle.typst_html_nesting_laws.specs.TreesStay.{NodeIsReadable, TreesStay, no_notes}
 
 -- one of the three elements, where it breaks no rule and is without a fault
 record PartFits (frames : Frames) (above : List Ancestor) (h : Head) (kids : NodesView) :
@@ -52,33 +47,28 @@ record PartFits (frames : Frames) (above : List Ancestor) (h : Head) (kids : Nod
   as_html : reading_of above ≡ reading.AsHtml
 
 -- its start tag, and what follows it
-module _ (frames : Frames) (level : ℕ) (above : List Ancestor) (h : Head) (kids : NodesView)
-    (x : PartFits frames above h kids) where
+module _ {frames : Frames} {above : List Ancestor} {h : Head} {kids : NodesView}
+    (x : PartFits frames above h kids) (level : ℕ) where
   part_space : space_of (reading_of above) h.name ≡ nest.Html
   part_space = ap (λ r. space_of r h.name) x.as_html ∙ x.part.space
 
   part_starts : (place : ℕ) (p : Page) →
       Emits (data_at false place p) (start_tag_text h) (Start (written_tag h)) p
-  part_starts place p = element_starts above h kids x.fits x.values false place p
+  part_starts place p = element_starts x.fits x.values false place p
 
   -- the reader behind it
-  part_begun : (place : ℕ) (p : Page) → length p.stack < p.limit →
-      ((s : ℕ) → token_read (Start (written_tag h)) (started s p)
-      ≡ opened (lowered h.name) (lowered_attrs h.attrs) (started s p)) →
-      run (data_at false place p) (start_tag_text h)
-      ≡ Ok (data_at false ((part_starts place p).place + 1)
-      (begun h above (started (part_starts place p).start p)))
+  part_begun : (place : ℕ) (p : Page) → length p.stack < p.limit → ((s : ℕ) → token_read
+      (Start (written_tag h)) (started s p) ≡ opened (lowered h.name) (lowered_attrs h.attrs)
+      (started s p)) → run (data_at false place p) (start_tag_text h) ≡ Ok (data_at false
+      ((part_starts place p).place + 1) (begun h above (started (part_starts place p).start p)))
   part_begun place p limit reads =
       let e = part_starts place p in
       let before = started e.start p in
       let after = begun h above before in
-      let it = begun_element h above e.start in
       e.is after (reads e.start ∙ opened_back h before limit (space_of (reading_of above) h.name)
       part_space (tag_fits h kids (surroundings_of above) x.fits.fits))
-      ∙ (ap (λ q. Ok q) (behind_data (written_tag h) e.place after
-      (and_right (open_elements.is_html it.space) (of kind.Raw h.name) x.part.raw))
-      ∙ ap (λ b. Ok (data_at b (e.place + 1) after)) (and_left (of kind.DropsFeed (lowered h.name))
-      (is_at (of kind.DropsFeed) after.stack)
+      ∙ (ap (λ q. Ok q) (behind_data (written_tag h) e.place after (and_right _ _ x.part.raw))
+      ∙ ap (λ b. Ok (data_at b (e.place + 1) after)) (and_left _ _
       (ap (of kind.DropsFeed) x.part.small ∙ x.part.drops)))
 
   part_rest : rest frames level h kids
@@ -92,12 +82,9 @@ module _ (frames : Frames) (level : ℕ) (above : List Ancestor) (h : Head) (kid
 
   -- its children, and its end tag
   part_filled : (p : Page) (o : OpenElement) (os : List OpenElement) →
-      IsInside (ancestor h above ∷ above) p o os → (place start : ℕ) →
-      IsFilled (data_at false place (on p o os none [] start))
-      (rest frames level h kids) h.name kids p o os
-  part_filled p o os there place start =
-      subst (λ l. IsFilled (data_at false place (on p o os none [] start)) l h.name kids p o os)
-      (sym part_rest)
+      IsInside (ancestor h above ∷ above) p o os → (place start : ℕ) → IsFilled
+      (data_at false place (on p o os none [] start)) (rest frames level h kids) h.name kids p o os
+  part_filled p o os there place start = rw part_rest
       (nodes_filled frames level h.name kids p o os x.fits.named.0
       (tag_fits h kids (surroundings_of above) x.fits.fits).letter
       (kids_gathered frames level (ancestor h above ∷ above) p o os kids (nodes_lead frames kids)
@@ -111,14 +98,18 @@ pub record RootIsRead (r : Reads PageReader) (o : OpenElement) (k : Plains) : Ty
   pub same : nodes_normal root.1 ≡ k
 
 -- a text, and what follows it
-root_on : (q r : PageReader) (xs ys : List ℕ) (o : OpenElement) (k : Plains) → run q xs ≡ Ok r →
+root_on : {o : OpenElement} {k : Plains} (q r : PageReader) (xs ys : List ℕ) → run q xs ≡ Ok r →
     RootIsRead (run r ys) o k → RootIsRead (run q (xs ++ ys)) o k
-root_on q r xs ys o k e h =
+root_on {o} {k} q r xs ys e h =
     subst (λ x. RootIsRead x o k) (sym (run_on q r (run r ys) xs ys e refl)) h
 
-root_as : (q : PageReader) (xs ys : List ℕ) (o : OpenElement) (k : Plains) → xs ≡ ys →
+root_as : {o : OpenElement} {k : Plains} (q : PageReader) (xs ys : List ℕ) → xs ≡ ys →
     RootIsRead (run q ys) o k → RootIsRead (run q xs) o k
-root_as q xs ys o k e h = subst (λ l. RootIsRead (run q l) o k) (sym e) h
+root_as {o} {k} q xs ys e h = subst (λ l. RootIsRead (run q l) o k) (sym e) h
+
+root_same : {r : Reads PageReader} {o : OpenElement} {k l : Plains} → k ≡ l → RootIsRead r o k →
+    RootIsRead r o l
+root_same e h = record { root = h.root; is = h.is; head = h.head; same = h.same ∙ e }
 
 -- the root that is made where one element stands in it, and no text behind
 abbrev root_at : OpenElement → OpenElement → ElementView
@@ -145,8 +136,7 @@ stage_by : (b : Bool) (s : Stage) (ns : NodesView) →
     is_complete (stage_behind_nodes (if b then s else stage.Other) ns) ≡ true →
     (b ≡ true) × (is_complete (stage_behind_nodes s ns) ≡ true)
 stage_by true s ns h = (refl, h)
-stage_by false s ns h =
-    absurd (both_ways (is_complete (stage_behind_nodes stage.Other ns)) (other_stays ns) h)
+stage_by false s ns h = absurd (both_ways _ (other_stays ns) h)
 
 -- behind the body nothing is written, and nothing stands in the normal form
 nothing_behind : (frames : Frames) (pre_span due : Bool) (level : ℕ) (ns : NodesView) →
@@ -158,15 +148,13 @@ nothing_behind frames pre_span due level (node (tag_node t) ns) h k =
     nothing_behind frames pre_span due level ns h k
 nothing_behind frames pre_span due level (node (text_node [] span) ns) h k =
     nothing_behind frames pre_span false level ns h k
-nothing_behind frames pre_span due level (node n ns) h k =
-    absurd (both_ways (is_complete (stage_behind_nodes stage.Other ns)) (other_stays ns) h)
+nothing_behind frames pre_span due level (node n ns) h k = absurd (both_ways _ (other_stays ns) h)
 
-module _ (above : List Ancestor) (p : Page) (o : OpenElement) (inner : InRoot above p o) where
+module _ {above : List Ancestor} {p : Page} {o : OpenElement} (inner : InRoot above p o) where
   -- tokens within `html`, whose mode is by whether it has the head
   root_taken : (token : Token) (c : NodesView) (t : List ℕ) (s : ℕ) (b : Bool) (r : Reads Page) →
-      has_elements c ≡ b →
-      by_mode (if b then AfterHead else BeforeHead) token (on p o [] c t s) ≡ taken r →
-      token_read token (on p o [] c t s) ≡ r
+      has_elements c ≡ b → by_mode (if b then AfterHead else BeforeHead) token (on p o [] c t s)
+      ≡ taken r → token_read token (on p o [] c t s) ≡ r
   root_taken token c t s b r has h =
       let it : OpenElement = record o { children = c } in
       mode_taken token (on p o [] c t s) (if b then AfterHead else BeforeHead) r
@@ -177,13 +165,12 @@ module _ (above : List Ancestor) (p : Page) (o : OpenElement) (inner : InRoot ab
   -- white space behind the head
   white_there : (c : NodesView) (t : List ℕ) (s : ℕ) → has_elements c ≡ true →
       Takes is_white_char (on p o [] c t s)
-  white_there c t s has x text start passes =
-      root_taken (Char x) c text start true (Ok (on p o [] c (text ++ x ∷ []) start)) has
-      (rw passes refl)
+  white_there c t s has x text start passes = root_taken (Char x) c text start true
+      (Ok (on p o [] c (text ++ x ∷ []) start)) has (rw passes refl)
 
 -- the head or the body in the root, which its start tag opens, and the mode that it brings
-module _ (frames : Frames) (level : ℕ) (above : List Ancestor) (h : Head) (kids : NodesView)
-    (x : PartFits frames above h kids) (p : Page) (o : OpenElement) (inner : InRoot above p o)
+module _ {frames : Frames} {above : List Ancestor} {h : Head} {kids : NodesView} {p : Page}
+    {o : OpenElement} (level : ℕ) (x : PartFits frames above h kids) (inner : InRoot above p o)
     (c : NodesView) (t : List ℕ) (s here : ℕ) (has : Bool) (elements : has_elements c ≡ has)
     (opens : (q : Page) → by_mode (if has then AfterHead else BeforeHead) (Start (written_tag h)) q
     ≡ taken (opened (lowered h.name) (lowered_attrs h.attrs) q))
@@ -195,7 +182,7 @@ module _ (frames : Frames) (level : ℕ) (above : List Ancestor) (h : Head) (kid
   reader = data_at false here (on p o [] c t s)
 
   abbrev begins : Emits reader (start_tag_text h) (Start (written_tag h)) (on p o [] c t s)
-  begins = part_starts frames level above h kids x here (on p o [] c t s)
+  begins = part_starts x level here (on p o [] c t s)
 
   -- behind its start tag, the page, the element, and those around it
   abbrev page : Page
@@ -212,14 +199,14 @@ module _ (frames : Frames) (level : ℕ) (above : List Ancestor) (h : Head) (kid
       x.fits.template
 
   html_it : it.space ≡ spaces.Html
-  html_it = ap open_space (part_space frames level above h kids x)
+  html_it = ap open_space (part_space x level)
 
   mode_it : (children : NodesView) → mode (record it { children = children } ∷ outer) ≡ own
   mode_it children = brings (record it { children = children }) outer refl html_it
 
   begun_there : run reader (start_tag_text h) ≡ Ok (data_at false (begins.place + 1) page)
-  begun_there = part_begun frames level above h kids x here (on p o [] c t s)
-      (omega (arith, inner.limit)) (λ start. root_taken above p o inner (Start (written_tag h)) c t
+  begun_there = part_begun x level here (on p o [] c t s)
+      (omega (arith, inner.limit)) (λ start. root_taken inner (Start (written_tag h)) c t
       start has (opened (lowered h.name) (lowered_attrs h.attrs) (on p o [] c t start)) elements
       (opens (on p o [] c t start)))
 
@@ -230,14 +217,13 @@ module _ (frames : Frames) (level : ℕ) (above : List Ancestor) (h : Head) (kid
         calm_on (ancestor h above ∷ above) page it outer children words start refl calm_page;
     steady = λ children e. ap is_body_mode (mode_it children) ∙ steady (sym stands ∙ e);
     place = ap is_page_place stands ∙ inside;
-    raw = and_right (open_elements.is_html it.space) (of kind.Raw h.name) x.part.raw;
+    raw = and_right _ _ x.part.raw;
     limit = inner.limit;
   }
 
   filled : IsFilled (data_at false (begins.place + 1) page) (rest frames level h kids) h.name kids
       page it outer
-  filled = part_filled frames level above h kids x page it outer there (begins.place + 1)
-      begins.start
+  filled = part_filled x level page it outer there (begins.place + 1) begins.start
 
   -- a token in it
   own_taken : (token : Token) (children : NodesView) (words : List ℕ) (start : ℕ) (r : Reads Page) →
@@ -263,12 +249,10 @@ module _ (frames : Frames) (level : ℕ) (above : List Ancestor) (h : Head) (kid
 
   -- the body, whose end tag and that of the root do nothing
   body_read : ((n : List ℕ) → of kind.Root n ≡ true → (q : Page) →
-      by_mode own (End n) q ≡ taken (Ok q)) →
-      ((q : Page) → by_mode own Finish q ≡ taken (Ok q)) → of kind.Root (lowered h.name) ≡ true →
-      (root : List ℕ) → of kind.Root (lowered root) ≡ true →
+      by_mode own (End n) q ≡ taken (Ok q)) → ((q : Page) → by_mode own Finish q ≡ taken (Ok q)) →
+      of kind.Root (lowered h.name) ≡ true → (root : List ℕ) → of kind.Root (lowered root) ≡ true →
       ((fresh : Bool) (place : ℕ) (q : Page) →
-      Emits (data_at fresh place q) (end_tag_text root) (End (lowered root)) q) →
-      RootIsRead
+      Emits (data_at fresh place q) (end_tag_text root) (End (lowered root)) q) → RootIsRead
       (run reader ((start_tag_text h ++ rest frames level h kids) ++ end_tag_text root)) o
       (put_nodes c (put_words t (plain (branch h.name h.attrs (nodes_normal kids)) no_plains)))
   body_read stays finishes is_own root is_root ends =
@@ -279,38 +263,27 @@ module _ (frames : Frames) (level : ℕ) (above : List Ancestor) (h : Head) (kid
       let y : OpenElement = with_text t (record o { children = c }) in
       let z : OpenElement = record it { children = texted_children begins.start children words } in
       let w : OpenElement = record o { children = texted_children o.head.span c t } in
-      let ended : (n : List ℕ) (start : ℕ) → of kind.Root n ≡ true →
-      token_read (End n) (last start) ≡ Ok (last start) =
-      λ n start k. own_taken (End n) children words start (Ok (last start))
+      let ended : (n : List ℕ) (start : ℕ) → of kind.Root n ≡ true → token_read (End n) (last start)
+      ≡ Ok (last start) = λ n start k. own_taken (End n) children words start (Ok (last start))
       (stays n k (last start)) in
-      let whole : run reader ((start_tag_text h ++ rest frames level h kids) ++ end_tag_text root)
-      ≡ Ok (data_at false (e.place + 1) (last e.start)) =
-      run_on reader (data_at false filled.place (last filled.start))
-      (Ok (data_at false (e.place + 1) (last e.start)))
-      (start_tag_text h ++ rest frames level h kids) (end_tag_text root)
-      (run_on reader (data_at false (begins.place + 1) page)
-      (Ok (data_at false filled.place (last filled.start)))
-      (start_tag_text h) (rest frames level h kids) begun_there
+      let whole =
+      run_on reader _ _ (start_tag_text h ++ rest frames level h kids) (end_tag_text root)
+      (run_on reader _ _ (start_tag_text h) (rest frames level h kids) begun_there
       (filled.is (last filled.start) (ended (lowered h.name) filled.start is_own)))
       (e.is (last e.start) (ended (lowered root) e.start is_root)) in
-      let over : finished (data_at false (e.place + 1) (last e.start))
-      ≡ Ok (reading_at false (e.place + 1) (last (e.place + 1))) =
-      ap (λ r. r next (λ u. Ok (reading_at false (e.place + 1) u)))
+      let over = ap (λ r. r next (λ u. Ok (reading_at false (e.place + 1) u)))
       (own_taken Finish children words (e.place + 1) (Ok (last (e.place + 1)))
       (finishes (last (e.place + 1)))) in
       record {
         root = root_at z w;
-        is = ap (λ r. (r next finished) next page_made) whole
-            ∙ (ap (λ r. r next page_made) over
+        is = ap (λ r. (r next finished) next page_made) whole ∙ (ap (λ r. r next page_made) over
             ∙ (ap (λ u. made_at u y p.notes) (with_text_is words it children)
-            ∙ (ap (λ v. made_at z v p.notes) (with_text_is t o c)
-            ∙ ap (made_at z w) inner.notes)));
+            ∙ (ap (λ v. made_at z v p.notes) (with_text_is t o c) ∙ ap (made_at z w) inner.notes)));
         head = refl;
         same = normal_is (with_last w.children (completed z))
             ∙ (put_last w.children (completed z) no_plains
             ∙ (ap (λ n. put_nodes w.children (plain (branch h.name h.attrs n) no_plains))
-            (filled_normal (data_at false (begins.place + 1) page)
-            (rest frames level h kids) h.name kids page it outer begins.start filled)
+            (filled_normal begins.start filled)
             ∙ put_texted o.head.span c t (plain (branch h.name h.attrs (nodes_normal kids))
             no_plains)));
       }
@@ -320,8 +293,8 @@ root_stays : (n : List ℕ) → of kind.Root n ≡ true → (q : Page) →
     by_mode InBody (End n) q ≡ taken (Ok q)
 root_stays n h q = rw h refl
 
-module _ (frames : Frames) (pre_span : Bool) (level : ℕ) (above : List Ancestor) (p : Page)
-    (o : OpenElement) (inner : InRoot above p o) (root : List ℕ)
+module _ (frames : Frames) (pre_span : Bool) (level : ℕ) {above : List Ancestor} {p : Page}
+    {o : OpenElement} (inner : InRoot above p o) (root : List ℕ)
     (is_root : of kind.Root (lowered root) ≡ true) (ends : (fresh : Bool) (place : ℕ) (q : Page) →
     Emits (data_at fresh place q) (end_tag_text root) (End (lowered root)) q) where
   abbrev before : (place : ℕ) → NodesView → (t : List ℕ) → (s : ℕ) → PageReader
@@ -335,27 +308,19 @@ module _ (frames : Frames) (pre_span : Bool) (level : ℕ) (above : List Ancesto
       (c : NodesView) (t : List ℕ) (s place : ℕ) where
     part_fits : stands_in part_names h.name ≡ true → PartFits frames above h kids
     unfolding node_faults nodes_faults
-    part_fits name =
-        let values = attrs_faults h.span h.attrs in
-        let content =
-        if ends_at_once h then void_faults h.span kids else inside_faults frames h kids in
-        let here : values ++ content ≡ [] =
-        left_empty (values ++ content) (nodes_faults frames pre_span false ns) clean in
-        record {
-          part = part_of h.name name;
-          fits = f;
-          values = left_empty values content here;
-          content = right_empty values content here;
-          as_html = inner.as_html;
-        }
+    part_fits name = record {
+      part = part_of h.name name;
+      fits = f;
+      values = left_empty _ _ (left_empty _ _ clean);
+      content = right_empty _ _ (left_empty _ _ clean);
+      as_html = inner.as_html;
+    }
 
     -- where the children of that part stand
     place_part : (name : List ℕ) (x : PartFits frames above h kids) → h.name ≡ name →
         place_of (ancestor h above ∷ above) ≡ place_in (is_in (of kind.Head) above) name
-    place_part name x e =
-        ap (λ y. place_inside (is_in (of kind.Head) above) y h.name)
-        (part_space frames level above h kids x)
-        ∙ ap (place_in (is_in (of kind.Head) above)) e
+    place_part name x e = ap (λ y. place_inside (is_in (of kind.Head) above) y h.name)
+        (part_space x level) ∙ ap (place_in (is_in (of kind.Head) above)) e
 
     body_behind : h.name ≡ codes "body" → has_elements c ≡ true →
         RootIsRead (run (before place c t s) (contents h kids ++ end_tag_text root)) o
@@ -366,8 +331,7 @@ module _ (frames : Frames) (pre_span : Bool) (level : ℕ) (above : List Ancesto
         let low : lowered h.name ≡ codes "body" = x.part.small ∙ name in
         let no_html = ap (of kind.Html) low in
         let is_body = ap (of kind.Body) low in
-        body_read frames (level + 1) above h kids x p o inner c t s place true has
-        (λ q. rw (no_html, is_body) refl) InBody
+        body_read (level + 1) x inner c t s place true has (λ q. rw (no_html, is_body) refl) InBody
         (λ it os e html. mode_of (codes "body") it os (e ∙ name) html) places.Body
         (place_part (codes "body") x name) refl (λ e. refl) root_stays (λ q. refl)
         (ap (of kind.Root) low) root is_root ends
@@ -380,7 +344,7 @@ module _ (frames : Frames) (pre_span : Bool) (level : ℕ) (above : List Ancesto
         let x = part_fits (ap (stands_in part_names) name) in
         let low : lowered h.name ≡ codes "head" = x.part.small ∙ name in
         let is_head = ap (of kind.Head) low in
-        head_read frames (level + 1) above h kids x p o inner c t s place false none_yet
+        head_read (level + 1) x inner c t s place false none_yet
         (λ q. begins_named (codes "head") (written_tag h) q low) InHead
         (λ it os e html. mode_of (codes "head") it os (e ∙ name) html) places.Head
         (place_part (codes "head") x name) refl (λ e. absurd (cc)) (λ q. rw is_head refl)
@@ -389,50 +353,36 @@ module _ (frames : Frames) (pre_span : Bool) (level : ℕ) (above : List Ancesto
   behind_head : (ns : NodesView) (due : Bool) (place : ℕ) (c : NodesView) (t : List ℕ) (s : ℕ) →
       has_elements c ≡ true → is_complete (stage_behind_nodes stage.BehindHead ns) ≡ true →
       NodesFit above ns → nodes_faults frames pre_span false ns ≡ [] →
-      RootIsRead (run (before place c t s)
-      (nodes_text frames pre_span due (shut level) ns ++ end_tag_text root)) o
-      (put_nodes c (put_words t (put_nodes ns no_plains)))
+      RootIsRead (run (before place c t s) (nodes_text frames pre_span due
+      (shut level) ns ++ end_tag_text root)) o (put_nodes c (put_words t (put_nodes ns no_plains)))
   unfolding node_text nodes_text node_faults nodes_faults
   behind_head none due place c t s has done f clean = absurd (false≢true done)
   behind_head (node (tag_node m) ns) due place c t s has done f clean =
-      behind_head ns due place c t s has done (rest_fits above (tag_node m) ns f) clean
+      behind_head ns due place c t s has done (rest_fits f) clean
   behind_head (node (text_node text span) ns) due place c t s has done f clean =
       let white = stage_by (is_white text) stage.BehindHead ns done in
-      let here = text_faults (escaping_of pre_span) span text in
-      let more = nodes_faults frames pre_span false ns in
+      let l = text_leads pre_span text span is_white_char (left_empty _ _ clean)
+      (no_return text (surroundings_of above) (text_fits f)) white.0 false place
+      (on p o [] c t s) (white_there inner c t s has) (λ k. absurd (false≢true k)) in
       let written = escaped_text (escaping_of pre_span) text in
       let later = nodes_text frames pre_span false (shut level) ns in
-      let l = text_leads pre_span text span is_white_char (left_empty here more clean)
-      (no_return text (surroundings_of above) (text_fits above text span ns f)) white.0 false place
-      (on p o [] c t s) (white_there above p o inner c t s has) (λ k. absurd (false≢true k)) in
-      let all = put_nodes c (put_words t (put_words text (put_nodes ns no_plains))) in
-      root_as (before place c t s) ((written ++ later) ++ end_tag_text root)
-      (written ++ (later ++ end_tag_text root)) o all
-      (append_assoc written later (end_tag_text root))
-      (root_on (before place c t s) (before l.place c (t ++ text) l.start) written
-      (later ++ end_tag_text root) o all l.is
-      (subst (RootIsRead
-      (run (before l.place c (t ++ text) l.start) (later ++ end_tag_text root)) o)
-      (ap (put_nodes c) (sym (put_twice t text (put_nodes ns no_plains))))
-      (behind_head ns false l.place c (t ++ text) l.start has white.1
-      (rest_fits above (text_node text span) ns f) (right_empty here more clean))))
+      root_as (before place c t s) _ _ (append_assoc written later (end_tag_text root))
+      (root_on (before place c t s) _ written (later ++ end_tag_text root) l.is
+      (root_same (ap (put_nodes c) (sym (put_twice t text _)))
+      (behind_head ns false l.place c (t ++ text) l.start has white.1 (rest_fits f)
+      (right_empty _ _ clean))))
   behind_head (node (element_node h kids) ns) due place c t s has done f clean =
       let body = stage_by (of kind.Body h.name) stage.BehindBody ns done in
       let behind = due_after due (element_node h kids) in
-      let later = nodes_text frames pre_span behind (shut level) ns in
       let nothing = nothing_behind frames pre_span behind level ns body.1 no_plains in
       let it = branch h.name h.attrs (nodes_normal kids) in
-      let all = put_nodes c (put_words t (plain it (put_nodes ns no_plains))) in
-      root_as (before place c t s) ((contents h kids ++ later) ++ end_tag_text root)
-      (contents h kids ++ end_tag_text root) o all
-      (ap (λ l. (contents h kids ++ l) ++ end_tag_text root) nothing.0
-      ∙ ap (λ l. l ++ end_tag_text root) (append-nil (contents h kids)))
-      (subst (RootIsRead (run (before place c t s) (contents h kids ++ end_tag_text root)) o)
-      (ap (λ k. put_nodes c (put_words t (plain it k))) (sym nothing.1))
-      (body_behind h kids ns (element_fits above h kids ns f) clean c t s place
+      root_as (before place c t s) _ _ (ap (λ l. (contents h kids ++ l) ++ end_tag_text root)
+      nothing.0 ∙ ap (λ l. l ++ end_tag_text root) (append-nil (contents h kids)))
+      (root_same (ap (λ k. put_nodes c (put_words t (plain it k))) (sym nothing.1))
+      (body_behind h kids ns (element_fits f) clean c t s place
       (name_of kind.Body (codes "body") h.name refl body.0) has))
   behind_head (node (frame_node b) ns) due place c t s has done f clean =
-      absurd (both_ways (is_complete (stage_behind_nodes stage.Other ns)) (other_stays ns) done)
+      absurd (both_ways _ (other_stays ns) done)
 
   -- before it
   first_read : (ns : NodesView) (due : Bool) (place s : ℕ) →
@@ -443,31 +393,23 @@ module _ (frames : Frames) (pre_span : Bool) (level : ℕ) (above : List Ancesto
   unfolding node_text nodes_text node_faults nodes_faults
   first_read none due place s done f clean = absurd (false≢true done)
   first_read (node (tag_node m) ns) due place s done f clean =
-      first_read ns due place s done (rest_fits above (tag_node m) ns f) clean
+      first_read ns due place s done (rest_fits f) clean
   first_read (node (text_node [] span) ns) due place s done f clean =
-      first_read ns false place s done (rest_fits above (text_node [] span) ns f) clean
+      first_read ns false place s done (rest_fits f) clean
   first_read (node (element_node h kids) ns) due place s done f clean =
       let head = stage_by (of kind.Head h.name) stage.BehindHead ns done in
-      let behind = due_after due (element_node h kids) in
-      let later = nodes_text frames pre_span behind (shut level) ns in
-      let own = attrs_faults h.span h.attrs
-      ++ (if ends_at_once h then void_faults h.span kids else inside_faults frames h kids) in
-      let x = head_first h kids ns (element_fits above h kids ns f) clean none [] s place
+      let x = head_first h kids ns (element_fits f) clean none [] s place
       (name_of kind.Head (codes "head") h.name refl head.0) refl in
       let g = x.0 in
-      let all = put_nodes (node (element_node h kids) ns) no_plains in
-      root_as (before place none [] s) ((contents h kids ++ later) ++ end_tag_text root)
-      (contents h kids ++ (later ++ end_tag_text root)) o all
+      let behind = due_after due (element_node h kids) in
+      let later = nodes_text frames pre_span behind (shut level) ns in
+      root_as (before place none [] s) _ _
       (append_assoc (contents h kids) later (end_tag_text root))
-      (root_on (before place none [] s) (before g.place g.children g.words g.start)
-      (contents h kids) (later ++ end_tag_text root) o all g.is
-      (subst (RootIsRead (run (before g.place g.children g.words g.start)
-      (later ++ end_tag_text root)) o) (g.same (put_nodes ns no_plains))
-      (behind_head ns behind g.place g.children g.words g.start x.1 head.1
-      (rest_fits above (element_node h kids) ns f)
-      (right_empty own (nodes_faults frames pre_span false ns) clean))))
-  first_read (node n ns) due place s done f clean =
-      absurd (both_ways (is_complete (stage_behind_nodes stage.Other ns)) (other_stays ns) done)
+      (root_on (before place none [] s) _ (contents h kids) (later ++ end_tag_text root) g.is
+      (root_same (g.same (put_nodes ns no_plains))
+      (behind_head ns behind g.place g.children g.words g.start x.1
+      head.1 (rest_fits f) (right_empty _ _ clean))))
+  first_read (node n ns) due place s done f clean = absurd (both_ways _ (other_stays ns) done)
 
 -- the root
 
@@ -485,13 +427,13 @@ module _ (frames : Frames) (limit : ℕ) (h : Head) (kids : NodesView) (deep : 5
     (complete : is_complete (stage_behind_nodes stage.First kids) ≡ true) where
   abbrev starts : Emits (data_at false 15 (typed limit)) (start_tag_text h) (Start (written_tag h))
       (typed limit)
-  starts = part_starts frames 0 [] h kids x 15 (typed limit)
+  starts = part_starts x 0 15 (typed limit)
 
   abbrev root_page : Page
   root_page = begun h [] (started starts.start (typed limit))
 
   root_space : space_of reading.AsHtml h.name ≡ nest.Html
-  root_space = part_space frames 0 [] h kids x
+  root_space = part_space x 0
 
   in_root : InRoot (ancestor h [] ∷ []) root_page (begun_element h [] starts.start)
   in_root = record {
@@ -513,8 +455,6 @@ module _ (frames : Frames) (limit : ℕ) (h : Head) (kids : NodesView) (deep : 5
       (put_nodes kids no_plains)
   unfolding names
   root_read =
-      let o = begun_element h [] starts.start in
-      let all = put_nodes kids no_plains in
       let tag = tag_fits h kids (surroundings_of []) x.fits.fits in
       let low : lowered h.name ≡ codes "html" = x.part.small ∙ name in
       let nodes = nodes_text frames h.pre_span true (shut 0) kids ++ end_tag_text h.name in
@@ -524,54 +464,44 @@ module _ (frames : Frames) (limit : ℕ) (h : Head) (kids : NodesView) (deep : 5
       (opened (lowered h.name) (lowered_attrs h.attrs) (started s (typed limit))) refl refl refl
       (begins_named (codes "html") (written_tag h) (started s (typed limit)) low) in
       root_on (first_reader limit 0) (data_at false 15 (typed limit)) (codes "<!DOCTYPE html>")
-      ((start_tag_text h ++ rest frames 0 h kids) ++ []) o all (type_read limit)
-      (root_as (data_at false 15 (typed limit)) ((start_tag_text h ++ rest frames 0 h kids) ++ [])
-      (start_tag_text h ++ nodes) o all
+      ((start_tag_text h ++ rest frames 0 h kids) ++ []) (type_read limit)
+      (root_as (data_at false 15 (typed limit)) _ (start_tag_text h ++ nodes)
       (append-nil (start_tag_text h ++ rest frames 0 h kids)
-      ∙ ap (λ l. start_tag_text h ++ l) (part_rest frames 0 [] h kids x))
+      ∙ ap (λ l. start_tag_text h ++ l) (part_rest x 0))
       (root_on (data_at false 15 (typed limit)) (data_at false (starts.place + 1) root_page)
-      (start_tag_text h) nodes o all
-      (part_begun frames 0 [] h kids x 15 (typed limit) (omega (arith, deep)) begins)
-      (first_read frames h.pre_span 0 (ancestor h [] ∷ []) root_page o in_root h.name
-      (ap (of kind.Root) low)
+      (start_tag_text h) nodes
+      (part_begun x 0 15 (typed limit) (omega (arith, deep)) begins)
+      (first_read frames h.pre_span 0 in_root h.name (ap (of kind.Root) low)
       (λ fresh at q. end_emits h.name x.fits.named.0 tag.letter fresh at q) kids true
-      (starts.place + 1) starts.start complete x.fits.below (part_faults frames 0 [] h kids x))))
+      (starts.place + 1) starts.start complete x.fits.below (part_faults x 0))))
 
 pub trees_stay : TreesStay
 unfolding NodeIsNamed NodeIsReadable node_text node_faults names
 trees_stay frames limit e kept deep =
-    let named = kept.named in
-    let readable = kept.readable in
     let h = e.0 in
     let kids = e.1 in
-    let here = root_misnesting e (surroundings_of []) in
-    let below = nodes_misnested [] 0 (ancestor h [] ∷ []) kids in
-    let rules = else_none (is_page e) why.NoPage (element_misnesting h kids (surroundings_of []))
-    (found_none [] h.span here (left_empty (found [] h.span here) below kept.nested)) in
-    let page = and_parts (of kind.Html h.name) (is_complete (stage_behind_nodes stage.First kids))
-    rules.0 in
+    let rules = else_none _ (found_none _ _ _ (left_empty _ _ kept.nested)) in
+    let page = and_parts _ _ rules.0 in
     let name = name_of kind.Html (codes "html") h.name refl page.0 in
-    let values = attrs_faults h.span h.attrs in
-    let content = if ends_at_once h then void_faults h.span kids else inside_faults frames h kids in
     let x : PartFits frames [] h kids = record {
       part = part_of h.name (ap (stands_in part_names) name);
       fits = record {
-        named = named.0;
-        template = readable.0.0;
-        few = readable.0.1;
+        named = kept.named.0;
+        template = kept.readable.0.0;
+        few = kept.readable.0.1;
         shallow = omega arith;
         fits = rules.1;
         below = record {
           path = [];
           index = 0;
-          named = named.1;
+          named = kept.named.1;
           frame_free = kept.frame_free;
-          readable = readable.1;
-          nested = right_empty (found [] h.span here) below kept.nested;
+          readable = kept.readable.1;
+          nested = right_empty _ _ kept.nested;
         };
       };
-      values = left_empty values content kept.clean;
-      content = right_empty values content kept.clean;
+      values = left_empty _ _ kept.clean;
+      content = right_empty _ _ kept.clean;
       as_html = refl;
     } in
     let r = root_read frames limit h kids deep name x page.1 in

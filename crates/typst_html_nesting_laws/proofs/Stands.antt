@@ -1,21 +1,19 @@
 -- An element of HTML that stands where the rules let it brings its own mode, or none, in a body.
 use Rattle.std.proofs.Common.{◌≡◌, ◌⊎◌, ℕ, Bool, true, false, not, ◌&&◌, ◌||◌, List, [], ◌∷◌, inl, inr, refl, sym, ap, subst, ◌∙◌}
-use Rattle.std.{proofs.lemmas.Bool.{and_from, both_ways, cases_Bool, false≢true, or_cases, or_parts}, specs.Prelude.{if◌then◌else◌, None}}
-use Rattle.html_names_core.specs.Kinds.{is_foreign_self_closing, is_void}
+use Rattle.std.{proofs.lemmas.Bool.{and_from, both_ways, false≢true, or_parts}, specs.Prelude.{if◌then◌else◌, None}}
+use Rattle.html_names_core.specs.Kinds.{is_void}
 use Rattle.html_dom_tree.specs.Tree.{Head, NodesView}
+use Rattle.html_page_nesting.specs.{Ancestors.{Ancestor, is_in, place_in, place_of, reading_of, space_of}, Surroundings.{surroundings_of}}
+use Rattle.html_page_nesting.specs.NestingRules.{body_misnesting, element_misnesting, is_in_tables, named_misnesting}
+use Rattle.html_page_nesting.specs.declared.{reading.Place.{Place}, surroundings.Surroundings.{Surroundings}}
 use Rattle.html_page_nesting.specs.Ancestors as nest
-use Rattle.html_page_nesting.specs.Ancestors.{Ancestor, is_in, place_in, place_of, reading_of, space_of}
-use Rattle.html_page_nesting.specs.NestingRules.{body_misnesting, element_misnesting, is_in_tables, is_never_read, named_misnesting}
-use Rattle.html_page_nesting.specs.Surroundings.{surroundings_of}
 use Rattle.html_page_nesting.specs.declared.misnesting.Misnesting.TheVariants as why
-use Rattle.html_page_nesting.specs.declared.reading.Place.{Place}
 use Rattle.html_page_nesting.specs.declared.reading.Place.TheVariants as place
-use Rattle.html_page_nesting.specs.declared.surroundings.Surroundings.{Surroundings}
 use Rattle.html_page_names.specs.{PageNames.{kind_names, of}, declared.kind.Kind.{Kind}}
 use Rattle.html_page_names.specs.declared.kind.Kind.TheVariants as kind
 use Rattle.html_page_stack.specs.{OpenElements.{OpenElement, is_at, named_mode}, declared.modes.Mode.{Mode}}
 use Rattle.html_page_stack.specs.declared.modes.Mode.TheVariants.{InHeadNoscript, InText, InTable, InCaption, InColumns, InSection, InRow, InCell}
-use Rattle.typst_html_nesting_laws.proofs.{Alike.{at_is}, Branches.{first_false, first_true, if_none, second_true}}
+use Rattle.typst_html_nesting_laws.proofs.{Alike.{at_is}, Branches.{first_false, first_true, if_none, second_true, decide, of_two}}
 use Rattle.typst_html_nesting_laws.proofs.{KindFacts.{AllPass, names, outside_of, passes_of}, Modes.{brings, place_test, placed}}
 use Rattle.typst_html_nesting_laws.proofs.{Rules.{content_fits, has, html_read, named_kept}, Ways.{AreAlike, ends_at_once, is_page_place}}
 
@@ -57,94 +55,64 @@ module _ (n : List ℕ) (os : List OpenElement) where
   -- in a body
   in_body : (around : Surroundings) → body_misnesting n around ≡ None → Stands n os place.Body
   in_body around h =
-      let part = if_none (of kind.TablePart n) why.OutsideTable _ h in
-      let read = if_none (is_never_read n) why.NeverRead _ part.1 in
-      let never = or_parts (of kind.Root n || of kind.Misplaced n || of kind.Image n) _ read.0 in
-      let some = or_parts (of kind.Root n || of kind.Misplaced n) (of kind.Image n) never.0 in
-      let root = or_parts (of kind.Root n) (of kind.Misplaced n) some.0 in
+      let part = if_none why.OutsideTable h in
+      let read = if_none why.NeverRead part.1 in
+      let never = or_parts _ _ read.0 in
+      let some = or_parts _ _ never.0 in
+      let root = or_parts _ _ some.0 in
       let body = outside_of (of kind.Root) kind.Body n (unfold names in refl) root.0 in
       let head = outside_of (of kind.Misplaced) kind.Head n (unfold names in refl) root.1 in
       let p = parts part.0 in
-      elim (cases_Bool (of kind.Table n)) [
-        | inl table ↦ own place.Body InTable table
-        | inr table ↦ elim (cases_Bool (of kind.Raw n)) [
-          | inl raw ↦ own place.Body InText raw
-          | inr raw ↦ elim (cases_Bool (of kind.Noscript n && is_at (of kind.Head) os)) [
-            | inl noscript ↦ own place.Body InHeadNoscript noscript
-            | inr noscript ↦ inr (record {
-              none = rw (p.0, p.1, p.2, p.3, p.4, table, body, head, raw, noscript) refl;
-              body = refl;
-              part = part.0;
-              table = table;
-              root = root.0;
-            })
-          ]
-        ]
-      ]
+      decide (of kind.Table n) (own place.Body InTable)
+      (λ table. decide (of kind.Raw n) (own place.Body InText)
+      (λ raw. decide (of kind.Noscript n && is_at (of kind.Head) os)
+      (own place.Body InHeadNoscript)
+      (λ noscript. inr (record {
+        none = rw (p.0, p.1, p.2, p.3, p.4, table, body, head, raw, noscript) refl;
+        body = refl;
+        part = part.0;
+        table = table;
+        root = root.0;
+      }))))
 
   module _ (plain : of kind.Template n ≡ false) (filled : is_void n ≡ false)
       (leaf : of kind.HeadLeaf n ≡ false) where
     -- elements that are text alone, but for those without an end tag
-    text_alone : (k : Kind) (p : Place) →
-        AllPass (λ m. of kind.HeadLeaf m || of kind.Raw m) (kind_names k) → of k n ≡ true →
-        Stands n os p
+    text_alone : (k : Kind) (p : Place) → AllPass
+        (λ m. of kind.HeadLeaf m || of kind.Raw m) (kind_names k) → of k n ≡ true → Stands n os p
     text_alone k p all h =
         let test = λ (m : List ℕ). of kind.HeadLeaf m || of kind.Raw m in
-        own p InText
-        (second_true (of kind.HeadLeaf n) (of kind.Raw n) (passes_of test k n all h) leaf)
+        own p InText (second_true (passes_of test k n all h) leaf)
 
     -- a script or a style in a table
     in_table : (p : Place) → is_in_tables n ≡ true → Stands n os p
-    in_table p h = text_alone kind.ScriptOrStyle p (unfold names in refl)
-        (first_true (of kind.ScriptOrStyle n) (of kind.Template n) h plain)
+    in_table p h = text_alone kind.ScriptOrStyle p (unfold names in refl) (first_true h plain)
 
     -- in each place
     stands_at : (p : Place) (around : Surroundings) → is_page_place p ≡ false →
-        named_misnesting p n around ≡ None →
-        (p ≡ place.Head → is_at (of kind.Head) os ≡ true) → Stands n os p
+        named_misnesting p n around ≡ None → (p ≡ place.Head → is_at (of kind.Head) os ≡ true) →
+        Stands n os p
     stands_at place.Page around page h head = absurd (false≢true (sym page))
     stands_at place.Head around page h head =
         let k = has place.Head n around page h (λ e. cc) in
-        elim (or_cases (of kind.HeadContent n) (of kind.Noscript n)
-        (first_true (of kind.HeadContent n || of kind.Noscript n) (of kind.Template n) k plain)) [
-          | inl e ↦ text_alone kind.HeadContent place.Head (unfold names in refl) e
-          | inr e ↦ own place.Head InHeadNoscript
-              (and_from (of kind.Noscript n) (is_at (of kind.Head) os) e (head refl))
-        ]
+        of_two (first_true k plain) (text_alone kind.HeadContent place.Head (unfold names in refl))
+        (λ e. own place.Head InHeadNoscript (and_from _ _ e (head refl)))
     stands_at place.HeadNoscript around page h head =
         text_alone kind.NoscriptContent place.HeadNoscript (unfold names in refl)
         (has place.HeadNoscript n around page h (λ e. cc))
     stands_at place.Table around page h head =
         let k = has place.Table n around page h (λ e. cc) in
-        elim (or_cases (of kind.Caption n || of kind.Colgroup n || of kind.Section n)
-        (is_in_tables n) k) [
-          | inl c ↦
-              elim (or_cases (of kind.Caption n || of kind.Colgroup n) (of kind.Section n) c) [
-                | inl d ↦ elim (or_cases (of kind.Caption n) (of kind.Colgroup n) d) [
-                  | inl e ↦ own place.Table InCaption e
-                  | inr e ↦ own place.Table InColumns e
-                ]
-                | inr e ↦ own place.Table InSection e
-              ]
-          | inr e ↦ in_table place.Table e
-        ]
+        of_two k
+        (λ c. of_two c (λ d. of_two d (own place.Table InCaption) (own place.Table InColumns))
+        (own place.Table InSection)) (in_table place.Table)
     stands_at place.Section around page h head =
-        elim (or_cases (of kind.Tr n) (is_in_tables n)
-        (has place.Section n around page h (λ e. cc))) [
-          | inl e ↦ own place.Section InRow e
-          | inr e ↦ in_table place.Section e
-        ]
+        of_two (has place.Section n around page h (λ e. cc)) (own place.Section InRow)
+        (in_table place.Section)
     stands_at place.Row around page h head =
-        elim (or_cases (of kind.Cell n) (is_in_tables n)
-        (has place.Row n around page h (λ e. cc))) [
-          | inl e ↦ own place.Row InCell e
-          | inr e ↦ in_table place.Row e
-        ]
+        of_two (has place.Row n around page h (λ e. cc)) (own place.Row InCell) (in_table place.Row)
     stands_at place.Columns around page h head =
-        let column = first_true (of kind.Col n) (of kind.Template n)
-        (has place.Columns n around page h (λ e. cc)) plain in
-        absurd (both_ways (is_void n) filled
-        (passes_of is_void kind.Col n (unfold names in refl) column))
+        let column = first_true (has place.Columns n around page h (λ e. cc)) plain in
+        absurd (both_ways _ filled (passes_of is_void kind.Col n (unfold names in refl) column))
     stands_at place.Body around page h head = in_body around h
 
 -- within the head, the parent is the head
@@ -152,26 +120,22 @@ head_parent : (above : List Ancestor) → place_of above ≡ place.Head →
     is_in (of kind.Head) above ≡ true
 head_parent [] e = absurd (cc)
 head_parent (a ∷ above) e = by_space (nest.is_html a.space) e where
-  by_space : (b : Bool) →
-      (if b then place_in (is_in (of kind.Head) above) a.head.name else place.Body) ≡ place.Head →
-      (b && of kind.Head a.head.name) ≡ true
+  by_space : (b : Bool) → (if b then place_in (is_in (of kind.Head) above)
+      a.head.name else place.Body) ≡ place.Head → (b && of kind.Head a.head.name) ≡ true
   by_space true h = subst (λ p. place_test p (is_in (of kind.Head) above) a.head.name ≡ true) h
       (placed (is_in (of kind.Head) above) a.head.name)
   by_space false h = absurd (cc)
 
 -- of an element of HTML
 pub html_stands : (above : List Ancestor) (h : Head) (kids : NodesView) (os : List OpenElement) →
-    AreAlike above os → is_page_place (place_of above) ≡ false →
-    element_misnesting h kids (surroundings_of above) ≡ None →
-    nest.is_html (space_of (reading_of above) h.name) ≡ true → of kind.Template h.name ≡ false →
-    ends_at_once h ≡ false → Stands h.name os (place_of above)
+    AreAlike above os → is_page_place (place_of above) ≡ false → element_misnesting h kids
+    (surroundings_of above) ≡ None → nest.is_html (space_of (reading_of above) h.name) ≡ true →
+    of kind.Template h.name ≡ false → ends_at_once h ≡ false → Stands h.name os (place_of above)
 html_stands above h kids os alike page rules html plain once =
     let around = surroundings_of above in
-    let read = html_read (reading_of above) h.name html in
-    let filled = (or_parts (is_foreign_self_closing h.name) (is_void h.name) once).1 in
-    let ends = first_false (of kind.Leaf h.name || of kind.HeadLeaf h.name) (not (is_void h.name))
-    (content_fits h kids around rules read).ends (ap not filled) in
-    stands_at h.name os plain filled
-    (or_parts (of kind.Leaf h.name) (of kind.HeadLeaf h.name) ends).1 (place_of above) around page
-    (named_kept h kids around rules read)
-    (λ e. at_is (of kind.Head) above os alike ∙ head_parent above e)
+    let read = html_read _ _ html in
+    let filled = (or_parts _ _ once).1 in
+    let ends = first_false (content_fits h kids around rules read).ends (ap not filled) in
+    stands_at h.name os plain filled (or_parts _ _ ends).1 (place_of above) around page
+    (named_kept h kids around rules read) (λ e. at_is (of kind.Head) above os alike
+    ∙ head_parent above e)

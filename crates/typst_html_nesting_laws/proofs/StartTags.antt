@@ -1,25 +1,22 @@
 -- A start tag is read as one, its names in small letters.
-use Rattle.std.proofs.Common.{◌≡◌, ℕ, ◌+◌, ◌<◌, ◌≤◌, Bool, true, false, not, ◌&&◌, inl, inr, List, [], ◌∷◌, ◌++◌, bytes_eq, codes, eqb, length, refl, sym, ap, ◌∙◌, subst, arith, append_assoc, append-nil, drop, length-append, None, Ok}
-use Rattle.std.proofs.lemmas.{Bool.{and_from, and_parts, cases_Bool, lt-leb, not-false, not-true, or_parts}, List.{length-map}}
-use Rattle.std.proofs.lemmas.Bool.Decides.{nat_tests}
+use Rattle.std.proofs.Common.{◌≡◌, ℕ, ◌+◌, ◌≤◌, Bool, true, false, List, [], ◌∷◌, ◌++◌, bytes_eq, codes, eqb, length, refl, sym, ap, ◌∙◌, subst, arith, append_assoc, append-nil, drop, length-append, None, Ok}
+use Rattle.std.proofs.lemmas.{Bool.{and_from, and_parts, lt-leb, not-false, not-true, or_parts, Decides.{nat_tests}}, List.{length-map}}
 use Rattle.std.specs.{Char.{len_utf8, to_ascii_lowercase}, List.{list_any}, Prelude.{if◌then◌else◌, nat_le}}
-use Rattle.html_names_core.proofs.Basics.{bytes_eq-sym}
-use Rattle.html_names_core.specs.{Characters.{all, IsOf, is_attr_char, is_text_char, is_value_char}, Kinds.{is_foreign_self_closing}}
-use Rattle.html_names_core.specs.Names.{attr_fault}
+use Rattle.html_names_core.{proofs.Basics.{bytes_eq-sym}, specs.Characters.{all, IsOf, is_attr_char, is_text_char, is_value_char}}
+use Rattle.html_names_core.specs.{Kinds.{is_foreign_self_closing}, Names.{attr_fault}}
 use Rattle.html_dom_tree.specs.{Attributes.{first, has_name, names_differ}, Tree.{TextPair, Head}}
 use Rattle.html_page_nesting.specs.{WrittenTags.{begins_with_letter}, WrittenTexts.{has_return, is_return}}
-use Rattle.typst_html_encode.proofs.Runs.{left_empty, right_empty, test_fails}
-use Rattle.typst_html_encode.specs.{ExportFaults.{attrs_faults}, ReadingBack.{HeadIsNamed, PairsAreNamed}, References.{reference_to}}
+use Rattle.typst_html_encode.{proofs.Runs.{left_empty, right_empty, test_fails}, specs.ExportFaults.{attrs_faults}}
+use Rattle.typst_html_encode.specs.{ReadingBack.{HeadIsNamed, PairsAreNamed}, References.{reference_to}}
 use Rattle.typst_html_encode.specs.Text.{attrs_text, start_tag_text, tag_close, value_text}
-use Rattle.typst_html_nesting_laws.proofs.Branches.{absent_parts}
-use Rattle.typst_html_nesting_laws.proofs.Readers.{Emits, behind, data_at, lowered_attrs, reading_at, started, written_tag}
-use Rattle.typst_html_nesting_laws.proofs.References.{value_reference}
-use Rattle.typst_html_nesting_laws.proofs.TagChars.{Finishes, Moves, at_state, attr_faultless, finishes_on, grows, moves_on, name_lowered, name_moves, of_attr, one_moves, stepped, tag_named}
 use Rattle.html_page_names.specs.ForeignNames.{lowered}
 use Rattle.html_page_stack.specs.Pages.{Page, Reads, Start, StartTag, ◌next◌}
 use Rattle.html_page_tree.specs.PageTrees.{token_read}
 use Rattle.html_page_read.specs.PageReading.{run}
-use Rattle.html_page_read.specs.PageTokens.{AfterAttrName, AfterValue, AttrName, BeforeAttr, BeforeValue, PageReader, Reading, SelfClosing, TagDraft, TagName, TagOpen, TokenState, Value, before_attr_read, goes, is_name, most_attrs, moved, past_char, step, tag_emitted, with_attr}
+use Rattle.html_page_read.specs.PageTokens.{AfterAttrName, AfterValue, AttrName, BeforeAttr, PageReader, Reading, SelfClosing, TagDraft, TagName, TagOpen, TokenState, Value, before_attr_read, goes, is_name, most_attrs, moved, past_char, step, tag_emitted, with_attr}
+use Rattle.typst_html_nesting_laws.proofs.{Branches.{absent_parts, decide}, References.{value_reference}}
+use Rattle.typst_html_nesting_laws.proofs.Readers.{Emits, behind, data_at, lowered_attrs, reading_at, started, written_tag}
+use Rattle.typst_html_nesting_laws.proofs.TagChars.{Finishes, Moves, at_state, attr_faultless, finishes_on, grows, moves_on, name_lowered, name_moves, of_attr, one_moves, stepped, tag_named}
 
 -- a text of a value and the quote behind it; how a character of a value is written has no name here
 
@@ -32,41 +29,35 @@ value_end (c ∷ cs) = value_char_text c ++ value_end cs
 
 value_end_is : (cs : List ℕ) → drop 3 (value_text (32 ∷ cs)) ≡ value_end cs
 value_end_is [] = refl
-value_end_is (c ∷ cs) =
-    append_assoc (value_char_text c) _ (34 ∷ [])
+value_end_is (c ∷ cs) = append_assoc (value_char_text c) _ (34 ∷ [])
     ∙ ap (λ l. value_char_text c ++ l) (value_end_is cs)
 
 parts_empty : {A : Type 0} (x y z : List A) → (x ++ y) ++ z ≡ [] → (x ≡ []) × (y ++ z ≡ [])
-parts_empty x y z h = (
-  left_empty x y (left_empty (x ++ y) z h),
-  right_empty x (y ++ z) (sym (append_assoc x y z) ∙ h),
-)
+parts_empty x y z h =
+    (left_empty _ _ (left_empty _ _ h), right_empty _ _ (sym (append_assoc x y z) ∙ h))
 
 -- where nothing is wrong, a value has text characters
-value_good : (span : ℕ) (name value : List ℕ) (pairs : List TextPair) →
-    attrs_faults span ((name, value) ∷ pairs) ≡ [] →
-    (all is_text_char value ≡ true) × (attrs_faults span pairs ≡ [])
+value_good : (span : ℕ) (name value : List ℕ) (pairs : List TextPair) → attrs_faults span
+    ((name, value) ∷ pairs) ≡ [] → (all is_text_char value ≡ true) × (attrs_faults span pairs ≡ [])
 value_good span name [] pairs h = (refl, h)
 value_good span name (c ∷ cs) pairs h =
     let parts = parts_empty _ _ (attrs_faults span pairs) h in
     let more = value_good span name cs pairs parts.1 in
-    let one : is_text_char c ≡ true =
-    not-false (is_text_char c) (or_parts (not (is_text_char c)) false (test_fails _ _ parts.0)).0 in
-    (and_from (is_text_char c) (all is_text_char cs) one more.0, more.1)
+    (and_from _ _ (not-false _ (or_parts _ _ (test_fails _ _ parts.0)).0) more.0, more.1)
 
 -- names that differ
 
 absent_behind : (before behind : List TextPair) (a : TextPair) (name : List ℕ) →
     has_name (before ++ a ∷ behind) name ≡ false → bytes_eq a.0 name ≡ false
-absent_behind [] behind a name h = (absent_parts (bytes_eq a.0 name) a.1 (first behind name) h).0
+absent_behind [] behind a name h = (absent_parts a.1 (first behind name) h).0
 absent_behind (b ∷ before) behind a name h = absent_behind before behind a name
-    (absent_parts (bytes_eq b.0 name) b.1 (first (before ++ a ∷ behind) name) h).1
+    (absent_parts b.1 (first (before ++ a ∷ behind) name) h).1
 
 absent_before : (before behind : List TextPair) (a : TextPair) →
     names_differ (before ++ a ∷ behind) ≡ true → has_name before a.0 ≡ false
 absent_before [] behind a h = refl
 absent_before (b ∷ before) behind a h =
-    let both = and_parts (not (has_name (before ++ a ∷ behind) b.0)) _ h in
+    let both = and_parts _ _ h in
     let other : bytes_eq b.0 a.0 ≡ false = bytes_eq-sym b.0 a.0
     ∙ absent_behind before behind a b.0 (not-true _ both.0) in
     rw other (absent_before before behind a both.1)
@@ -74,8 +65,7 @@ absent_before (b ∷ before) behind a h =
 few_before : (before behind : List TextPair) (a : TextPair) →
     length (before ++ a ∷ behind) ≤ most_attrs → nat_le most_attrs (length before) ≡ false
 few_before before behind a h =
-    let few : length before < most_attrs = omega (arith, length-append before (a ∷ behind), h) in
-    lt-leb most_attrs (length before) few
+    lt-leb most_attrs (length before) (omega (arith, length-append before (a ∷ behind), h))
 
 -- a draft with one more attribute
 
@@ -98,9 +88,8 @@ added t attr value r f new = rw (new.faultless, new.absent, new.few) refl
 record IsBehind (s : TokenState) (t : TagDraft) : Type 0 where
   closes : (r : Reading) → moved s 62 r ≡ tag_emitted false t r
   closes_itself : (r : Reading) → moved s 47 r ≡ goes (SelfClosing t) r
-  goes_on : (fresh : Bool) (place : ℕ) (p : Page) (c : ℕ) → is_attr_char c ≡ true →
-      Moves (at_state s fresh place p) (32 ∷ c ∷ []) (AttrName t (to_ascii_lowercase c ∷ []))
-      fresh p
+  goes_on : (fresh : Bool) (place : ℕ) (p : Page) (c : ℕ) → is_attr_char c ≡ true → Moves
+      (at_state s fresh place p) (32 ∷ c ∷ []) (AttrName t (to_ascii_lowercase c ∷ [])) fresh p
 
 attr_begins : (t : TagDraft) (c : ℕ) (r : Reading) → is_attr_char c ≡ true →
     before_attr_read t c r ≡ goes (AttrName t (to_ascii_lowercase c ∷ [])) r
@@ -151,17 +140,12 @@ behind_attr t attr new = record {
       (begins c (reading_at fresh (place + 1) p) h) in
       record { place = m.place; is = m.is };
 } where
-  begins : (c : ℕ) (r : Reading) → is_attr_char c ≡ true →
-      moved (AfterAttrName t attr) c r
+  begins : (c : ℕ) (r : Reading) → is_attr_char c ≡ true → moved (AfterAttrName t attr) c r
       ≡ goes (AttrName (with_pair t attr []) (to_ascii_lowercase c ∷ [])) r
   begins c r h =
       let k = of_attr c h in
-      let x = with_attr attr [] t r (λ d. before_attr_read d c) in
-      let y = if eqb c 61 then goes (BeforeValue t attr) r else x in
-      ap (λ b. if b then goes (AfterAttrName t attr) r else y) k.no_space
-      ∙ (ap (λ b. if b then goes (BeforeValue t attr) r else x) k.no_equals
-      ∙ (added t attr [] r (λ d. before_attr_read d c) new
-      ∙ attr_begins (with_pair t attr []) c r h))
+      rw (k.no_space, k.no_equals, k.no_solidus, k.no_greater, new.faultless, new.absent, new.few)
+      refl
 
 -- names and values of attributes
 
@@ -170,14 +154,12 @@ attr_moves : (s : TokenState) (t : TagDraft) → IsBehind s t → (name : List �
     Moves (at_state s fresh place p) (32 ∷ name) (AttrName t (lowered name)) fresh p
 attr_moves s t behind [] named fresh place p = absurd named
 attr_moves s t behind (c ∷ cs) named fresh place p =
-    moves_on (at_state s fresh place p) (AttrName t (to_ascii_lowercase c ∷ [])) _ fresh p
-    (32 ∷ c ∷ []) cs (behind.goes_on fresh place p c named.0)
+    moves_on (32 ∷ c ∷ []) cs (behind.goes_on fresh place p c named.0)
     (λ here. grows (AttrName t) to_ascii_lowercase is_attr_char fresh p more
     (to_ascii_lowercase c ∷ []) cs here named.1) where
-      more : (xs : List ℕ) (d place : ℕ) → is_attr_char d ≡ true →
-          step (at_state (AttrName t xs) fresh place p) d
-          ≡ goes (AttrName t (xs ++ to_ascii_lowercase d ∷ []))
-          (reading_at fresh (place + len_utf8 d) p)
+      more : (xs : List ℕ) (d place : ℕ) →
+          is_attr_char d ≡ true → step (at_state (AttrName t xs) fresh place p) d ≡ goes
+          (AttrName t (xs ++ to_ascii_lowercase d ∷ [])) (reading_at fresh (place + len_utf8 d) p)
       more xs d place h =
           let k = of_attr d h in
           stepped (AttrName t xs) _ fresh place p d k.no_zero k.no_return
@@ -190,22 +172,15 @@ module _ (t : TagDraft) (attr : List ℕ) (fresh : Bool) (p : Page) where
 
   char_moves : (value : List ℕ) (c place : ℕ) → is_text_char c ≡ true → is_return c ≡ false →
       Moves (quoted value place) (value_char_text c) (Value t attr (value ++ c ∷ []) 34) fresh p
-  char_moves value c place h n =
-      elim (cases_Bool (is_value_char c)) [
-        | inl e ↦
-            let parts = and_parts (is_text_char c && not (eqb c 38)) (not (eqb c 34)) e in
-            let no_quote : eqb c 34 ≡ false = not-true (eqb c 34) parts.1 in
-            let no_and : eqb c 38 ≡ false = not-true (eqb c 38)
-            (and_parts (is_text_char c) (not (eqb c 38)) parts.0).1 in
-            let no_zero : eqb c 0 ≡ false = grind (arith, nat_tests) in
-            let now = Value t attr (value ++ c ∷ []) 34 in
-            rw e (one_moves (quoted value place) now fresh (place + len_utf8 c) p c
-            (stepped (Value t attr value 34) now fresh place p c no_zero n
-            (rw (no_quote, no_and) refl)))
-        | inr e ↦
-            let x = value_reference t attr value fresh place p c h n in
-            rw e (record { place = x.0; is = x.1 })
-      ]
+  char_moves value c place h n = decide (is_value_char c) (λ e. let parts = and_parts _ _ e in
+      let no_quote : eqb c 34 ≡ false = not-true _ parts.1 in
+      let no_and : eqb c 38 ≡ false = not-true _ (and_parts _ _ parts.0).1 in
+      let no_zero : eqb c 0 ≡ false = grind (arith, nat_tests) in
+      let now = Value t attr (value ++ c ∷ []) 34 in
+      rw e (one_moves (quoted value place) now fresh (place + len_utf8 c) p c
+      (stepped (Value t attr value 34) now fresh place p c no_zero n (rw (no_quote, no_and) refl))))
+      (λ e. let x = value_reference t attr value fresh place p c h n in
+      rw e (record { place = x.0; is = x.1 }))
 
   quote_moves : (value : List ℕ) (place : ℕ) → IsNew t attr →
       Moves (quoted value place) (34 ∷ []) (AfterValue (with_pair t attr value)) fresh p
@@ -218,33 +193,26 @@ module _ (t : TagDraft) (attr : List ℕ) (fresh : Bool) (p : Page) where
   value_moves : (value cs : List ℕ) (place : ℕ) → IsNew t attr → all is_text_char cs ≡ true →
       has_return cs ≡ false → Moves (quoted value place) (value_end cs)
       (AfterValue (with_pair t attr (value ++ cs))) fresh p
-  value_moves value [] place new h n =
-      subst (λ v. Moves (quoted value place) (34 ∷ []) (AfterValue (with_pair t attr v)) fresh p)
-      (sym (append-nil value)) (quote_moves value place new)
+  value_moves value [] place new h n = rw (append-nil value) (quote_moves value place new)
   value_moves value (c ∷ cs) place new h n =
-      let both = and_parts (is_text_char c) (all is_text_char cs) h in
-      let none = or_parts (is_return c) (has_return cs) n in
-      subst (λ v. Moves (quoted value place) (value_end (c ∷ cs))
-      (AfterValue (with_pair t attr v)) fresh p) (append_assoc value (c ∷ []) cs)
-      (moves_on (quoted value place) (Value t attr (value ++ c ∷ []) 34) _ fresh p
-      (value_char_text c) (value_end cs) (char_moves value c place both.0 none.0)
+      let both = and_parts _ _ h in
+      let none = or_parts _ _ n in
+      rw (← append_assoc value (c ∷ []) cs) (moves_on (value_char_text c) (value_end cs)
+      (char_moves value c place both.0 none.0)
       (λ here. value_moves (value ++ c ∷ []) cs here new both.1 none.1))
 
   -- with what leads on behind it
   valued : (value : List ℕ) (place : ℕ) (ys : List ℕ) (tag : StartTag) → IsNew t attr →
-      all is_text_char value ≡ true → has_return value ≡ false →
-      ((s : TokenState) (here : ℕ) → IsBehind s (with_pair t attr value) →
-      Finishes (at_state s fresh here p) ys (Start tag) p) →
+      all is_text_char value ≡ true → has_return value ≡ false → ((s : TokenState) (here : ℕ) →
+      IsBehind s (with_pair t attr value) → Finishes (at_state s fresh here p) ys (Start tag) p) →
       Finishes (at_state (AttrName t attr) fresh place p) (value_text value ++ ys) (Start tag) p
   valued [] place ys tag new h n k = k (AttrName t attr) place (behind_attr t attr new)
   valued (c ∷ cs) place ys tag new h n k =
       let value = c ∷ cs in
       let after = AfterValue (with_pair t attr value) in
       let m : Moves (quoted [] (place + 1 + 1)) (drop 3 (value_text (32 ∷ value))) after fresh p =
-      subst (λ l. Moves (quoted [] (place + 1 + 1)) l after fresh p) (sym (value_end_is value))
-      (value_moves [] value (place + 1 + 1) new h n) in
-      finishes_on (at_state (AttrName t attr) fresh place p) after fresh p (value_text value) ys
-      (Start tag) (record { place = m.place; is = m.is })
+      rw (value_end_is value) (value_moves [] value (place + 1 + 1) new h n) in
+      finishes_on (value_text value) ys (record { place = m.place; is = m.is })
       (λ here. k after here (behind_value (with_pair t attr value)))
 
 -- the tag of that name, which is written so
@@ -264,9 +232,8 @@ module _ (name written : List ℕ) (is : is_name name ≡ true) (fresh : Bool) (
   ended closed attrs place after taken = rw (is, taken) refl
 
   close_finishes : (b : Bool) (s : TokenState) (attrs : List TextPair) (place : ℕ) →
-      IsBehind s (draft attrs) →
-      Finishes (at_state s fresh place p) (if b then codes "/>" else codes ">")
-      (Start (made attrs b)) p
+      IsBehind s (draft attrs) → Finishes
+      (at_state s fresh place p) (if b then codes "/>" else codes ">") (Start (made attrs b)) p
   close_finishes false s attrs place k = record {
     place = place;
     is = λ after taken. ap (λ x. (x next (λ q. Ok (past_char 62 place q))) next (λ q. run q []))
@@ -280,16 +247,13 @@ module _ (name written : List ℕ) (is : is_name name ≡ true) (fresh : Bool) (
   }
 
   pairs_finish : (span : ℕ) (before pairs : List TextPair) (s : TokenState) (place : ℕ) →
-      IsBehind s (draft before) → PairsAreNamed pairs → attrs_faults span pairs ≡ [] →
-      list_any (λ a. has_return a.1) pairs ≡ false →
-      names_differ (before ++ lowered_attrs pairs) ≡ true →
+      IsBehind s (draft before) → PairsAreNamed pairs → attrs_faults span pairs ≡ [] → list_any
+      (λ a. has_return a.1) pairs ≡ false → names_differ (before ++ lowered_attrs pairs) ≡ true →
       length (before ++ lowered_attrs pairs) ≤ most_attrs →
       Finishes (at_state s fresh place p) (attrs_text pairs ++ tag_close written)
       (Start (made (before ++ lowered_attrs pairs) (is_foreign_self_closing written))) p
   pairs_finish span before [] s place k named good none differ few =
-      let closed = is_foreign_self_closing written in
-      subst (λ l. Finishes (at_state s fresh place p) (tag_close written) (Start (made l closed)) p)
-      (sym (append-nil before)) (close_finishes closed s before place k)
+      rw (append-nil before) (close_finishes (is_foreign_self_closing written) s before place k)
   pairs_finish span before (a ∷ pairs) s place k named good none differ few =
       let attr = lowered a.0 in
       let pair : TextPair = (attr, a.1) in
@@ -298,7 +262,7 @@ module _ (name written : List ℕ) (is : is_name name ≡ true) (fresh : Bool) (
       let closed = is_foreign_self_closing written in
       let joined = append_assoc before (pair ∷ []) rest in
       let values = value_good span a.0 a.1 pairs good in
-      let returns = or_parts (has_return a.1) (list_any (λ b. has_return b.1) pairs) none in
+      let returns = or_parts _ _ none in
       let new : IsNew (draft before) attr = record {
         faultless = attr_faultless a.0 named.0;
         absent = absent_before before rest pair differ;
@@ -311,18 +275,16 @@ module _ (name written : List ℕ) (is : is_name name ≡ true) (fresh : Bool) (
       ∙ ap (λ l. a.0 ++ l) (append_assoc value (attrs_text pairs) end))) in
       let whole = made (before ++ pair ∷ rest) closed in
       subst (λ l. Finishes (at_state s fresh place p) l (Start whole) p) split
-      (finishes_on (at_state s fresh place p) (AttrName (draft before) attr) fresh p (32 ∷ a.0)
-      (value ++ tail) (Start whole) (attr_moves s (draft before) k a.0 named.0 fresh place p)
+      (finishes_on (32 ∷ a.0) (value ++ tail)
+      (attr_moves s (draft before) k a.0 named.0 fresh place p)
       (λ here. valued (draft before) attr fresh p a.1 here tail whole new values.0 returns.0
-      (λ t there b. subst (λ l. Finishes (at_state t fresh there p) tail (Start (made l closed)) p)
-      joined (pairs_finish span (before ++ pair ∷ []) pairs t there b named.1 values.1 returns.1
-      (ap names_differ joined ∙ differ) (subst (λ l. length l ≤ most_attrs) (sym joined) few)))))
+      (λ t there b. rw (← joined) (pairs_finish span (before ++ pair ∷ []) pairs t there b named.1
+      values.1 returns.1 (rw joined differ) (rw joined few)))))
 
 pub start_emits : (h : Head) (span : ℕ) → HeadIsNamed h → begins_with_letter h.name ≡ true →
-    attrs_faults span h.attrs ≡ [] → list_any (λ a. has_return a.1) h.attrs ≡ false →
-    names_differ (lowered_attrs h.attrs) ≡ true → length h.attrs ≤ most_attrs →
-    (fresh : Bool) (place : ℕ) (p : Page) →
-    Emits (data_at fresh place p) (start_tag_text h) (Start (written_tag h)) p
+    attrs_faults span h.attrs ≡ [] → list_any (λ a. has_return a.1) h.attrs ≡ false → names_differ
+    (lowered_attrs h.attrs) ≡ true → length h.attrs ≤ most_attrs → (fresh : Bool) (place : ℕ)
+    (p : Page) → Emits (data_at fresh place p) (start_tag_text h) (Start (written_tag h)) p
 start_emits h span named letter good none differ few fresh place p =
     let begun = started place p in
     let q = at_state TagOpen fresh (place + 1) begun in
@@ -330,10 +292,8 @@ start_emits h span named letter good none differ few fresh place p =
     let same : length (lowered_attrs h.attrs) ≡ length h.attrs =
     length-map h.attrs (λ a. (lowered a.0, a.1)) in
     let f : Finishes q (h.name ++ (attrs_text h.attrs ++ tag_close h.name)) (Start (written_tag h))
-    begun =
-    finishes_on q (TagName draft) fresh begun h.name (attrs_text h.attrs ++ tag_close h.name) _
-    (name_moves false TagOpen (λ c r e. rw e refl) h.name named.0 letter fresh (place + 1) begun)
-    (λ here. pairs_finish (lowered h.name) h.name (name_lowered h.name named.0) fresh begun span []
-    h.attrs (TagName draft) here (behind_name draft) named.1 good none differ
-    (subst (λ n. n ≤ most_attrs) (sym same) few)) in
+    begun = finishes_on h.name (attrs_text h.attrs ++ tag_close h.name) (name_moves false TagOpen
+    (λ c r e. rw e refl) h.name named.0 letter fresh (place + 1) begun) (λ here. pairs_finish
+    (lowered h.name) h.name (name_lowered h.name named.0) fresh begun span [] h.attrs
+    (TagName draft) here (behind_name draft) named.1 good none differ (rw same few)) in
     record { start = place; place = f.place; is = f.is }

@@ -1,20 +1,19 @@
 -- A place of a body stays in a mode of one, whatever element of it is begun.
 use Rattle.std.proofs.Common.{◌≡◌, ℕ, Bool, true, false, ◌&&◌, ◌||◌, List, [], ◌∷◌, inl, inr, map, refl, sym, ap, subst, ◌∙◌}
-use Rattle.std.{proofs.lemmas.Bool.{and_parts, both_ways, cases_Bool, false≢true, or_cases}, specs.Prelude.{if◌then◌else◌, None}}
+use Rattle.std.{proofs.lemmas.Bool.{and_parts, both_ways, false≢true}, specs.Prelude.{if◌then◌else◌, None}}
 use Rattle.html_dom_tree.specs.Tree.{Head, NodesView}
-use Rattle.html_page_nesting.specs.Ancestors as nest
-use Rattle.html_page_nesting.specs.Ancestors.{Ancestor, ancestor, is_in, is_read_as_html, place_in, place_inside, place_of, reading_in, reading_of, space_of}
 use Rattle.html_page_nesting.specs.{NestingRules.{element_misnesting, has_place}, Surroundings.{surroundings_of}}
-use Rattle.html_page_nesting.specs.declared.reading.Place.{Place}
+use Rattle.html_page_nesting.specs.Ancestors.{Ancestor, ancestor, is_in, is_read_as_html, place_in, place_inside, place_of, reading_in, reading_of, space_of}
+use Rattle.html_page_nesting.specs.declared.reading.{Place.{Place}, Space.{Space, TheVariants.{Html, Svg}}}
+use Rattle.html_page_nesting.specs.Ancestors as nest
 use Rattle.html_page_nesting.specs.declared.reading.Place.TheVariants as place
-use Rattle.html_page_nesting.specs.declared.reading.{Space.{Space}, Space.TheVariants.{Html, Svg, MathMl}}
 use Rattle.html_page_names.specs.{PageNames.{kind_names, of}, declared.kind.Kind.{Kind}}
 use Rattle.html_page_names.specs.declared.kind.Kind.TheVariants as kind
 use Rattle.html_page_stack.specs.{OpenElements.{OpenElement, is_at, is_html, mode, named_mode}, declared.modes.Mode.{Mode}}
 use Rattle.html_page_stack.specs.declared.modes.Mode.TheVariants.{InHead, InHeadNoscript, InText, InTable, InCaption, InColumns, InSection, InRow, InCell}
-use Rattle.typst_html_nesting_laws.proofs.{Alike.{at_is, space_html}, Branches.{either, skip}, KindFacts.{agree_of, names, none_of}}
+use Rattle.typst_html_nesting_laws.proofs.{Alike.{at_is, space_html}, Branches.{decide, either, of_two, second_false, skip}}
+use Rattle.typst_html_nesting_laws.proofs.{Stands.{Stands, html_stands}, KindFacts.{agree_of, names, none_of}}
 use Rattle.typst_html_nesting_laws.proofs.{Modes.{brings, mode_around, own_mode}, Rules.{begins_foreign, has, named_kept}}
-use Rattle.typst_html_nesting_laws.proofs.Stands.{Stands, html_stands}
 use Rattle.typst_html_nesting_laws.proofs.Ways.{AreAlike, IsAlike, IsSteady, ends_at_once, is_body_mode, is_page_place}
 
 -- an element that brings no mode stands in that of the elements around it
@@ -34,19 +33,17 @@ placed_by : (n : List ℕ) (os : List OpenElement) (k : Kind) (p : Place) →
 placed_by n os k p same h = agree_of (place_in (is_at (of kind.Head) os)) (λ l. p) k n same h
 
 -- an element of HTML whose place is that of a body brings a mode of one, or none
-own_body : (m : Mode) (n : List ℕ) (os : List OpenElement) → brings m n os ≡ true →
-    place_in (is_at (of kind.Head) os) n ≡ place.Body → of kind.Raw n ≡ false →
-    is_body_mode m ≡ true
+own_body : (m : Mode) (n : List ℕ) (os : List OpenElement) → brings m n os ≡ true → place_in
+    (is_at (of kind.Head) os) n ≡ place.Body → of kind.Raw n ≡ false → is_body_mode m ≡ true
 unfolding names
-own_body InHead n os h body raw =
-    let x = placed_by n os kind.Head place.Head refl h in absurd (cc)
+own_body InHead n os h body raw = let x = placed_by n os kind.Head place.Head refl h in absurd (cc)
 own_body InHeadNoscript n os h body raw =
     let in_head = is_at (of kind.Head) os in
-    let both = and_parts (of kind.Noscript n) in_head h in
+    let both = and_parts _ _ h in
     let place_by = λ (b : Bool). if b then place.HeadNoscript else place.Body in
     let x = agree_of (place_in in_head) (λ l. place_by in_head) kind.Noscript n refl both.0
     ∙ ap place_by both.1 in absurd (cc)
-own_body InText n os h body raw = absurd (both_ways (of kind.Raw n) raw h)
+own_body InText n os h body raw = absurd (both_ways _ raw h)
 own_body InTable n os h body raw =
     let x = placed_by n os kind.Table place.Table refl h in absurd (cc)
 own_body InCaption n os h body raw = refl
@@ -60,27 +57,23 @@ own_body _ n os h body raw = absurd (false≢true h)
 
 html_steady : (above : List Ancestor) (os : List OpenElement) (o : OpenElement) →
     AreAlike above os → IsSteady above os → is_html o.space ≡ true →
-    Stands o.head.name os (place_of above) → of kind.Raw o.head.name ≡ false →
-    place_in (is_in (of kind.Head) above) o.head.name ≡ place.Body →
-    is_body_mode (mode (o ∷ os)) ≡ true
-html_steady above os o alike steady html (inl s) raw body =
-    ap is_body_mode (own_mode o os s.mode html s.is)
-    ∙ own_body s.mode o.head.name os s.is
+    Stands o.head.name os (place_of above) → of kind.Raw o.head.name ≡ false → place_in
+    (is_in (of kind.Head) above) o.head.name ≡ place.Body → is_body_mode (mode (o ∷ os)) ≡ true
+html_steady above os o alike steady html (inl s) raw body = ap is_body_mode
+    (own_mode o os s.mode html s.is) ∙ own_body s.mode o.head.name os s.is
     (ap (λ b. place_in b o.head.name) (at_is (of kind.Head) above os alike) ∙ body) raw
 html_steady above os o alike steady html (inr s) raw body =
     around_steady above os alike steady s.body o
-    (either (is_html o.space) _ _ None (λ h. s.none) (λ h. refl))
+    (either (is_html o.space) (λ h. s.none) (λ h. refl))
 
 -- SVG and MathML begin in a body alone
 
 svg_placed : (p : Place) (n : List ℕ) → is_page_place p ≡ false → has_place p n ≡ true →
     (of kind.Svg n || of kind.Math n) ≡ true → ⊥
 svg_placed place.Page n page h k = false≢true (sym page)
-svg_placed p n page h k = elim (or_cases (of kind.Svg n) (of kind.Math n) k) [
-  | inl s ↦ both_ways (of kind.Svg n) (none_of (has_place p) kind.Svg n (unfold names in refl) h) s
-  | inr m ↦
-      both_ways (of kind.Math n) (none_of (has_place p) kind.Math n (unfold names in refl) h) m
-]
+svg_placed p n page h k = of_two k
+    (λ s. both_ways _ (none_of (has_place p) kind.Svg n (unfold names in refl) h) s)
+    (λ m. both_ways _ (none_of (has_place p) kind.Math n (unfold names in refl) h) m)
 
 is_body : (p : Place) → ((p ≡ place.Body → ⊥) → ⊥) → p ≡ place.Body
 is_body place.Body h = refl
@@ -94,21 +87,17 @@ reading_place (a ∷ above) n h = by_space a.space h where
   by_space : (s : Space) → is_read_as_html (reading_in s a.head) n ≡ false →
       place_inside (is_in (of kind.Head) above) s a.head.name ≡ place.Body
   by_space Html h = absurd (false≢true (sym h))
-  by_space Svg h = refl
-  by_space MathMl h = refl
+  by_space s h = refl
 
 foreign_place : (above : List Ancestor) (h : Head) (kids : NodesView) →
-    is_page_place (place_of above) ≡ false →
-    element_misnesting h kids (surroundings_of above) ≡ None →
-    nest.is_html (space_of (reading_of above) h.name) ≡ false → place_of above ≡ place.Body
+    is_page_place (place_of above) ≡ false → element_misnesting h kids (surroundings_of above)
+    ≡ None → nest.is_html (space_of (reading_of above) h.name) ≡ false → place_of above ≡ place.Body
 foreign_place above h kids page rules foreign =
     let around = surroundings_of above in
-    elim (cases_Bool (is_read_as_html (reading_of above) h.name)) [
-      | inl e ↦ is_body (place_of above) (λ other. svg_placed (place_of above) h.name page
-          (has (place_of above) h.name around page (named_kept h kids around rules e) other)
-          (begins_foreign h kids around rules foreign e))
-      | inr e ↦ reading_place above h.name e
-    ]
+    decide (is_read_as_html (reading_of above) h.name)
+    (λ e. is_body (place_of above) (λ other. svg_placed (place_of above) h.name page
+    (has (place_of above) h.name around page (named_kept h kids around rules e) other)
+    (begins_foreign h kids around rules foreign e))) (reading_place above h.name)
 
 pub steady_begun : (above : List Ancestor) (h : Head) (kids : NodesView) (os : List OpenElement) →
     AreAlike above os → IsSteady above os → is_page_place (place_of above) ≡ false →
@@ -117,15 +106,12 @@ pub steady_begun : (above : List Ancestor) (h : Head) (kids : NodesView) (os : L
     (nest.is_html (space_of (reading_of above) h.name) && of kind.Raw h.name) ≡ false →
     (o : OpenElement) → IsAlike (ancestor h above) o → IsSteady (ancestor h above ∷ above) (o ∷ os)
 steady_begun above h kids os alike steady page rules t once raw o same place_is =
-    elim (cases_Bool (nest.is_html (space_of (reading_of above) h.name))) [
-      | inl html ↦ html_steady above os o alike steady (space_html (ancestor h above) o same ∙ html)
-          (subst (λ m. Stands m os (place_of above)) (sym same.name)
-          (html_stands above h kids os alike page rules html t once))
-          (ap (of kind.Raw) same.name ∙ (ap (λ b. b && of kind.Raw h.name) (sym html) ∙ raw))
-          (ap (place_in (is_in (of kind.Head) above)) same.name
-          ∙ (ap (λ b. if b then place_in (is_in (of kind.Head) above) h.name else place.Body)
-          (sym html) ∙ place_is))
-      | inr foreign ↦ around_steady above os alike steady
-          (foreign_place above h kids page rules foreign) o
-          (skip (is_html o.space) _ _ None (space_html (ancestor h above) o same ∙ foreign) refl)
-    ]
+    decide (nest.is_html (space_of (reading_of above) h.name))
+    (λ html. html_steady above os o alike steady (space_html _ _ same ∙ html)
+    (subst (λ m. Stands m os (place_of above)) (sym same.name)
+    (html_stands above h kids os alike page rules html t once))
+    (ap (of kind.Raw) same.name ∙ second_false raw html)
+    (ap (place_in (is_in (of kind.Head) above)) same.name ∙ (rw html at place_is)))
+    (λ foreign. around_steady above os alike steady
+    (foreign_place above h kids page rules foreign) o
+    (skip _ (space_html _ _ same ∙ foreign) refl))

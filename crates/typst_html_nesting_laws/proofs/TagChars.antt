@@ -1,16 +1,15 @@
 -- Characters of tags: what they are not, and what a text of them leads to.
-use Rattle.std.proofs.Common.{◌≡◌, ℕ, ◌+◌, ◌<◌, Bool, true, false, not, ◌&&◌, inl, inr, List, [], ◌∷◌, ◌++◌, eqb, map, refl, sym, ap, ◌∙◌, arith, append_assoc, append-nil, Ok, None, find}
-use Rattle.std.proofs.lemmas.{Bool.{agree_below, agree_below_at, and_from, and_parts, cases_lt, false≢true}, Bool.Decides.{nat_tests}}
+use Rattle.std.proofs.Common.{◌≡◌, ℕ, ◌+◌, ◌<◌, Bool, true, false, not, ◌&&◌, inl, inr, List, [], ◌∷◌, ◌++◌, eqb, map, refl, ap, ◌∙◌, arith, append_assoc, append-nil, Ok, None, find}
+use Rattle.std.proofs.lemmas.Bool.{agree_below, agree_below_at, and_from, and_parts, cases_lt, Decides.{nat_tests}}
 use Rattle.std.{proofs.lemmas.Str.Ascii.{lowercase_is}, specs.Char.{len_utf8, to_ascii_lowercase}}
 use Rattle.html_names_core.specs.{Characters.{all, IsOf, is_attr_char, is_tag_char}, Names.{attr_fault}}
 use Rattle.html_page_nesting.specs.WrittenTags.{begins_with_letter}
-use Rattle.typst_html_nesting_laws.proofs.Readers.{behind, reading_at, run_on}
 use Rattle.html_page_names.specs.ForeignNames.{lowered}
 use Rattle.html_page_stack.specs.Pages.{Page, Token, ◌next◌}
 use Rattle.html_page_tree.specs.{PageBodies.{is_space}, PageTrees.{token_read}}
-use Rattle.html_page_read.proofs.{PageStretches.{other}, TagNames.{name_of_tag}}
-use Rattle.html_page_read.specs.{PageReading.{run}, PageReferences.{is_letter}}
+use Rattle.html_page_read.{proofs.{PageStretches.{other}, TagNames.{name_of_tag}}, specs.{PageReading.{run}, PageReferences.{is_letter}}}
 use Rattle.html_page_read.specs.PageTokens.{PageReader, Reading, TagDraft, TagName, TokenState, goes, is_name, moved, step}
+use Rattle.typst_html_nesting_laws.proofs.{Readers.{behind, reading_at, run_on}, Branches.{decide}}
 
 -- in that state, where no carriage return was read before
 abbrev pub at_state : TokenState → (fresh : Bool) (place : ℕ) → Page → PageReader
@@ -28,32 +27,24 @@ pub record Finishes (q : PageReader) (text : List ℕ) (token : Token) (p : Page
   pub is : (after : Page) → token_read token p ≡ Ok after →
       run q text ≡ Ok (behind token place after)
 
-pub moves_on : (q : PageReader) (s t : TokenState) (fresh : Bool) (p : Page) (xs ys : List ℕ) →
+pub moves_on : {q : PageReader} {s t : TokenState} {fresh : Bool} {p : Page} (xs ys : List ℕ) →
     Moves q xs s fresh p → ((place : ℕ) → Moves (at_state s fresh place p) ys t fresh p) →
     Moves q (xs ++ ys) t fresh p
-moves_on q s t fresh p xs ys h k =
+moves_on xs ys h k =
     let m = k h.place in
-    record {
-      place = m.place;
-      is = run_on q (at_state s fresh h.place p) (goes t (reading_at fresh m.place p)) xs ys h.is
-          m.is;
-    }
+    record { place = m.place; is = run_on _ _ _ xs ys h.is m.is }
 
-pub finishes_on : (q : PageReader) (s : TokenState) (fresh : Bool) (p : Page) (xs ys : List ℕ)
-    (token : Token) → Moves q xs s fresh p →
+pub finishes_on : {q : PageReader} {s : TokenState} {fresh : Bool} {p : Page} {token : Token}
+    (xs ys : List ℕ) → Moves q xs s fresh p →
     ((place : ℕ) → Finishes (at_state s fresh place p) ys token p) → Finishes q (xs ++ ys) token p
-finishes_on q s fresh p xs ys token h k =
+finishes_on xs ys h k =
     let m = k h.place in
-    record {
-      place = m.place;
-      is = λ after taken. run_on q (at_state s fresh h.place p) _ xs ys h.is (m.is after taken);
-    }
+    record { place = m.place; is = λ after taken. run_on _ _ _ xs ys h.is (m.is after taken) }
 
 -- one character
 pub one_moves : (q : PageReader) (s : TokenState) (fresh : Bool) (place : ℕ) (p : Page) (c : ℕ) →
     step q c ≡ goes s (reading_at fresh place p) → Moves q (c ∷ []) s fresh p
-one_moves q s fresh place p c h =
-    record { place = place; is = ap (λ x. x next (λ r. run r [])) h }
+one_moves q s fresh place p c h = record { place = place; is = ap (λ x. x next (λ r. run r [])) h }
 
 -- a state that holds what it has read so far, each character as the function makes it
 module _ (f : List ℕ → TokenState) (g : ℕ → ℕ) (ok : ℕ → Bool) (fresh : Bool) (p : Page)
@@ -61,38 +52,21 @@ module _ (f : List ℕ → TokenState) (g : ℕ → ℕ) (ok : ℕ → Bool) (fr
     ≡ goes (f (xs ++ g c ∷ [])) (reading_at fresh (place + len_utf8 c) p)) where
   pub grows : (xs cs : List ℕ) (place : ℕ) → all ok cs ≡ true →
       Moves (at_state (f xs) fresh place p) cs (f (xs ++ map g cs)) fresh p
-  grows xs [] place h = record {
-    place = place;
-    is = ap (λ l. goes (f l) (reading_at fresh place p)) (sym (append-nil xs));
-  }
+  grows xs [] place h = record { place = place; is = rw (append-nil xs) refl }
   grows xs (c ∷ cs) place h =
-      let both = and_parts (ok c) (all ok cs) h in
+      let both = and_parts _ _ h in
       let m = grows (xs ++ g c ∷ []) cs (place + len_utf8 c) both.1 in
-      record {
-        place = m.place;
-        is = ap (λ x. x next (λ q. run q cs)) (one xs c place both.0)
-            ∙ (m.is ∙ ap (λ l. goes (f l) (reading_at fresh m.place p))
-            (append_assoc xs (g c ∷ []) (map g cs)));
-      }
+      let read = ap (λ x. x next (λ q. run q cs)) (one xs c place both.0) ∙ m.is in
+      rw (← append_assoc xs (g c ∷ []) (map g cs)) (record { place = m.place; is = read })
 
 -- behind a character that is neither U+0000 nor a carriage return
-step_by : (a b d : Bool) (c : ℕ) (s : TokenState) (fresh : Bool) (place : ℕ) (p : Page) →
-    eqb c 0 ≡ a → eqb c 10 ≡ b → eqb c 13 ≡ d → a ≡ false → d ≡ false →
-    step (at_state s fresh place p) c
-    ≡ ((moved s c (reading_at fresh place p)) next (λ q. goes q.state
-    (record q.reading { place = place + len_utf8 c; after_return = false })))
-step_by true b d c s fresh place p e f g h k = absurd (false≢true (sym h))
-step_by false b true c s fresh place p e f g h k = absurd (false≢true (sym k))
-step_by false true false c s fresh place p e f g h k = rw (e, f, g) refl
-step_by false false false c s fresh place p e f g h k = rw (e, f, g) refl
-
 pub stepped : (s t : TokenState) (fresh : Bool) (place : ℕ) (p : Page) (c : ℕ) → eqb c 0 ≡ false →
     eqb c 13 ≡ false → moved s c (reading_at fresh place p) ≡ goes t (reading_at fresh place p) →
     step (at_state s fresh place p) c ≡ goes t (reading_at fresh (place + len_utf8 c) p)
 stepped s t fresh place p c zero return h =
-    step_by (eqb c 0) (eqb c 10) (eqb c 13) c s fresh place p refl refl refl zero return
-    ∙ ap (λ x. x next (λ q. goes q.state
-    (record q.reading { place = place + len_utf8 c; after_return = false }))) h
+    let moves = ap (λ x. x next (λ q. goes q.state
+    (record q.reading { place = place + len_utf8 c; after_return = false }))) h in
+    decide (eqb c 10) (λ e. rw (zero, e, return) moves) (λ e. rw (zero, e, return) moves)
 
 -- a character that means nothing in a tag
 pub record IsOfName (c : ℕ) : Type 0 where
@@ -122,19 +96,16 @@ of_attr c h = record {
 by_table : (is p : ℕ → Bool) (c : ℕ) → c < 128 → agree_below (λ d. is d && p d) is 128 ≡ true →
     is c ≡ true → p c ≡ true
 by_table is p c small table h =
-    (and_parts (is c) (p c) (agree_below_at (λ d. is d && p d) is 128 c table small ∙ h)).1
+    (and_parts _ _ (agree_below_at (λ d. is d && p d) is 128 c table small ∙ h)).1
 
 tag_small : (c : ℕ) → is_tag_char c ≡ true → c < 128
 tag_small c h = grind (arith, nat_tests)
-
-letter_small : (c : ℕ) → is_letter c ≡ true → c < 128
-letter_small c h = grind (arith, nat_tests)
 
 pub of_tag : (c : ℕ) → is_tag_char c ≡ true → IsOfName c
 of_tag c h = of_attr c (by_table is_tag_char is_attr_char c (tag_small c h) refl h)
 
 pub of_letter : (c : ℕ) → is_letter c ≡ true → IsOfName c
-of_letter c h = of_attr c (by_table is_letter is_attr_char c (letter_small c h) refl h)
+of_letter c h = of_attr c (by_table is_letter is_attr_char c (grind (arith, nat_tests)) refl h)
 
 -- in small letters a name has characters of its kind
 
@@ -152,9 +123,8 @@ attr_lowered c h =
 tags_lowered : (cs : List ℕ) → all is_tag_char cs ≡ true → all is_tag_char (lowered cs) ≡ true
 tags_lowered [] h = refl
 tags_lowered (c ∷ cs) h =
-    let both = and_parts (is_tag_char c) (all is_tag_char cs) h in
-    and_from (is_tag_char (to_ascii_lowercase c)) (all is_tag_char (lowered cs))
-    (tag_lowered c both.0) (tags_lowered cs both.1)
+    let both = and_parts _ _ h in
+    and_from _ _ (tag_lowered c both.0) (tags_lowered cs both.1)
 
 pub name_lowered : (name : List ℕ) → IsOf is_tag_char name → is_name (lowered name) ≡ true
 name_lowered [] h = absurd h
@@ -164,7 +134,7 @@ none_bad : (cs : List ℕ) → all is_attr_char cs ≡ true →
     find (λ d. not (is_attr_char d)) (lowered cs) ≡ None
 none_bad [] h = refl
 none_bad (c ∷ cs) h =
-    let both = and_parts (is_attr_char c) (all is_attr_char cs) h in
+    let both = and_parts _ _ h in
     rw (attr_lowered c both.0) (none_bad cs both.1)
 
 pub attr_faultless : (name : List ℕ) → IsOf is_attr_char name → attr_fault (lowered name) ≡ None
@@ -188,7 +158,7 @@ name_moves is_end s begins [] named letter fresh place p = absurd named
 name_moves is_end s begins (c ∷ cs) named letter fresh place p =
     let first = TagName (tag_named is_end (to_ascii_lowercase c ∷ [])) in
     let k = of_letter c letter in
-    moves_on (at_state s fresh place p) first _ fresh p (c ∷ []) cs
+    moves_on (c ∷ []) cs
     (one_moves (at_state s fresh place p) first fresh (place + len_utf8 c) p c
     (stepped s first fresh place p c k.no_zero k.no_return
     (begins c (reading_at fresh place p) letter)))

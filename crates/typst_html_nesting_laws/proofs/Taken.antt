@@ -1,15 +1,15 @@
 -- Texts that are added to the current node, and nothing else is done.
-use Rattle.std.proofs.Common.{◌≡◌, ℕ, Bool, true, false, not, List, [], ◌∷◌, refl, sym, ap, ◌∙◌, Ok}
-use Rattle.std.{proofs.lemmas.Bool.{and_from, false≢true, or_right}, specs.Prelude.{Some}}
+use Rattle.std.{proofs.Common.{◌≡◌, ℕ, Bool, true, false, not, List, [], ◌∷◌, refl, sym, ap, ◌∙◌, Ok}, specs.Prelude.{Some}}
+use Rattle.std.proofs.lemmas.Bool.{and_from, false≢true, or_right}
 use Rattle.html_page_nesting.specs.{Ancestors.{Ancestor, place_of}, WrittenTexts.{is_white_char}, declared.reading.Place.{Place}}
 use Rattle.html_page_nesting.specs.declared.reading.Place.TheVariants as place
 use Rattle.html_page_names.specs.PageNames.{of}
 use Rattle.html_page_names.specs.declared.kind.Kind.TheVariants as kind
 use Rattle.html_page_stack.specs.{OpenElements.{OpenElement, is_html, mode}, Pages.{Page, Char, Taken, loses_some, with_char}}
-use Rattle.html_page_stack.specs.declared.modes.{Mode.{Mode}, Mode.TheVariants.{InBody, InText, InCaption, InCell}}
+use Rattle.html_page_stack.specs.declared.modes.Mode.{Mode, TheVariants.{InBody, InText, InCaption, InCell}}
 use Rattle.html_page_stack.specs.declared.modes.Space.TheVariants as spaces
-use Rattle.html_page_tree.proofs.TakenTexts.{text_taken}
-use Rattle.html_page_tree.specs.{PageTrees.{by_mode, is_foreign_token, is_unseen}, TakenTexts.{mode_takes_text, takes_text}}
+use Rattle.html_page_tree.{proofs.TakenTexts.{text_taken}, specs.PageTrees.{by_mode, is_foreign_token, is_unseen}}
+use Rattle.html_page_tree.specs.TakenTexts.{mode_takes_text, takes_text}
 use Rattle.typst_html_nesting_laws.proofs.{Alike.{html_space, mode_is, placed_html}, Closed.{marks_lose_none}, Modes.{mode_in, own_mode}}
 use Rattle.typst_html_nesting_laws.proofs.{Readers.{Takes, texted}, Turns.{html_token, mode_taken}}
 use Rattle.typst_html_nesting_laws.proofs.Ways.{AreAlike, IsCalm, IsSteady, is_body_mode, is_page_place}
@@ -32,10 +32,9 @@ mode_text : (above : List Ancestor) (p : Page) → IsCalm above p →
     is_text_mode (mode p.stack) ≡ true → Takes (λ c. true) p
 unfolding takes_text
 mode_text above p calm h c text start passes = text_taken c (texted text start p)
-    (and_from (not (is_unseen p.tables)) _ (ap (λ r. not (is_unseen r)) calm.tables)
-    (or_right (is_foreign_token (Char 0) p.stack) _
-    (mode_takes (mode p.stack) (texted text start p) h
-    (ap loses_some calm.lost ∙ marks_lose_none p.stack))))
+    (and_from _ _ (ap (λ r. not (is_unseen r)) calm.tables)
+    (or_right _ _ (mode_takes (mode p.stack) (texted text start p) h (ap loses_some calm.lost
+    ∙ marks_lose_none p.stack))))
 
 body_text : (m : Mode) → is_body_mode m ≡ true → is_text_mode m ≡ true
 body_text InText h = refl
@@ -70,13 +69,12 @@ white_html : (m : Mode) (above : List Ancestor) (os : List OpenElement) → AreA
     mode_in (place_of above) ≡ Some m → (c : ℕ) → is_foreign_token (Char c) os ≡ false
 white_html m [] [] alike e c = refl
 white_html m (a ∷ above) (o ∷ os) alike e c = html_token (Char c) o os
-    (alike.0.space ∙ html_space a.space (placed_html m a above e))
+    (alike.0.space ∙ html_space _ (placed_html m a above e))
 white_html m above os alike e c = absurd alike
 
 -- where no text may stand
-pub white_takes : (above : List Ancestor) (p : Page) → IsCalm above p →
-    is_page_place (place_of above) ≡ false → (place_of above ≡ place.Body → ⊥) →
-    Takes is_white_char p
+pub white_takes : (above : List Ancestor) (p : Page) → IsCalm above p → is_page_place
+    (place_of above) ≡ false → (place_of above ≡ place.Body → ⊥) → Takes is_white_char p
 white_takes above p calm page body c text start passes =
     let w = white_place (place_of above) page body in
     let q : Page = texted text start p in

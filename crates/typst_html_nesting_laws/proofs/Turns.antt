@@ -1,6 +1,6 @@
 -- A token that is taken in one turn.
 use Rattle.std.proofs.Common.{◌≡◌, false, not, List, ◌∷◌, refl, ap, ◌∙◌}
-use Rattle.html_page_stack.specs.{OpenElements.{OpenElement, mode}, Pages.{Page, Reads, Token, Char, Start, End, Finish, ◌next◌, taken}}
+use Rattle.html_page_stack.specs.{OpenElements.{OpenElement, mode}, Pages.{Page, Reads, Token, Finish, ◌next◌, taken}}
 use Rattle.html_page_stack.specs.declared.modes.Mode.{Mode}
 use Rattle.html_page_stack.specs.declared.modes.Space.TheVariants as spaces
 use Rattle.html_page_stack.specs.declared.modes.TableRule.TheVariants as rule
@@ -11,8 +11,7 @@ use Rattle.typst_html_nesting_laws.proofs.Branches.{pick, skip}
 pub turn_taken : (token : Token) (p : Page) (r : Reads Page) → p.tables ≡ rule.ClosesP →
     turn token p ≡ taken r → token_read token p ≡ r
 unfolding processed token_read
-turn_taken token p r tables h =
-    pick (not (is_unseen p.tables)) _ _ r (ap (λ x. not (is_unseen x)) tables)
+turn_taken token p r tables h = pick _ (ap (λ x. not (is_unseen x)) tables)
     (ap (λ x. x next behind_turn (processed 7)) h ∙ taken_behind (processed 7) r)
 
 -- by the rules of a mode of HTML
@@ -20,12 +19,10 @@ pub mode_taken : (token : Token) (p : Page) (m : Mode) (r : Reads Page) → p.ta
     is_foreign_token token p.stack ≡ false → mode p.stack ≡ m → by_mode m token p ≡ taken r →
     token_read token p ≡ r
 mode_taken token p m r tables html e h = turn_taken token p r tables
-    (skip (is_foreign_token token p.stack) _ _ (taken r) html (ap (λ n. by_mode n token p) e ∙ h))
+    (skip _ html (ap (λ n. by_mode n token p) e ∙ h))
 
 -- in an element of HTML
-pub html_token : (token : Token) (o : OpenElement) (os : List OpenElement) →
-    o.space ≡ spaces.Html → is_foreign_token token (o ∷ os) ≡ false
-html_token (Char c) o os e = rw e refl
-html_token (Start tag) o os e = rw e refl
-html_token (End name) o os e = rw e refl
+pub html_token : (token : Token) (o : OpenElement) (os : List OpenElement) → o.space ≡ spaces.Html →
+    is_foreign_token token (o ∷ os) ≡ false
 html_token Finish o os e = refl
+html_token token o os e = rw e refl

@@ -2,14 +2,13 @@
 use Rattle.std.{proofs.Common.{◌≡◌, ℕ, Bool, true, false, ◌||◌, List, [], ◌∷◌}, specs.Prelude.{if◌then◌else◌, Option, None}}
 use Rattle.html_names_core.specs.Kinds.{is_foreign_self_closing, is_void}
 use Rattle.html_dom_tree.specs.Tree.{Head, none}
-use Rattle.html_page_nesting.specs.{Ancestors.{Ancestor, place_of, reading_of, space_of}, declared.reading.Place.{Place}}
+use Rattle.html_page_nesting.specs.{Ancestors.{Ancestor, place_of, reading_of, space_of}, declared.reading.{Place.{Place}, Space.{Space}}}
 use Rattle.html_page_nesting.specs.declared.reading.Place.TheVariants as place
 use Rattle.html_page_nesting.specs.declared.reading.Space.TheVariants as nest
-use Rattle.html_page_nesting.specs.declared.reading.Space.{Space}
 use Rattle.html_page_names.specs.PageNames.{of}
 use Rattle.html_page_names.specs.declared.kind.Kind.TheVariants as kind
 use Rattle.html_page_stack.specs.{OpenElements.{OpenElement, is_of, mode}, Pages.{Page, page_head, settled, with_element}}
-use Rattle.html_page_stack.specs.declared.modes.{Mode.{Mode}, Space.{Space as OpenSpace}, Mode.TheVariants.{InBody, InCaption, InCell}}
+use Rattle.html_page_stack.specs.declared.modes.{Mode.{Mode, TheVariants.{InBody, InCaption, InCell}}, Space.Space as OpenSpace}
 use Rattle.html_page_stack.specs.declared.modes.Space.TheVariants as spaces
 use Rattle.html_page_stack.specs.declared.modes.TableRule.TheVariants as rule
 

@@ -1,5 +1,5 @@
 -- What begins no reference is read as none, whatever follows.
-use Rattle.std.proofs.Common.{◌≡◌, ℕ, zero, suc, ◌+◌, ◌*◌, ◌/◌, ◌%◌, ◌^◌, ◌<◌, ◌≤◌, true, false, not, ◌&&◌, inl, inr, eqb, List, [], ◌∷◌, ◌++◌, None, bytes_eq, chars, codes, get_or, length, refl, sym, ap, ◌∙◌, subst, arith, nat_lt, eq-eqb, ltb-true}
+use Rattle.std.proofs.Common.{◌≡◌, ℕ, zero, suc, ◌+◌, ◌*◌, ◌/◌, ◌%◌, ◌^◌, ◌<◌, ◌≤◌, true, false, not, ◌&&◌, inl, inr, eqb, List, [], ◌∷◌, ◌++◌, None, bytes_eq, chars, codes, get_or, length, refl, sym, ap, ◌∙◌, arith, nat_lt, eq-eqb, ltb-true}
 use Rattle.std.proofs.Math.Nat.{div-lt_iff_lt-mul, pow-suc, pow-zero}
 use Rattle.std.proofs.lemmas.Bool.{and_from, and_parts, agree_below_at, false≢true, false_from_ne_true, lt-ltb, or_parts}
 use Rattle.std.proofs.lemmas.{Fmt.{digits_is_IsNumeral}, Bool.Decides.{Decides-eqb, nat_tests}, List.Folds.{list_all-append}}
@@ -16,8 +16,7 @@ use Rattle.html_text.{proofs.Words.{chars_after_word, own_bytes, word_before}, s
 -- the digits that are written of a number are small ones, and a zero is not the first, but of 0
 
 glyph_small : (d : ℕ) → d < 16 → is_small_digit (digit_glyph false d) ≡ true
-glyph_small d h =
-    agree_below_at (λ e. is_small_digit (digit_glyph false e)) (λ e. true) 16 d refl h
+glyph_small d h = agree_below_at (λ e. is_small_digit (digit_glyph false e)) (λ e. true) 16 d refl h
 
 glyph_some : (d : ℕ) → d < 16 → 0 < d → eqb (digit_glyph false d) 48 ≡ false
 glyph_some d h p = grind (
@@ -29,25 +28,18 @@ glyph_some d h p = grind (
 onto_small : (k n : ℕ) (acc : List ℕ) → list_all is_small_digit acc ≡ true →
     list_all is_small_digit (digits_onto k 16 false n acc) ≡ true
 onto_small zero n acc h = h
-onto_small (suc k) n acc h = grind (
-  arith,
-  glyph_small (n % 16) (omega arith),
-  onto_small k (n / 16) (digit_glyph false (n % 16) ∷ acc),
-)
+onto_small (suc k) n acc h =
+    let rest = onto_small k (n / 16) (digit_glyph false (n % 16) ∷ acc) in
+    grind (arith, glyph_small (n % 16) (omega arith), rest)
 
 onto_some : (k n : ℕ) (acc : List ℕ) → 0 < n → n < 16 ^ k →
     eqb (get_or (digits_onto k 16 false n acc) 0 0) 48 ≡ false
 onto_some zero n acc p h = absurd (omega (arith, pow-zero 16, h, p))
 onto_some (suc k) n acc p h =
     let sixteen : 0 < 16 = omega arith in
-    let small : n / 16 < 16 ^ k =
-    (div-lt_iff_lt-mul sixteen).1 (omega (arith, pow-suc 16 k, h)) in
-    grind (
-      arith,
-      nat_tests,
-      glyph_some (n % 16) (omega arith),
-      onto_some k (n / 16) (digit_glyph false (n % 16) ∷ acc),
-    )
+    let small : n / 16 < 16 ^ k = (div-lt_iff_lt-mul sixteen).1 (omega (arith, pow-suc 16 k, h)) in
+    let rest = onto_some k (n / 16) (digit_glyph false (n % 16) ∷ acc) in
+    grind (arith, nat_tests, glyph_some (n % 16) (omega arith), rest)
 
 digits_small : (n : ℕ) → list_all is_small_digit (digits 16 false n) ≡ true
 unfolding digits
@@ -78,34 +70,21 @@ digits_begun : (ds more : List ℕ) (v : ℕ) → ds ++ more ≡ digits 16 false
 unfolding begins_digits
 digits_begun ds more v e p h =
     let all_small : (list_all is_small_digit ds && list_all is_small_digit more) ≡ true =
-    sym (list_all-append is_small_digit ds more)
-    ∙ (ap (list_all is_small_digit) e ∙ digits_small v) in
-    let some : eqb (get_or ds 0 0) 48 ≡ false =
-    front_some ds more (ap (λ l. eqb (get_or l 0 0) 48) e ∙ digits_some v p h) in
-    let value : digits_value 16 (ds ++ more) ≡ v = ap (digits_value 16) e
-    ∙ (digits_is_IsNumeral 16 false (omega arith) (omega arith) v (omega arith)).1 in
+    sym (list_all-append is_small_digit ds more) ∙ rw e (digits_small v) in
+    let some = front_some ds more (rw e (digits_some v p h)) in
+    let value : digits_value 16 (ds ++ more) ≡ v =
+    rw e (digits_is_IsNumeral 16 false (omega arith) (omega arith) v (omega arith)).1 in
     let low : digits_value 16 ds < 0x11_0000 = omega (arith, value_front ds more 0, value, h) in
-    and_from _ _ (and_parts _ _ all_small).0
-    (and_from _ _ (ap not some) (lt-ltb (digits_value 16 ds) 0x11_0000 low))
+    and_from _ _ (and_parts _ _ all_small).0 (and_from _ _ (ap not some) (lt-ltb _ _ low))
 
 char_low : (v : ℕ) → scalar v ≡ true → v < 0x11_0000
-char_low v s =
-    elim (scalar_cases v s) [
-      | inl h ↦ omega (arith, h)
-      | inr h ↦ omega (arith, h.1)
-    ]
+char_low v s = elim (scalar_cases v s) [ inl h ↦ omega arith | inr h ↦ omega (arith, h.1) ]
 
 numbered_never : (ds more : List ℕ) → begins_digits ds ≡ false → numbered_char (ds ++ more) ≡ None
 numbered_never ds more h =
-    let l = ds ++ more in
-    let v = digits_value 16 l in
-    grind (
-      arith,
-      nat_tests,
-      (bytes_eq-Decides l (digits 16 false v)).0,
-      digits_begun ds more v,
-      char_low v,
-    )
+    let v = digits_value 16 (ds ++ more) in
+    let same = (bytes_eq-Decides (ds ++ more) (digits 16 false v)).0 in
+    grind (arith, nat_tests, same, digits_begun ds more v, char_low v)
 
 -- a word that a text begins, begins with the text's beginnings
 pub front_begins : (word front rest : List ℕ) → word ≡ front ++ rest → begins word front ≡ true
@@ -126,19 +105,14 @@ pub reference_never : (w : List ℕ) → begins_reference w ≡ false → (more 
     reference (w ++ more) ≡ None
 unfolding begins_reference
 reference_never w h more =
-    let amp = or_parts (begins (codes "amp") w) _ h in
-    let lt = or_parts (begins (codes "lt") w) _ amp.1 in
-    let gt = or_parts (begins (codes "gt") w) _ lt.1 in
-    let quot = or_parts (begins (codes "quot") w) _ gt.1 in
-    let apos = or_parts (begins (codes "apos") w) _ quot.1 in
-    let number = or_parts (begins (codes "#x") w) _ apos.1 in
-    rw (
-      name_never (codes "amp") w more amp.0,
-      name_never (codes "lt") w more lt.0,
-      name_never (codes "gt") w more gt.0,
-      name_never (codes "quot") w more quot.0,
-      name_never (codes "apos") w more apos.0,
-    )
+    let amp = or_parts _ _ h in
+    let lt = or_parts _ _ amp.1 in
+    let gt = or_parts _ _ lt.1 in
+    let quot = or_parts _ _ gt.1 in
+    let apos = or_parts _ _ quot.1 in
+    let number = or_parts _ _ apos.1 in
+    let never = λ (name : List ℕ) (h : begins name w ≡ false). name_never name w more h in
+    rw (never _ amp.0, never _ lt.0, never _ gt.0, never _ quot.0, never _ apos.0)
     (number_never w more number.0 number.1)
 
 -- the digits of a text, by its bytes
@@ -160,10 +134,8 @@ module _ (ds : List ℕ) (u : IsUtf8 ds) (h : list_all is_small_digit (chars ds)
   digits_high some wrong =
       let not_none : length ds ≡ 0 → ⊥ = λ z. false≢true (sym some ∙ eq-eqb (length ds) 0 z) in
       let long : 0 < length (chars ds) = omega (arith, ap length own) in
-      false_from_ne_true (nat_lt (digits_value 16 (chars ds)) 0x11_0000) (λ e.
-      let low = ltb-true (digits_value 16 (chars ds)) 0x11_0000 e in
-      wrong (subst (λ l. IsNumeral 16 l × (digits_value 16 l < 2 ^ 32)) (sym digits_read)
-      ((long, all_digits (chars ds) h), omega (arith, low))))
+      false_from_ne_true _ (λ e. let low = ltb-true (digits_value 16 (chars ds)) 0x11_0000 e in
+      wrong (rw digits_read ((long, all_digits (chars ds) h), omega (arith, low))))
 
 -- `#x` and digits
 
@@ -171,8 +143,7 @@ pub number_after : (w ds : List ℕ) → w ≡ 35 ∷ 120 ∷ ds →
     begins_number (chars w) ≡ begins_digits (chars ds)
 number_after w ds e = ap begins_number (chars_after_word (35 ∷ 120 ∷ []) w ds refl e)
 
-no_number : (cs : List ℕ) → ((rest : List ℕ) → cs ≡ 35 ∷ 120 ∷ rest → ⊥) →
-    false ≡ begins_number cs
+no_number : (cs : List ℕ) → ((rest : List ℕ) → cs ≡ 35 ∷ 120 ∷ rest → ⊥) → false ≡ begins_number cs
 no_number [] h = refl
 no_number (x ∷ []) h = refl
 no_number (x ∷ y ∷ ds) h = grind (arith, nat_tests, h ds)

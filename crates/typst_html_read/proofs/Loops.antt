@@ -17,8 +17,7 @@ deep_later limit before s c cs h =
     ++ deep_places limit (before + 1) (next_state s c) cs) h
 
 pub deep_here : (limit before : ℕ) (s : ReaderState) (c : ℕ) (cs : List ℕ) →
-    begins_deep limit s c ≡ true →
-    deep_places limit before s (c ∷ cs)
+    begins_deep limit s c ≡ true → deep_places limit before s (c ∷ cs)
     ≡ (before - 1) ∷ deep_places limit (before + 1) (next_state s c) cs
 unfolding deep_places
 deep_here limit before s c cs h =

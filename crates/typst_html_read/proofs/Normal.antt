@@ -34,8 +34,7 @@ unfolding plain_nodes nodes_normal
 none_normal = refl
 
 element_normal_is : (name : List ℕ) (attrs : List TextPair) (kids qs : Plains) →
-    normal (plain (branch name attrs kids) qs)
-    ≡ plain (branch name attrs (normal kids)) (normal qs)
+    normal (plain (branch name attrs kids) qs) ≡ plain (branch name attrs (normal kids)) (normal qs)
 unfolding plain_nodes nodes_normal
 element_normal_is name attrs kids qs = refl
 
@@ -69,10 +68,10 @@ text_parted (c ∷ cs) ps h =
 element_ended : (ps : Plains) (name : List ℕ) (attrs : List TextPair) (kids : Plains) →
     Parted ps → IsNormal kids → Ended (ps then plain (branch name attrs kids) no_plains)
 element_ended ps name attrs kids h k qs =
-    ap normal (then_assoc ps (plain (branch name attrs kids) no_plains) qs)
-    ∙ (h.1 name attrs kids qs
+    let one = plain (branch name attrs kids) no_plains in
+    ap normal (then_assoc ps one qs) ∙ (h.1 name attrs kids qs
     ∙ (ap (λ l. ps then plain (branch name attrs l) (normal qs)) k
-    ∙ sym (then_assoc ps (plain (branch name attrs kids) no_plains) (normal qs))))
+    ∙ sym (then_assoc ps one (normal qs))))
 
 -- the elements that are open, before an element or an end tag, and before a text
 
@@ -117,8 +116,7 @@ or_fits (Some d) f h = h d
 complete_fits : (name : List ℕ) (attrs : List TextPair) (kids : Plains) (stack : List Open) →
     IsNormal kids → AreParted stack → Fits (complete name attrs kids stack)
 complete_fits name attrs kids [] k h = k
-complete_fits name attrs kids (o ∷ os) k h =
-    (element_ended o.children name attrs kids h.0 k, h.1)
+complete_fits name attrs kids (o ∷ os) k h = (element_ended o.children name attrs kids h.0 k, h.1)
 
 start_fits : (name : List ℕ) (attrs : List TextPair) (stack : List Open) → AreParted stack →
     Fits (after_start_tag name attrs stack)
@@ -153,13 +151,9 @@ step_fits (Raw name attrs text stack) c h = grind (
   complete_fits name attrs (with_text (before_closing name text) no_plains) stack
       (text_parted (before_closing name text) no_plains none_ended).0 h,
 )
-step_fits (Less stack) c h = grind arith
 step_fits (StartName name stack) c h = grind (arith, after_fits name [] stack c h)
-step_fits (Space name attrs stack) c h = grind arith
 step_fits (AttrName name attrs attr stack) c h = if_fits (is_attr_char c) _ _ h
     (if_fits (eqb c 61) _ _ h (after_fits name (attrs ++ (attr, []) ∷ []) stack c h))
-step_fits (Equals name attrs attr stack) c h = grind arith
-step_fits (Value name attrs attr value stack) c h = grind arith
 step_fits (ValueReference name attrs attr value since stack) c h =
     if_fits (eqb c 59) _ _ (or_fits (reference since) _ (λ d. h)) h
 step_fits (Quoted name attrs stack) c h = after_fits name attrs stack c h
@@ -167,6 +161,7 @@ step_fits (Slash name attrs stack) c h =
     grind (arith, complete_fits name attrs no_plains stack none_normal h)
 step_fits (EndName name stack) c h = grind (arith, close_fits name stack h)
 step_fits Stop c h = tt
+step_fits s c h = grind arith
 
 pub run_fits : (cs : List ℕ) (s : ReaderState) → Fits s → Fits (run s cs)
 run_fits [] s h = h

@@ -1,6 +1,6 @@
 -- What is written is read, and what was read is written.
-use Rattle.std.proofs.Common.{◌≡◌, arith, ℕ, Bool, true, false, ◌&&◌, inl, inr, List, [], ◌∷◌, Option, Some, None, bytes_eq, codes, take, drop, refl, sym, ap, ◌∙◌, subst}
-use Rattle.std.{proofs.lemmas.Bool.{cases_Bool}, specs.List.{list_all}, specs.Prelude.{if◌then◌else◌, is_none}}
+use Rattle.std.proofs.Common.{◌≡◌, arith, ℕ, Bool, true, false, ◌&&◌, List, [], ◌∷◌, Option, Some, None, bytes_eq, codes, take, drop, refl, sym, ap, ◌∙◌, subst}
+use Rattle.std.{specs.List.{list_all}, specs.Prelude.{if◌then◌else◌, is_none}}
 use Rattle.html_names_core.{proofs.Basics.{none_from_is_none}, proofs.Faults.{valid_attr, valid_tag}, specs.Names.{tag_fault, attr_fault}}
 use Rattle.html_dom_tree.specs.FrameFree.{NodeIsFrameFree, NodesAreFrameFree, ElementIsFrameFree}
 use Rattle.html_dom_tree.specs.{PlainTree.{Plain, words, branch, Plains, no_plains, plain, element_normal}, Tree.{TextPair, ElementView}}
@@ -36,21 +36,17 @@ record Accepted (r : Option Plain) (e : ElementView) : Type 0 where
   names : (is_named name attrs && are_named kids) ≡ true
   element : plain_element name attrs kids ≡ e
 
+some_if : {A : Type 0} (b : Bool) (x y : A) → (if b then Some x else None) ≡ Some y →
+    (b ≡ true) × (x ≡ y)
+some_if true x y h = (refl, cc)
+some_if false x y h = cc
+
 accepted_is : (r : Option Plain) (e : ElementView) → accepted r ≡ Some e → Accepted r e
 accepted_is None e h = cc
 accepted_is (Some (words t)) e h = cc
 accepted_is (Some (branch n others ks)) e h =
-    elim (cases_Bool (is_named n others && are_named ks)) [
-      | inl b ↦ record {
-        name = n;
-        attrs = others;
-        kids = ks;
-        is = refl;
-        names = b;
-        element = let k = rw b at h in cc;
-      }
-      | inr b ↦ let k = rw b at h in cc
-    ]
+    let both = some_if _ _ _ h in
+    record { name = n; attrs = others; kids = ks; is = refl; names = both.0; element = both.1 }
 
 pub read_is_normal : ReadIsNormal
 read_is_normal text e h =

@@ -5,8 +5,7 @@ use Rattle.html_dom_tree.proofs.Reversed.{last_apart}
 use Rattle.typst_html_encode.specs.Reader.{Open}
 use Rattle.typst_html_read.specs.{OpenViews.{open_of, list_of}, declared.open.OpenElement.{OpenElement}}
 
-listed : (os : List OpenElement) (o : OpenElement) →
-    list_of (os ++ o ∷ []) ≡ open_of o ∷ list_of os
+listed : (os : List OpenElement) (o : OpenElement) → list_of (os ++ o ∷ []) ≡ open_of o ∷ list_of os
 listed os o = ap reverse (map-append open_of os (o ∷ []))
     ∙ reverse-append (map open_of os) (open_of o ∷ [])
 

@@ -145,8 +145,7 @@ anchor_is_clean (anchor id span i) b = (
   refl,
 )
 
-given_clean : {h g : Head} → IsGiven IsClean h g → (b : Bool) → IsCleanHead h b →
-    IsCleanHead g b
+given_clean : {h g : Head} → IsGiven IsClean h g → (b : Bool) → IsCleanHead h b → IsCleanHead g b
 given_clean nothing b c = c
 given_clean (given a value i) b c =
     record { named = c.named; values = rw i (c.values); void = c.void }

@@ -27,8 +27,7 @@ supported (ignorable c ∷ xs) = supported xs
 supported (collapsible c ∷ xs) = supported xs
 supported (x ∷ xs) = refl
 
-between : (before : Bool) (xs : List Atom) →
-    atoms_pieces before xs ≡ pieces_between before false xs
+between : (before : Bool) (xs : List Atom) → atoms_pieces before xs ≡ pieces_between before false xs
 between before [] = refl
 between before (x ∷ xs) =
     rw (supported xs, between (then_supports before x) xs) refl

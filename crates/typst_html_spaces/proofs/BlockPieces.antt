@@ -1,5 +1,5 @@
 -- A block: a lone element stands for it with a border of its own, and other nodes get a `div`.
-use Rattle.std.proofs.Common.{◌≡◌, ℕ, Bool, false, cond, List, [], ◌∷◌, ◌++◌, map, Some, inl, inr, refl, ap, ◌∙◌, append-nil}
+use Rattle.std.proofs.Common.{◌≡◌, ℕ, Bool, false, cond, List, [], ◌∷◌, map, Some, inl, inr, refl, ap, ◌∙◌, append-nil}
 use Rattle.std.proofs.lemmas.Bool.{cases_Bool, true≢false}
 use Rattle.html_names_core.specs.{Displays.{default_display}, Kinds.{is_replaced, is_line_break}, Names.{stands_in}}
 use Rattle.html_dom_tree.specs.{Styled.{styled_attrs}, Tree.{Head, NodeView, tag_node, text_node, element_node, frame_node, NodesView}}
@@ -16,16 +16,15 @@ use Rattle.typst_html_spaces.specs.{AtomContexts.{SameButEdges}, DeepNodes.{Hold
 abbrev IsSeenAs : DisplayChangeView → NodeView → NodesView → Type 0
 IsSeenAs change n ns =
     (list_pieces (map (node_with_display change) (node_list ns))
-    ≡ node_pieces (node_with_display change n))
-    × (nodes_pieces ns ≡ node_pieces n)
+    ≡ node_pieces (node_with_display change n)) × (nodes_pieces ns ≡ node_pieces n)
 
 -- of tags nothing is seen
 abbrev AreUnseen : DisplayChangeView → NodesView → Type 0
 AreUnseen change ns =
     (list_pieces (map (node_with_display change) (node_list ns)) ≡ []) × (nodes_pieces ns ≡ [])
 
-lone_seen : (change : DisplayChangeView) (ns : NodesView) (n : NodeView) →
-    lone_node ns ≡ Some n → IsSeenAs change n ns
+lone_seen : (change : DisplayChangeView) (ns : NodesView) (n : NodeView) → lone_node ns ≡ Some n →
+    IsSeenAs change n ns
 unfolding node_list
 lone_seen change ns n = of_lone (IsSeenAs change n) (λ t ms seen. seen) n (λ ms tags.
     let unseen = of_tags (AreUnseen change) (λ t us seen. seen) (refl, refl) ms tags in (
@@ -42,8 +41,7 @@ in_div : (span : ℕ) (ns : NodesView) →
     IsBlock (element_node (block_head span) ns ∷ []) (nodes_pieces ns)
 unfolding default_display stands_in is_replaced has_border
 in_div span ns = record {
-  same = same-equal (between_edges (nodes_pieces ns) ++ []) (between_edges (nodes_pieces ns))
-      (append-nil (between_edges (nodes_pieces ns)));
+  same = same-equal (append-nil (between_edges (nodes_pieces ns)));
   content = refl;
 }
 

@@ -1,5 +1,5 @@
 -- What holds of nodes at any depth before they are changed, and then.
-use Rattle.std.proofs.{Common.{◌≡◌, ℕ, Bool, true, false, List, inl, inr, refl, ap}, lemmas.Bool.{cases_Bool}}
+use Rattle.std.proofs.{Common.{◌≡◌, ℕ, Bool, true, false, List, inl, inr, refl, ap, ◌∙◌}, lemmas.Bool.{cases_Bool}}
 use Rattle.html_dom_tree.specs.{Styled.{head_with_style, styled_nodes}, Tags.{TagView}}
 use Rattle.html_dom_tree.specs.Tree.{Head, tag_node, text_node, element_node, frame_node, NodesView, none, node}
 use Rattle.html_flow_convert.specs.{BareSpaces.{is_entered}, Nodes.{pre_wrap_head, is_one}}
@@ -69,11 +69,14 @@ unchanged c same (node (element_node h kids) ns) =
     at_element (same h) (unchanged c same kids) (unchanged c same ns)
 unchanged c same (node (frame_node f) ns) = at_frame (unchanged c same ns)
 
-pub weaker : (P Q : Head → Type 0) (F : Type 0) → ((h : Head) → P h → Q h) →
-    (ns : NodesView) (p : Bool) → HoldsOfAll (of_heads P F) p ns → HoldsOfAll (of_heads Q F) p ns
-weaker P Q F follow ns = holds_then
-    (heads_then P Q F (by_heads (λ h. h)) (λ h i. absurd i) (λ h s i. absurd i)
-    (λ h g e. (λ r. rw e (follow h r), ap (λ x. x.pre_span) e)))
+heads_by : (f : Head → Head) (P Q : Head → Type 0) (F : Type 0) → ((h : Head) → P h → Q (f h)) →
+    ((h : Head) → (f h).pre_span ≡ h.pre_span) → HoldsThen (of_heads P F) (of_heads Q F) (by_heads f)
+heads_by f P Q F follow flag = heads_then P Q F (by_heads f) (λ h i. absurd i) (λ h s i. absurd i)
+    (λ h g e. (λ r. rw e (follow h r), ap (λ x. x.pre_span) e ∙ flag h))
+
+pub weaker : (P Q : Head → Type 0) (F : Type 0) → ((h : Head) → P h → Q h) → (ns : NodesView)
+    (p : Bool) → HoldsOfAll (of_heads P F) p ns → HoldsOfAll (of_heads Q F) p ns
+weaker P Q F follow ns = holds_then (heads_by (λ h. h) P Q F follow (λ h. refl))
     (unchanged (by_heads (λ h. h)) (λ h. refl) ns)
 
 -- styles
@@ -90,13 +93,11 @@ styled_is_changed (node (element_node h kids) ns) =
     at_element refl (styled_is_changed kids) (styled_is_changed ns)
 styled_is_changed (node (frame_node f) ns) = at_frame (styled_is_changed ns)
 
-pub heads_styled : (P Q : Head → Type 0) (F : Type 0) →
-    ((h : Head) → P h → Q (head_with_style h)) →
+pub heads_styled : (P Q : Head → Type 0) (F : Type 0) → ((h : Head) → P h → Q (head_with_style h)) →
     (ns : NodesView) (p : Bool) → HoldsOfAll (of_heads P F) p ns →
     HoldsOfAll (of_heads Q F) p (styled_nodes ns)
-heads_styled P Q F follow ns = holds_then
-    (heads_then P Q F styles (λ h i. absurd i) (λ h s i. absurd i)
-    (λ h g e. (λ r. rw e (follow h r), ap (λ x. x.pre_span) e))) (styled_is_changed ns)
+heads_styled P Q F follow ns =
+    holds_then (heads_by head_with_style P Q F follow (λ h. refl)) (styled_is_changed ns)
 
 -- lone spaces, each in a `span` of its own where it is not bare
 

@@ -1,5 +1,5 @@
 -- Clean items of plain flow become nodes without a fault.
-use Rattle.std.proofs.Common.{◌≡◌, ℕ, true, false, not, ◌&&◌, ◌||◌, ◌==◌, List, [], ◌∷◌, Option, None, Some, inl, inr, refl, ◌∙◌, sym, codes}
+use Rattle.std.proofs.Common.{◌≡◌, ℕ, true, false, ◌||◌, List, [], ◌∷◌, Option, None, Some, inl, inr, refl, ◌∙◌, sym, codes}
 use Rattle.std.proofs.lemmas.Bool.{cases_Bool, false≢true, and_parts, or_cases}
 use Rattle.html_names_core.specs.{Characters.{all, is_text_char}, Kinds.{is_void}, Names.{stands_in}}
 use Rattle.html_flow_convert.specs.Converted.{RoleText, item_role, passes_role, role_pairs, element_head, body_level, body_whitespace, body_role, text_item_nodes, body_nodes, converted_nodes}
@@ -14,14 +14,14 @@ use Rattle.typst_html_spaces.proofs.{MadeHeads.{stands_for_block}, MadeNodes.{br
 use Rattle.typst_html_spaces.proofs.{PlainParts.{plain_head as plain_parts, element_made}, ReadyRuns.{one_char}, TextPieces.{each_outside}}
 use Rattle.typst_html_spaces.specs.CleanItems.{is_clean_role, is_absent, is_clean_item, are_clean_items, is_clean_body, CleanItemsMakeCleanNodes}
 use Rattle.typst_html_spaces.specs.{CleanNodes.{is_clean_text, are_clean_values, IsCleanText}, DeepNodes.{is_empty, HoldsOf}}
-use Rattle.typst_html_spaces.specs.PlainFlow.{is_plain_head, is_one_break, is_plain_item, are_plain_items, is_plain_body}
+use Rattle.typst_html_spaces.specs.PlainFlow.{is_plain_item, are_plain_items, is_plain_body}
 
 div_is_not_void : is_void (codes "div") ≡ false
 unfolding is_void stands_in
 div_is_not_void = refl
 
 clean_blank : (s : List ℕ) → (is_one 32 s || is_one 9 s) ≡ true → IsCleanText true s
-clean_blank s e = elim (or_cases (is_one 32 s) (is_one 9 s) e) [
+clean_blank s e = elim (or_cases _ _ e) [
   | inl f ↦ rw (one_char 32 s f) (refl, λ t. refl)
   | inr f ↦ rw (one_char 9 s f) (refl, λ t. refl)
 ]
@@ -64,7 +64,7 @@ clean_pieces : (before : Option ℕ) (cs : List ℕ) → all is_text_char cs ≡
 unfolding pieces_after
 clean_pieces before [] e = tt
 clean_pieces before (c ∷ cs) e =
-    let both = and_parts (is_text_char c) (all is_text_char cs) e in
+    let both = and_parts _ _ e in
     let others = clean_pieces (Some c) cs both.1 in
     elim (cases_Bool (is_in_stretch before c cs)) [
       | inl f ↦ rw f (clean_in_stretch c (pieces_after (Some c) cs) both.0 others)
@@ -133,10 +133,9 @@ unfolding is_plain_item is_clean_item
 clean_items = record {
   tag = λ s role t c. c.2;
   element = λ s role h body c.
-      let plain = and_parts (is_plain_head h) (is_plain_body (body_whitespace s h) body) c.1 in
-      let both = and_parts (are_clean_values h.attrs && (not (is_void h.name) || is_absent body))
-      (is_clean_body body) c.2 in
-      let own = and_parts (are_clean_values h.attrs) (not (is_void h.name) || is_absent body) both.0 in (
+      let plain = and_parts _ _ c.1 in
+      let both = and_parts _ _ c.2 in
+      let own = and_parts _ _ both.0 in (
         record {
           made = element_made role h (plain_parts h plain.0);
           values = clean_attrs role h c.0 own.0;
@@ -149,13 +148,12 @@ clean_items = record {
   text = λ s role t span c. clean_text s t span c.2;
   feed = plain_clean (10 ∷ []) refl;
   box = λ s role body span c. absurd (false≢true c.1);
-  block = λ s role body span c.
-      (c.0, (and_parts (not (is_one_break s body)) (is_plain_body s body) c.1).1, c.2);
+  block = λ s role body span c. (c.0, (and_parts _ _ c.1).1, c.2);
   frame = λ s role f c. false≢true c.1;
   first = λ s role i own items c.
-      let plain = and_parts (is_plain_item s i) (are_plain_items s items) c.1 in
-      let both = and_parts (is_clean_role own && is_clean_item i) (are_clean_items items) c.2 in
-      let one = and_parts (is_clean_role own) (is_clean_item i) both.0 in
+      let plain = and_parts _ _ c.1 in
+      let both = and_parts _ _ c.2 in
+      let one = and_parts _ _ both.0 in
       ((clean_item_role role own c.0 one.0, plain.0, one.1), (c.0, plain.1, both.1));
   inside = λ s role items c. c;
 }

@@ -1,5 +1,5 @@
 -- Nodes that have no fault at any depth.
-use Rattle.std.proofs.Common.{◌≡◌, ℕ, Bool, true, false, not, ◌&&◌, ◌||◌, ◌==◌, List, [], ◌∷◌, ◌++◌, None, inl, inr, refl, ap, ◌∙◌, codes}
+use Rattle.std.proofs.Common.{◌≡◌, ℕ, Bool, true, false, not, ◌&&◌, ◌||◌, ◌==◌, List, [], ◌∷◌, ◌++◌, None, inl, inr, refl, ap, ◌∙◌, codes, arith}
 use Rattle.std.proofs.lemmas.Bool.{cases_Bool, false≢true, and_parts}
 use Rattle.html_names_core.specs.{Characters.{all, is_text_char}, Kinds.{is_void}, Texts.{TextPair}}
 use Rattle.html_dom_tree.specs.{Attributes.{first}, Styled.{styled_attrs, head_with_style, styled_nodes}}
@@ -14,10 +14,7 @@ use Rattle.typst_html_spaces.specs.{DeepNodes.{Wanted, is_empty, HoldsOfAll}, Pl
 -- texts
 
 good : (a b d : Bool) → a ≡ true → (b ≡ true → not d ≡ true) → (not a || (b && d)) ≡ false
-good true true true e f = absurd (false≢true (f refl))
-good true true false e f = refl
-good true false d e f = refl
-good false b d e f = absurd (false≢true e)
+good a b d e f = grind arith
 
 pub plain_clean : (s : List ℕ) → all is_text_char s ≡ true → IsCleanText false s
 plain_clean s e = (e, λ t. absurd (false≢true t))
@@ -29,11 +26,11 @@ no_text_faults : (e : _) (span : ℕ) (s : List ℕ) → all is_text_char s ≡ 
     (is_reference e ≡ true → all is_no_return s ≡ true) → text_faults e span s ≡ []
 no_text_faults e span [] h k = refl
 no_text_faults e span (c ∷ cs) h k =
-    let both = and_parts (is_text_char c) (all is_text_char cs) h in
+    let both = and_parts _ _ h in
     let fine : is_bad e c ≡ false = good (is_text_char c) (is_reference e) (c == 13) both.0
-    (λ r. (and_parts (is_no_return c) (all is_no_return cs) (k r)).0) in
+    (λ r. (and_parts _ _ (k r)).0) in
     ap (λ fs. fs ++ text_faults e span cs) (no_char_faults e span c fine)
-    ∙ no_text_faults e span cs both.1 (λ r. (and_parts (is_no_return c) (all is_no_return cs) (k r)).1)
+    ∙ no_text_faults e span cs both.1 (λ r. (and_parts _ _ (k r)).1)
 
 pub no_faults_of : (e : _) (span : ℕ) (s : List ℕ) → IsCleanText (is_reference e) s →
     text_faults e span s ≡ []
@@ -45,7 +42,7 @@ pub no_attrs_faults : (span : ℕ) (attrs : List TextPair) → are_clean_values 
     attrs_faults span attrs ≡ []
 no_attrs_faults span [] e = refl
 no_attrs_faults span (p ∷ ps) e =
-    let both = and_parts (all is_text_char p.1) (are_clean_values ps) e in
+    let both = and_parts _ _ e in
     let own : IsCleanText false p.1 = plain_clean p.1 both.0 in
     rw no_faults_of (no_attrs_faults span ps both.1)
 

@@ -41,8 +41,8 @@ pub record HoldsOnTheWay (w : Wanted) : Type 0 where
   pub blank : (s : List ℕ) → (is_one 32 s || is_one 9 s) ≡ true → w.text true s
   pub line : (span : ℕ) → w.head (made_head (codes "br") [] span) true
   pub block : (span : ℕ) (b : Bool) → w.head (block_head span) b
-  pub lone : (h : Head) (kids : NodesView) (change : DisplayChangeView) →
-      w.head h (is_empty kids) → block_change (element_node h kids) ≡ Some change →
+  pub lone : (h : Head) (kids : NodesView) (change : DisplayChangeView) → w.head h (is_empty kids) →
+      block_change (element_node h kids) ≡ Some change →
       w.head (record h { css = css_with_display change h.css }) (is_empty kids)
 
 -- of what boxes make too
@@ -78,7 +78,7 @@ module _ (w : Wanted) (way : HoldsOnTheWay w) where
 
   in_wrap : (p : Bool) {h : Head} {s : List ℕ} → IsWrap h s → w.head h false × w.text h.pre_span s
   in_wrap p (wrapped {s = s} span e) =
-      (way.wrap span false, way.blank s (or_left (is_one 32 s) (is_one 9 s) e))
+      (way.wrap span false, way.blank s (or_left _ _ e))
 
   wraps_hold : HoldsThen w w wraps
   wraps_hold = record {
@@ -164,8 +164,7 @@ pub record Known : Type 1 where
 pub record HoldsOfItems (w : Wanted) (k : Known) : Type 0 where
   pub tag : (s : Whitespace) (role : RoleText) (t : TagView) → k.item s role (tag_item t) → w.tag t
   pub element : (s : Whitespace) (role : RoleText) (h : ElemHead) (body : BodyView) →
-      k.item s role (element_item h body) →
-      w.head (element_head role h)
+      k.item s role (element_item h body) → w.head (element_head role h)
       (is_empty (body_nodes (body_level h) (body_whitespace s h) (body_role role h) body))
       × k.body (body_whitespace s h) (body_role role h) body
   pub space : w.text false (32 ∷ [])

@@ -20,8 +20,7 @@ pub Each-weaker : {X : Type 0} (P Q : X → Type 0) → ((x : X) → P x → Q x
 Each-weaker P Q h [] r = tt
 Each-weaker P Q h (x ∷ xs) r = (h x r.0, Each-weaker P Q h xs r.1)
 
-pub Each-drop : {X : Type 0} (P : X → Type 0) (k : ℕ) (xs : List X) → Each P xs →
-    Each P (drop k xs)
+pub Each-drop : {X : Type 0} (P : X → Type 0) (k : ℕ) (xs : List X) → Each P xs → Each P (drop k xs)
 Each-drop P zero xs r = r
 Each-drop P (suc k) [] r = tt
 Each-drop P (suc k) (x ∷ xs) r = Each-drop P k xs r.1

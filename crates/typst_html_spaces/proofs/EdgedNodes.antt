@@ -1,7 +1,7 @@
 -- What pretty writing puts indents around or inside is a border in the nodes of plain flow.
-use Rattle.std.proofs.Common.{◌≡◌, ◌⊎◌, ℕ, Bool, true, false, not, ◌&&◌, ◌||◌, List, Option, Some, inl, inr, refl, ap, ◌∙◌, sym, codes, bytes_eq}
-use Rattle.std.proofs.lemmas.{Bool.{cases_Bool, false≢true, and_parts, or_cases, not-true, false_from_ne_true}, Slice.Eq.{bytes_eq-Decides}}
-use Rattle.html_names_core.specs.Displays.{default_display}
+use Rattle.std.proofs.Common.{◌≡◌, ◌⊎◌, ℕ, Bool, true, false, not, ◌||◌, List, Option, Some, inl, inr, refl, ap, ◌∙◌, sym, codes, bytes_eq, ◌&&◌}
+use Rattle.std.{specs.List.{list_all}, proofs.lemmas.Bool.{both_ways, false≢true, and_parts, or_cases, not-true, false_from_ne_true}}
+use Rattle.html_names_core.{proofs.Basics.{bytes_eq-same}, specs.Displays.{default_display}}
 use Rattle.html_names_core.specs.Kinds.{is_replaced, is_mathml, mathml_names, is_token, is_metadata_content, metadata_content_names, shows_border}
 use Rattle.html_names_core.specs.{Names.{stands_in}, declared.property.Display.{Display}}
 use Rattle.html_names_core.specs.declared.property.Display.TheVariants as display
@@ -12,9 +12,9 @@ use Rattle.html_dom_shown.specs.Collapsing.{has_border_display}
 use Rattle.typst_html_encode.specs.IndentsCollapse.{HeadIsEdged, NodesAreEdged}
 use Rattle.typst_html_encode.specs.Layout.{is_of_lines, allows_pretty_inside, wants_pretty_around}
 use Rattle.html_flow_convert.specs.{Converted.{RoleText, converted_nodes}, Items.{ItemsView}}
-use Rattle.html_flow_convert.specs.declared.convert.{ConversionLevel.TheVariants.{Block}, Whitespace.TheVariants.{Normal}}
+use Rattle.html_flow_convert.specs.{declared.convert.ConversionLevel.TheVariants.{Block}, declared.convert.Whitespace.TheVariants.{Normal}}
 use Rattle.typst_html_spaces.proofs.MadeHeads.{MadeHead, head_style_is, wrap_preserves, is_wrap, is_away, plain_is_there, plain_is_no_math, listed_pass}
-use Rattle.typst_html_spaces.proofs.{MadeNodes.{made, items_made}, ReadyElements.{plain_is_not_raw}}
+use Rattle.typst_html_spaces.proofs.{MadeNodes.{made, items_made}, ReadyElements.{plain_is_not_raw, pre_is_border}}
 use Rattle.typst_html_spaces.specs.{DeepNodes.{HoldsOfAll}, PlainFlow.{is_plain_name, is_plain_flow}}
 
 -- names
@@ -32,23 +32,26 @@ plain_lines name p e = elim (of_lines (default_display name) e) [
   | inr f ↦ absurd (false≢true (sym (plain_is_there name p) ∙ f))
 ]
 
+plain_listed : (names : List (List ℕ)) →
+    list_all (λ n. not (is_plain_name n) || has_border_display n) names ≡ true → (name : List ℕ) →
+    is_plain_name name ≡ true → stands_in names name ≡ true → has_border_display name ≡ true
+plain_listed names all name p e = implied _ _
+    (listed_pass (λ n. not (is_plain_name n) || has_border_display n) names name all e) p
+
 plain_mathml : (name : List ℕ) → is_plain_name name ≡ true → is_mathml name ≡ true →
     has_border_display name ≡ true
 unfolding is_mathml is_plain_name is_replaced default_display stands_in
-plain_mathml name p e = implied (is_plain_name name) (has_border_display name)
-    (listed_pass (λ n. not (is_plain_name n) || has_border_display n) mathml_names name refl e) p
+plain_mathml = plain_listed mathml_names refl
 
-plain_metadata : (name : List ℕ) → is_plain_name name ≡ true →
-    is_metadata_content name ≡ true → has_border_display name ≡ true
+plain_metadata : (name : List ℕ) → is_plain_name name ≡ true → is_metadata_content name ≡ true →
+    has_border_display name ≡ true
 unfolding is_metadata_content is_plain_name is_replaced default_display stands_in
-plain_metadata name p e = implied (is_plain_name name) (has_border_display name)
-    (listed_pass (λ n. not (is_plain_name n) || has_border_display n) metadata_content_names name
-    refl e) p
+plain_metadata = plain_listed metadata_content_names refl
 
 -- a fact of one name
 of_name : (p : List ℕ → Bool) (name own : List ℕ) → p own ≡ true → bytes_eq name own ≡ true →
     p name ≡ true
-of_name p name own e f = ap p ((bytes_eq-Decides name own).0 f) ∙ e
+of_name p name own e f = ap p (bytes_eq-same _ _ f) ∙ e
 
 head_is_not_plain : (not (is_plain_name (codes "head")) || has_border_display (codes "head")) ≡ true
 unfolding is_plain_name is_replaced default_display stands_in
@@ -59,10 +62,6 @@ plain_head : (name : List ℕ) → is_plain_name name ≡ true → bytes_eq name
 plain_head name p e = implied (is_plain_name name) (has_border_display name)
     (of_name (λ n. not (is_plain_name n) || has_border_display n) name (codes "head")
     head_is_not_plain e) p
-
-pre_border : has_border_display (codes "pre") ≡ true
-unfolding default_display stands_in
-pre_border = refl
 
 pre_shuts : not (allows_pretty_inside (codes "pre")) ≡ true
 unfolding allows_pretty_inside is_mathml is_token default_display stands_in
@@ -88,11 +87,8 @@ inside_border name p e =
 
 inside_no_pre : (name : List ℕ) → allows_pretty_inside name ≡ true →
     bytes_eq name (codes "pre") ≡ false
-inside_no_pre name e = elim (cases_Bool (bytes_eq name (codes "pre"))) [
-  | inl f ↦ absurd (false≢true (sym (not-true (allows_pretty_inside name)
-      (of_name (λ n. not (allows_pretty_inside n)) name (codes "pre") pre_shuts f)) ∙ e))
-  | inr f ↦ f
-]
+inside_no_pre name e = false_from_ne_true _ (λ f. both_ways _ (not-true _
+    (of_name (λ n. not (allows_pretty_inside n)) name (codes "pre") pre_shuts f)) e)
 
 -- indents around
 
@@ -103,17 +99,15 @@ around_border h p e =
     let f : (is_mathml h.name || (bytes_eq h.name (codes "pre")
     || (is_metadata_content h.name || allows_pretty_inside h.name))) ≡ true =
     rw (plain_is_no_math h.name p) at e in
-    elim (or_cases (is_mathml h.name) (bytes_eq h.name (codes "pre")
-    || (is_metadata_content h.name || allows_pretty_inside h.name)) f) [
+    elim (or_cases _ _ f) [
       | inl g ↦ plain_mathml h.name p g
-      | inr g ↦ elim (or_cases (bytes_eq h.name (codes "pre"))
-          (is_metadata_content h.name || allows_pretty_inside h.name) g) [
-            | inl k ↦ of_name has_border_display h.name (codes "pre") pre_border k
-            | inr k ↦ elim (or_cases (is_metadata_content h.name) (allows_pretty_inside h.name) k) [
-              | inl l ↦ plain_metadata h.name p l
-              | inr l ↦ inside_border h.name p l
-            ]
-          ]
+      | inr g ↦ elim (or_cases _ _ g) [
+        | inl k ↦ of_name has_border_display h.name (codes "pre") pre_is_border k
+        | inr k ↦ elim (or_cases _ _ k) [
+          | inl l ↦ plain_metadata h.name p l
+          | inr l ↦ inside_border h.name p l
+        ]
+      ]
     ]
 
 -- blanks inside
@@ -121,7 +115,7 @@ around_border h p e =
 border_no_wrap : (h : Head) (m : MadeHead h) → has_border_display h.name ≡ true →
     is_wrap m.kind ≡ false
 border_no_wrap h m e =
-    false_from_ne_true (is_wrap m.kind) (λ w. false≢true (sym (m.in_line w) ∙ e))
+    false_from_ne_true _ (λ w. both_ways _ (m.in_line w) e)
 
 pub made_is_edged : (h : Head) → MadeHead h → HeadIsEdged (head_with_style h)
 made_is_edged h m = (

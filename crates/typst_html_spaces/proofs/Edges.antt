@@ -18,8 +18,8 @@ merged_edges-append b (p ∷ ps) qs = ap (λ l. p ∷ l) (merged_edges-append fa
 
 -- equal pieces, and the laws of an equivalence
 
-pub same-equal : (ps qs : List Piece) → ps ≡ qs → SameButEdges ps qs
-same-equal ps qs e b = (ap (merged_edges b) e, ap (ends_in_edge b) e)
+pub same-equal : {ps qs : List Piece} → ps ≡ qs → SameButEdges ps qs
+same-equal e b = (ap (merged_edges b) e, ap (ends_in_edge b) e)
 
 pub same-refl : (ps : List Piece) → SameButEdges ps ps
 same-refl ps b = (refl, refl)
@@ -40,8 +40,7 @@ same-append ps qs rs ts s t b =
     let later = t (ends_in_edge b qs) in (
       merged_edges-append b ps rs
           ∙ (rw (merged, ends, later.0) refl ∙ sym (merged_edges-append b qs ts)),
-      ends_in_edge-append b ps rs
-          ∙ (rw (ends, later.1) refl ∙ sym (ends_in_edge-append b qs ts)),
+      ends_in_edge-append b ps rs ∙ (rw (ends, later.1) refl ∙ sym (ends_in_edge-append b qs ts)),
     )
 
 pub same-between_edges : (ps qs : List Piece) → SameButEdges ps qs →

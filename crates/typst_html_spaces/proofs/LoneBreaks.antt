@@ -2,7 +2,7 @@
 use Rattle.std.proofs.Common.{◌≡◌, ◌⊎◌, ℕ, Bool, true, false, ◌==◌, cond, List, [], ◌∷◌, ◌++◌, map, codes, Some, inl, inr, refl, ap, ◌∙◌, sym, eqb-true}
 use Rattle.std.{proofs.lemmas.Bool.{cases_Bool, false≢true}, specs.List.{filter}}
 use Rattle.html_names_core.specs.{Kinds.{is_line_break}, Names.{stands_in}}
-use Rattle.html_dom_tree.specs.Tree.{Head, NodeView, tag_node, text_node, element_node, frame_node, NodesView, none, node}
+use Rattle.html_dom_tree.specs.Tree.{Head, NodeView, tag_node, element_node, NodesView, none, node}
 use Rattle.html_dom_tree.specs.Views.{nodes_of}
 use Rattle.html_dom_shown.specs.Collapsing.{Piece, char, thing, line, edge}
 use Rattle.html_flow_convert.specs.{BareSpaces.{bare_spaces}, Converted.{text_item_nodes, list_nodes}}
@@ -48,9 +48,8 @@ two_breaks w = refl
 
 abbrev pub node_content : NodeView → Content
 node_content (tag_node t) = nothing
-node_content (text_node s span) = other
 node_content (element_node h ns) = cond (is_line_break h.name) one_break other
-node_content (frame_node f) = other
+node_content n = other
 
 abbrev pub nodes_content : NodesView → Content
 nodes_content none = nothing
@@ -153,7 +152,7 @@ after_return c (d ∷ ds) e =
     elim (cases_Bool (d == 13)) [
       | inl f ↦ inl (rw f (two_breaks (pieces_content (chars_by_line true ds))))
       | inr f ↦ elim (cases_Bool (d == 10)) [
-        | inl g ↦ after_feed d ds (eqb-true d 10 g) f g
+        | inl g ↦ after_feed d ds (eqb-true _ _ g) f g
         | inr g ↦ inl (rw (f, g) refl)
       ]
     ]
@@ -164,14 +163,13 @@ after_return c (d ∷ ds) e =
     after_feed d [] g f h = inr (inr (inl (rw (e, g) refl)))
     after_feed d (x ∷ xs) g f h = inl (rw (f, h) (more_than_break x xs))
 
-break_or_other : (s : List ℕ) →
-    (pieces_content (chars_by_line false s) ≡ other) ⊎ BreakOrNothing s
+break_or_other : (s : List ℕ) → (pieces_content (chars_by_line false s) ≡ other) ⊎ BreakOrNothing s
 break_or_other [] = inr (inl refl)
 break_or_other (c ∷ cs) =
     elim (cases_Bool (c == 13)) [
-      | inl e ↦ rw e (after_return c cs (eqb-true c 13 e))
+      | inl e ↦ rw e (after_return c cs (eqb-true _ _ e))
       | inr e ↦ elim (cases_Bool (c == 10)) [
-        | inl f ↦ rw (e, f) (after_feed cs (eqb-true c 10 f))
+        | inl f ↦ rw (e, f) (after_feed cs (eqb-true _ _ f))
         | inr f ↦ inl (rw (e, f) refl)
       ]
     ]
@@ -209,20 +207,17 @@ body_content whitespace (present items) = items_content whitespace items
 
 abbrev holds_nothing : Content → Bool
 holds_nothing nothing = true
-holds_nothing one_break = false
-holds_nothing other = false
+holds_nothing w = false
 
 abbrev pub holds_one_break : Content → Bool
-holds_one_break nothing = false
 holds_one_break one_break = true
-holds_one_break other = false
+holds_one_break w = false
 
 break_and_nothing : (w : Content) → holds_one_break (add one_break w) ≡ holds_nothing w
 break_and_nothing nothing = refl
 break_and_nothing w = refl
 
-not_nothing : (b : Bool) (w : Content) →
-    holds_nothing (add (cond b one_break other) w) ≡ false
+not_nothing : (b : Bool) (w : Content) → holds_nothing (add (cond b one_break other) w) ≡ false
 not_nothing true nothing = refl
 not_nothing b w = refl
 

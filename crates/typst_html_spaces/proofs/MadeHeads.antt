@@ -1,18 +1,18 @@
 -- Elements that conversion makes: what their css can be, and what becomes of a lone one that stands
 -- for its block.
-use Rattle.std.proofs.Common.{◌≡◌, ℕ, Bool, true, false, not, ◌||◌, List, [], ◌∷◌, ◌++◌, Option, Some, None, ◌⊎◌, inl, inr, refl, ap, ◌∙◌, sym, codes, bytes_eq}
-use Rattle.std.proofs.lemmas.{Bool.{cases_Bool, false≢true, and_parts, or_cases, or_right, not-true}, Slice.Eq.{bytes_eq-Decides}}
+use Rattle.std.proofs.Common.{◌≡◌, ℕ, Bool, true, false, not, ◌||◌, List, [], ◌∷◌, Option, Some, None, ◌⊎◌, inl, inr, refl, ap, ◌∙◌, sym, codes, bytes_eq}
+use Rattle.std.proofs.lemmas.Bool.{both_ways, false_from_ne_true, false≢true, and_parts, or_cases, or_left, or_right, not-true}
 use Rattle.std.specs.List.{list_all}
 use lib.Utf8.{encode}
-use Rattle.html_names_core.specs.Displays.{default_display}
-use Rattle.html_names_core.specs.Kinds.{is_replaced, replaced_names, is_whitespace_collapsing, is_line_break, shows_border}
+use Rattle.html_names_core.{proofs.Basics.{bytes_eq-same}, specs.Displays.{default_display}}
+use Rattle.html_names_core.specs.Kinds.{is_replaced, replaced_names, shows_border}
 use Rattle.html_names_core.specs.{Names.{stands_in}, Texts.{TextPair}, declared.property.Display.{Display}}
 use Rattle.html_names_core.specs.declared.property.Display.TheVariants as display
 use Rattle.html_values_css.specs.Properties.{with_property, without}
 use Rattle.html_dom_tree.proofs.Folds.{first-append}
 use Rattle.html_dom_tree.specs.{Attributes.{first}, Styled.{styled_attrs}, Tree.{Head, element_node, NodesView}}
 use Rattle.html_dom_shown.specs.Collapsing.{preserves, has_border}
-use Rattle.html_flow_convert.specs.BareSpaces.{is_border_element, makes_block}
+use Rattle.html_flow_convert.specs.BareSpaces.{is_border_element}
 use Rattle.html_flow_convert.specs.LoneNode.{DisplayChangeView, removed, set_to, css_with_display, change_by_display, block_change}
 use Rattle.typst_html_spaces.specs.PlainFlow.{is_inline, is_plain_name, unplain_names}
 
@@ -37,10 +37,9 @@ made_style wrap = Some (codes "white-space: pre-wrap")
 made_style block_wrap = Some (codes "display: block; white-space: pre-wrap")
 
 abbrev pub is_wrap : MadeCss → Bool
-is_wrap plain = false
-is_wrap block = false
 is_wrap wrap = true
 is_wrap block_wrap = true
+is_wrap c = false
 
 pub made_style_is : (c : MadeCss) (attrs : List TextPair) → first attrs (codes "style") ≡ None →
     first (styled_attrs (made_css c) attrs) (codes "style") ≡ made_style c
@@ -105,16 +104,12 @@ is_away (Some display.TableColumn) = true
 is_away (Some display.TableColumnGroup) = true
 is_away _ = false
 
-inline_is_there : (d : Option Display) → is_inline d ≡ true → is_away d ≡ false
-inline_is_there (Some display.Inline) e = refl
-inline_is_there _ e = absurd (false≢true e)
-
-border_is_there : (d : Option Display) → shows_border d ≡ true → is_away d ≡ false
-border_is_there (Some display.None) e = absurd (false≢true e)
-border_is_there (Some display.Contents) e = absurd (false≢true e)
-border_is_there (Some display.TableColumn) e = absurd (false≢true e)
-border_is_there (Some display.TableColumnGroup) e = absurd (false≢true e)
-border_is_there _ e = refl
+is_there : (d : Option Display) → (is_inline d || shows_border d) ≡ true → is_away d ≡ false
+is_there (Some display.None) e = absurd (false≢true e)
+is_there (Some display.Contents) e = absurd (false≢true e)
+is_there (Some display.TableColumn) e = absurd (false≢true e)
+is_there (Some display.TableColumnGroup) e = absurd (false≢true e)
+is_there _ e = refl
 
 -- what each name of a list passes
 pub listed_pass : (p : List ℕ → Bool) (names : List (List ℕ)) (name : List ℕ) →
@@ -123,32 +118,42 @@ unfolding stands_in
 listed_pass p [] name a e = absurd (false≢true e)
 listed_pass p (n ∷ ns) name a e =
     let both = and_parts (p n) (list_all p ns) a in
-    elim (or_cases (bytes_eq n name) (stands_in ns name) e) [
-      | inl t ↦ rw (← (bytes_eq-Decides n name).0 t) both.0
+    elim (or_cases _ _ e) [
+      | inl t ↦ rw (← bytes_eq-same n name t) both.0
       | inr t ↦ listed_pass p ns name both.1 t
     ]
+
+-- what each fails
+pub listed_fail : (p : List ℕ → Bool) (names : List (List ℕ)) (name : List ℕ) →
+    list_all (λ n. not (p n)) names ≡ true → stands_in names name ≡ true → p name ≡ false
+listed_fail p names name a e = not-true _ (listed_pass (λ n. not (p n)) names name a e)
 
 replaced_is_there : (name : List ℕ) → is_replaced name ≡ true →
     is_away (default_display name) ≡ false
 unfolding is_replaced default_display stands_in
 replaced_is_there name e =
-    not-true (is_away (default_display name))
-    (listed_pass (λ n. not (is_away (default_display n))) replaced_names name refl e)
+    listed_fail (λ n. is_away (default_display n)) replaced_names name refl e
 
 pub plain_is_there : (name : List ℕ) → is_plain_name name ≡ true →
     is_away (default_display name) ≡ false
 unfolding is_plain_name
 plain_is_there name e =
-    let shown = and_parts (is_replaced name || is_inline (default_display name)
-    || shows_border (default_display name)) (not (stands_in unplain_names name)) e in
-    elim (or_cases (is_replaced name || is_inline (default_display name))
-    (shows_border (default_display name)) shown.0) [
-      | inl f ↦ elim (or_cases (is_replaced name) (is_inline (default_display name)) f) [
+    let line = is_inline (default_display name) in
+    let border = shows_border (default_display name) in
+    let shown = and_parts (is_replaced name || line || border) (not (stands_in unplain_names name)) e in
+    elim (or_cases (is_replaced name || line) border shown.0) [
+      | inl f ↦ elim (or_cases (is_replaced name) line f) [
         | inl g ↦ replaced_is_there name g
-        | inr g ↦ inline_is_there (default_display name) g
+        | inr g ↦ is_there (default_display name) (or_left line border g)
       ]
-      | inr f ↦ border_is_there (default_display name) f
+      | inr f ↦ is_there (default_display name) (or_right line border f)
     ]
+
+-- a plain name is none that is not plain
+pub not_named : (own name : List ℕ) → is_plain_name own ≡ false → is_plain_name name ≡ true →
+    bytes_eq name own ≡ false
+not_named own name f e = false_from_ne_true _
+    (λ t. both_ways _ (ap is_plain_name (bytes_eq-same _ _ t) ∙ f) e)
 
 math_is_not_plain : is_plain_name (codes "math") ≡ false
 unfolding is_plain_name is_replaced default_display stands_in
@@ -156,12 +161,7 @@ math_is_not_plain = refl
 
 pub plain_is_no_math : (name : List ℕ) → is_plain_name name ≡ true →
     bytes_eq name (codes "math") ≡ false
-plain_is_no_math name e =
-    elim (cases_Bool (bytes_eq name (codes "math"))) [
-      | inl t ↦ absurd (false≢true (sym math_is_not_plain
-          ∙ (sym (ap is_plain_name ((bytes_eq-Decides name (codes "math")).0 t)) ∙ e)))
-      | inr f ↦ f
-    ]
+plain_is_no_math name e = not_named (codes "math") name math_is_not_plain e
 
 change_cases : (d : Option Display) (c : DisplayChangeView) → change_by_display d ≡ Some c →
     (c ≡ set_to (codes "block")) ⊎ ((c ≡ removed) × ((shows_border d ≡ true) ⊎ (is_away d ≡ true)))
@@ -180,8 +180,8 @@ change_cases _ c e = cc
 style_border : (name : List ℕ) (attrs : List TextPair) (c : MadeCss) →
     first attrs (codes "style") ≡ made_style (with_block c) → has_border name attrs ≡ true
 unfolding has_border with_block
-style_border name attrs plain e = rw e (or_right (shows_border (default_display name)) true refl)
-style_border name attrs c e = rw e (or_right (shows_border (default_display name)) true refl)
+style_border name attrs plain e = rw e (or_right _ _ refl)
+style_border name attrs c e = rw e (or_right _ _ refl)
 
 name_border : (name : List ℕ) (attrs : List TextPair) → shows_border (default_display name) ≡ true →
     has_border name attrs ≡ true
@@ -203,8 +203,7 @@ css_border h c css e = rw e refl
 
 pub name_is_border : (h : Head) → shows_border (default_display h.name) ≡ true → is_border_element h ≡ true
 unfolding is_border_element
-name_is_border h e = or_right (makes_block h.css) (is_whitespace_collapsing h.name)
-    (or_right (is_line_break h.name) (shows_border (default_display h.name)) e)
+name_is_border h e = or_right _ _ (or_right _ _ e)
 
 -- the element with its new css
 pub record StandsForBlock (h : Head) (css : List TextPair) : Type 0 where

@@ -1,14 +1,14 @@
 -- Each element that items of plain flow become is made as conversion makes elements.
-use Rattle.std.proofs.{Common.{◌≡◌, ℕ, true, false, not, [], refl, codes}, lemmas.Bool.{false≢true, and_parts}}
+use Rattle.std.proofs.{Common.{◌≡◌, ℕ, true, false, [], refl, codes}, lemmas.Bool.{false≢true, and_parts}}
 use Rattle.html_names_core.specs.{Displays.{default_display}, Kinds.{is_replaced, shows_border}, Names.{stands_in}}
 use Rattle.html_dom_tree.specs.Tree.{NodesView}
-use Rattle.html_flow_convert.specs.{Converted.{RoleText, body_whitespace, body_nodes, converted_nodes}, Items.{ItemsView, BodyView}}
+use Rattle.html_flow_convert.specs.{Converted.{RoleText, body_nodes, converted_nodes}, Items.{ItemsView, BodyView}}
 use Rattle.html_flow_convert.specs.{LoneNode.{block_head}, Nodes.{made_head, pre_wrap_head}}
 use Rattle.html_flow_convert.specs.declared.convert.{ConversionLevel.{ConversionLevel}, Whitespace.{Whitespace}}
 use Rattle.typst_html_spaces.proofs.DeepNodes.{Known, HoldsOfItems, of_body, of_converted, HoldsOnTheWay, of_text}
 use Rattle.typst_html_spaces.proofs.MadeHeads.{plain, wrap, MadeHead, stands_for_block}
 use Rattle.typst_html_spaces.{proofs.PlainParts.{plain_head as plain_parts, element_made}, specs.DeepNodes.{Wanted, HoldsOfAll, of_heads}}
-use Rattle.typst_html_spaces.specs.PlainFlow.{is_plain_name, is_plain_head, is_one_break, is_plain_item, are_plain_items, is_plain_body}
+use Rattle.typst_html_spaces.specs.PlainFlow.{is_plain_name, is_plain_item, are_plain_items, is_plain_body}
 
 -- no frame, and each element is made as conversion makes it
 abbrev pub made : Wanted
@@ -60,16 +60,15 @@ unfolding is_plain_item
 made_items = record {
   tag = λ s role t e. tt;
   element = λ s role h body e.
-      let both = and_parts (is_plain_head h) (is_plain_body (body_whitespace s h) body) e in
+      let both = and_parts _ _ e in
       (element_made role h (plain_parts h both.0), both.1);
   space = tt;
   text = λ s role t span e. of_text made made_way (λ u. tt) s t span;
   feed = tt;
   box = λ s role body span e. absurd (false≢true e);
-  block = λ s role body span e.
-      (and_parts (not (is_one_break s body)) (is_plain_body s body) e).1;
+  block = λ s role body span e. (and_parts _ _ e).1;
   frame = λ s role f e. false≢true e;
-  first = λ s role i own items e. and_parts (is_plain_item s i) (are_plain_items s items) e;
+  first = λ s role i own items e. and_parts _ _ e;
   inside = λ s role items e. e;
 }
 

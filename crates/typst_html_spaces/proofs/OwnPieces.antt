@@ -1,11 +1,10 @@
 -- What is seen of nodes whose atoms all stay. Neither runs of blanks nor protected spaces change it.
 use Rattle.std.proofs.Common.{◌≡◌, ℕ, Bool, true, false, ◌||◌, cond, List, [], ◌∷◌, ◌++◌, map, inl, inr, refl, ap, ◌∙◌, sym, append_assoc, append-nil}
-use Rattle.std.proofs.lemmas.{Bool.{cases_Bool}, List.{map-append}}
+use Rattle.std.proofs.{lemmas.Bool.{cases_Bool}, lemmas.List.{map-append}}
 use Rattle.html_names_core.specs.{Characters.{is_blank, is_ignorable}, Displays.{default_display}, Kinds.{is_replaced, is_line_break}}
 use Rattle.html_names_core.specs.Names.{stands_in}
 use Rattle.html_dom_tree.specs.Styled.{styled_attrs, styled_node, styled_nodes}
-use Rattle.html_dom_tree.specs.Tree.{Head, NodeView, tag_node, text_node, element_node, frame_node, NodesView, none, node, TextPair}
-use Rattle.html_dom_tree.specs.Views.{nodes_of}
+use Rattle.html_dom_tree.specs.{Tree.{Head, NodeView, text_node, element_node, NodesView, none, node, TextPair}, Views.{nodes_of}}
 use Rattle.html_dom_shown.proofs.NodeAtoms.{node_atoms, nodes_atoms}
 use Rattle.html_dom_shown.specs.Collapsing.{Atom, visible, ignorable, collapsible, kept, border, object, Piece, char, thing, line, edge, char_atom, text_atoms, preserves, has_border, bordered_atoms, element_atoms}
 use Rattle.html_flow_convert.specs.Nodes.{pre_wrap_head}
@@ -26,11 +25,10 @@ head_pieces name attrs inside =
 
 abbrev mutual
   pub node_pieces : NodeView → List Piece
-  node_pieces (tag_node t) = []
   node_pieces (text_node s span) = map char s
   node_pieces (element_node h ns) =
       head_pieces h.name (styled_attrs h.css h.attrs) (nodes_pieces ns)
-  node_pieces (frame_node f) = []
+  node_pieces n = []
 
   pub nodes_pieces : NodesView → List Piece
   nodes_pieces none = []

@@ -1,11 +1,10 @@
 -- Nodes of plain flow can be read back.
-use Rattle.std.proofs.{Common.{◌≡◌, ℕ, true, false, List, codes, bytes_eq, refl, ap, ◌∙◌}, lemmas.Bool.{both_ways, false_from_ne_true}}
-use Rattle.html_names_core.proofs.Basics.{bytes_eq-same}
+use Rattle.std.proofs.Common.{◌≡◌, true, false, codes, refl}
 use Rattle.html_names_core.specs.{Displays.{default_display}, Kinds.{is_replaced, is_raw}, Names.{stands_in}}
 use Rattle.html_dom_tree.specs.{Styled.{styled_nodes}, Tree.{NodesView}}
 use Rattle.html_flow_convert.specs.{Converted.{converted_nodes}, declared.convert.ConversionLevel.TheVariants.{Block}}
 use Rattle.html_flow_convert.specs.declared.convert.Whitespace.TheVariants.{Normal}
-use Rattle.typst_html_spaces.proofs.{Changed.{weaker}, EdgedNodes.{converted_are_edged}, MadeHeads.{MadeHead}, MadeNodes.{items_made}}
+use Rattle.typst_html_spaces.proofs.{Changed.{weaker}, EdgedNodes.{converted_are_edged}, MadeHeads.{MadeHead, not_named}, MadeNodes.{items_made}}
 use Rattle.typst_html_spaces.proofs.{ReadableNodes.{readable_can_be_read, styled_readable}, ReadyElements.{plain_is_not_raw}}
 use Rattle.typst_html_spaces.specs.PlainFlow.{is_plain_name}
 use Rattle.typst_html_spaces.specs.PlainNodes.{ArePlainNodes, PlainFlowMakesPlainNodes, PlainNodesCanBeRead, PlainNamesAreInside}
@@ -19,12 +18,6 @@ makes_plain_nodes role items e = (
 )
 
 -- names
-
-not_named : (own name : List ℕ) → is_plain_name own ≡ false → is_plain_name name ≡ true →
-    bytes_eq name own ≡ false
-not_named own name f e =
-    false_from_ne_true (bytes_eq name own) (λ t.
-    both_ways (is_plain_name name) (ap is_plain_name (bytes_eq-same name own t) ∙ f) e)
 
 html_not_plain : is_plain_name (codes "html") ≡ false
 unfolding is_plain_name is_replaced default_display stands_in

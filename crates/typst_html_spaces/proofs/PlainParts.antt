@@ -1,13 +1,12 @@
 -- What holds of an element in plain flow.
-use Rattle.std.proofs.{Common.{◌≡◌, ℕ, true, false, not, ◌&&◌, List, [], ◌∷◌, Some, None, inl, inr, refl, codes}, Math.Bool.{or-false}}
+use Rattle.std.proofs.{Common.{◌≡◌, ℕ, true, false, List, [], ◌∷◌, Some, None, inl, inr, refl, codes}, Math.Bool.{or-false}}
 use Rattle.std.proofs.lemmas.Bool.{cases_Bool, false≢true, and_parts, not-true}
-use Rattle.html_names_core.proofs.Basics.{none_from_not_some}
-use Rattle.html_names_core.specs.{Displays.{default_display}, Kinds.{is_replaced, replaced_names, is_line_break, shows_border}}
-use Rattle.html_names_core.specs.{Names.{stands_in}, Texts.{TextPair}}
-use Rattle.html_dom_tree.{proofs.Folds.{first-append}, specs.Attributes.{first, has_name}}
+use Rattle.html_names_core.{proofs.Basics.{none_from_not_some}, specs.Displays.{default_display}}
+use Rattle.html_names_core.specs.{Kinds.{is_replaced, replaced_names, is_line_break, shows_border}, Names.{stands_in}, Texts.{TextPair}}
+use Rattle.html_dom_tree.{proofs.Folds.{first-append}, specs.Attributes.{first}}
 use Rattle.html_dom_shown.specs.Collapsing.{has_border}
 use Rattle.html_flow_convert.specs.{Converted.{RoleText, passes_role, role_pairs, element_head}, Items.{ElemHead}}
-use Rattle.typst_html_spaces.{proofs.MadeHeads.{plain, MadeHead, listed_pass}, specs.PlainFlow.{is_plain_name, has_no_css, is_plain_head}}
+use Rattle.typst_html_spaces.{proofs.MadeHeads.{plain, MadeHead, listed_fail}, specs.PlainFlow.{is_plain_name, has_no_css, is_plain_head}}
 
 no_css : (css : List TextPair) → has_no_css css ≡ true → css ≡ []
 no_css [] e = refl
@@ -21,14 +20,12 @@ pub record PlainHead (h : ElemHead) : Type 0 where
 
 pub plain_head : (h : ElemHead) → is_plain_head h ≡ true → PlainHead h
 plain_head h e =
-    let both = and_parts (is_plain_name h.name && has_no_css h.css)
-    (not (has_name h.attrs (codes "style"))) e in
-    let front = and_parts (is_plain_name h.name) (has_no_css h.css) both.0 in
+    let both = and_parts _ _ e in
+    let front = and_parts _ _ both.0 in
     record {
       named = front.0;
       no_css = no_css h.css front.1;
-      no_style = none_from_not_some (first h.attrs (codes "style"))
-          (not-true (has_name h.attrs (codes "style")) both.1);
+      no_style = none_from_not_some (first h.attrs (codes "style")) (not-true _ both.1);
     }
 
 -- with a role it is made as plain flow makes it
@@ -65,11 +62,8 @@ pub replaced_no_border : (name : List ℕ) → is_replaced name ≡ true →
     shows_border (default_display name) ≡ false
 unfolding is_replaced default_display stands_in
 replaced_no_border name e =
-    not-true (shows_border (default_display name))
-    (listed_pass (λ n. not (shows_border (default_display n))) replaced_names name refl e)
+    listed_fail (λ n. shows_border (default_display n)) replaced_names name refl e
 
 pub replaced_no_break : (name : List ℕ) → is_replaced name ≡ true → is_line_break name ≡ false
 unfolding is_replaced stands_in
-replaced_no_break name e =
-    not-true (is_line_break name)
-    (listed_pass (λ n. not (is_line_break n)) replaced_names name refl e)
+replaced_no_break name e = listed_fail is_line_break replaced_names name refl e

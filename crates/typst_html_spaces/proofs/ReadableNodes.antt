@@ -3,7 +3,7 @@ use Rattle.std.proofs.{Common.{◌≡◌, ℕ, Bool, true, false, ◌&&◌, cond
 use Rattle.std.specs.Prelude.{◌↔◌}
 use Rattle.html_names_core.specs.{Kinds.{is_raw}, Names.{stands_in}}
 use Rattle.html_dom_tree.specs.{FrameFree.{NodeIsFrameFree, NodesAreFrameFree}, Styled.{styled_nodes}}
-use Rattle.html_dom_tree.specs.Tree.{Head, tag_node, text_node, element_node, frame_node, NodesView, none, node}
+use Rattle.html_dom_tree.specs.Tree.{Head, element_node, frame_node, NodesView, none, node}
 use Rattle.html_dom_shown.specs.Bodies.{body_children}
 use Rattle.typst_html_encode.specs.{Indented.{NodeEndsWell, NodesEndWell}, Layout.{is_pretty_inside}}
 use Rattle.typst_html_spaces.proofs.{Anchored.{heads_anchored}, Changed.{holds_then, heads_styled}}
@@ -19,23 +19,20 @@ read_back : (ns : NodesView) (p : Bool) → HoldsOfAll readable p ns →
     NodesAreFrameFree ns × ((pretty : Bool) → NodesEndWell pretty ns)
 unfolding NodeIsFrameFree NodeEndsWell
 read_back none p r = (tt, λ pretty. tt)
-read_back (node (tag_node t) ns) p r =
-    let more = read_back ns p r.1 in ((tt, more.0), λ pretty. (tt, more.1 pretty))
-read_back (node (text_node s span) ns) p r =
-    let more = read_back ns p r.1 in ((tt, more.0), λ pretty. (tt, more.1 pretty))
 read_back (node (element_node h kids) ns) p r =
     let inside = read_back kids h.pre_span r.0.1 in
     let more = read_back ns p r.1 in (
       (inside.0, more.0),
       λ pretty. (
         (
-          λ e. absurd (both_ways (is_raw h.name) r.0.0 e),
+          λ e. absurd (both_ways _ r.0.0 e),
           inside.1 (pretty && is_pretty_inside h kids),
         ),
         more.1 pretty,
       ),
     )
 read_back (node (frame_node f) ns) p r = absurd r.0
+read_back (node n ns) p r = let more = read_back ns p r.1 in ((tt, more.0), λ pretty. (tt, more.1 pretty))
 
 pub readable_can_be_read : ReadableNodesCanBeRead
 readable_can_be_read ns r = read_back ns false r

@@ -90,8 +90,7 @@ div_atoms span ns = refl
 
 div_ready : (span : ℕ) (ns : NodesView) → Stay ns → Ready (element_node (block_head span) ns)
 div_ready span ns s = border_ready (block_head span) ns (div_border span)
-    (λ b a. rw (div_atoms span ns)
-    (AtomsStay-bordered b a (nodes_atoms false (styled_nodes ns)) s))
+    (λ b a. rw (div_atoms span ns) (AtomsStay-bordered b a (nodes_atoms false (styled_nodes ns)) s))
 
 pub block_ready : (span : ℕ) (ns : NodesView) → AreMade ns → Stay ns →
     Each Ready (block_nodes span ns)

@@ -1,9 +1,9 @@
 -- The walk goes past an element of plain flow.
 use Rattle.std.proofs.Common.{◌≡◌, ℕ, Bool, true, false, not, cond, List, [], ◌∷◌, None, inl, inr, refl, ap, ◌∙◌, sym, codes, bytes_eq}
-use Rattle.std.proofs.{Math.Bool.{or-false}, lemmas.Bool.{cases_Bool, false≢true, or_left, or_right, not-true, false_from_ne_true}}
+use Rattle.std.proofs.{Math.Bool.{or-false}, lemmas.Bool.{cases_Bool, false≢true, or_left, or_right, both_ways, false_from_ne_true}}
 use Rattle.std.specs.List.{list_all}
 use Rattle.html_names_core.{proofs.Basics.{bytes_eq-same}, specs.Characters.{is_blank, is_ignorable}, specs.Displays.{default_display}}
-use Rattle.html_names_core.specs.Kinds.{is_replaced, is_line_break, is_raw, raw_names, is_escapable_raw, escapable_raw_names, is_foreign_self_closing, foreign_self_closing_names, shows_border, is_whitespace_collapsing}
+use Rattle.html_names_core.specs.Kinds.{is_replaced, is_line_break, is_raw, raw_names, is_escapable_raw, escapable_raw_names, is_foreign_self_closing, foreign_self_closing_names, shows_border}
 use Rattle.html_names_core.specs.{Names.{stands_in}, Texts.{TextPair}}
 use Rattle.html_dom_tree.specs.{Attributes.{first}, Styled.{styled_attrs, styled_node, styled_nodes}}
 use Rattle.html_dom_tree.specs.{Tree.{Head, NodeView, text_node, element_node, NodesView, none, node}, Views.{nodes_of}}
@@ -14,7 +14,7 @@ use Rattle.html_flow_convert.specs.Converted.{RoleText, is_preformatted, body_le
 use Rattle.html_flow_convert.specs.{Items.{ElemHead, BodyView, absent, present}, Runs.{nodes_with_runs}}
 use Rattle.html_flow_convert.specs.declared.convert.{ConversionLevel.TheVariants.{Block, Inline}, Whitespace.TheVariants.{Normal}}
 use Rattle.typst_html_spaces.proofs.{AtomContexts.{AtomsStay-append, AtomsStay-bordered}, Each.{Each}}
-use Rattle.typst_html_spaces.proofs.{MadeHeads.{listed_pass, name_is_border}, PlainParts.{PlainHead, element_made, plain_border}}
+use Rattle.typst_html_spaces.proofs.{MadeHeads.{listed_fail, name_is_border}, PlainParts.{PlainHead, element_made, plain_border}}
 use Rattle.typst_html_spaces.proofs.{ReadyBlocks.{Stay}, ReadyNodes.{head_atoms, border_ready, replaced_ready, entered_ready}}
 use Rattle.typst_html_spaces.proofs.Walks.{Ready, protected_stay}
 use Rattle.typst_html_spaces.specs.{AtomContexts.{AtomStays, AtomsStay}, PlainFlow.{is_plain_name, is_plain_body}}
@@ -74,22 +74,20 @@ mutual
 
 -- names
 
-pre_is_border : shows_border (default_display (codes "pre")) ≡ true
+pub pre_is_border : shows_border (default_display (codes "pre")) ≡ true
 unfolding default_display stands_in
 pre_is_border = refl
 
 no_border_no_pre : (name : List ℕ) → shows_border (default_display name) ≡ false →
     bytes_eq name (codes "pre") ≡ false
-no_border_no_pre name e = false_from_ne_true (bytes_eq name (codes "pre")) (λ t. false≢true (sym e
-    ∙ (ap (λ n. shows_border (default_display n)) (bytes_eq-same name (codes "pre") t)
-    ∙ pre_is_border)))
+no_border_no_pre name e = false_from_ne_true _ (λ t. false≢true (sym e
+    ∙ (ap (λ n. shows_border (default_display n)) (bytes_eq-same _ _ t) ∙ pre_is_border)))
 
 -- no name of such a list is plain
 plain_stands_out : (names : List (List ℕ)) → list_all (λ n. not (is_plain_name n)) names ≡ true →
     (name : List ℕ) → is_plain_name name ≡ true → stands_in names name ≡ false
-plain_stands_out names all name p = false_from_ne_true (stands_in names name)
-    (λ e. false≢true (sym (not-true (is_plain_name name)
-    (listed_pass (λ n. not (is_plain_name n)) names name all e)) ∙ p))
+plain_stands_out names all name p = false_from_ne_true _
+    (λ e. both_ways _ (listed_fail is_plain_name names name all e) p)
 
 pub plain_is_not_raw : (name : List ℕ) → is_plain_name name ≡ true → is_raw name ≡ false
 unfolding is_raw is_plain_name is_replaced default_display stands_in
@@ -105,8 +103,8 @@ pub plain_is_not_foreign : (name : List ℕ) → is_plain_name name ≡ true →
 unfolding is_foreign_self_closing is_plain_name is_replaced default_display stands_in
 plain_is_not_foreign = plain_stands_out foreign_self_closing_names refl
 
-plain_not_raw : (name : List ℕ) → is_plain_name name ≡ true →
-    bytes_eq name (codes "pre") ≡ false → is_preformatted name ≡ false
+plain_not_raw : (name : List ℕ) → is_plain_name name ≡ true → bytes_eq name (codes "pre") ≡ false →
+    is_preformatted name ≡ false
 plain_not_raw name p e = rw (e, plain_is_not_raw name p, plain_is_not_escapable name p) refl
 
 collapses_inside : (h : ElemHead) → is_plain_name h.name ≡ true →
@@ -192,8 +190,7 @@ module _ (role : RoleText) (h : ElemHead) (body : BodyView) (p : PlainHead h)
 
   break_is_border : is_line_break h.name ≡ true → is_border_element own ≡ true
   unfolding is_border_element
-  break_is_border e = or_right (makes_block own.css) (is_whitespace_collapsing h.name)
-      (or_left (is_line_break h.name) (shows_border (default_display h.name)) e)
+  break_is_border e = or_right _ _ (or_left _ _ e)
 
   line_ready : is_line_break h.name ≡ true → Ready (element_node own kids)
   line_ready e = border_ready own kids (break_is_border e)
@@ -201,44 +198,38 @@ module _ (role : RoleText) (h : ElemHead) (body : BodyView) (p : PlainHead h)
 
   -- an element in a line
 
-  no_border : shows_border (default_display h.name) ≡ false → is_line_break h.name ≡ false →
-      is_border_element own ≡ false
-  unfolding is_border_element
-  no_border e f = rw (no_block, f, e) refl
+  module _ (e : shows_border (default_display h.name) ≡ false) (f : is_line_break h.name ≡ false) where
+    no_border : is_border_element own ≡ false
+    unfolding is_border_element
+    no_border = rw (no_block, f, e) refl
 
-  core_atoms : shows_border (default_display h.name) ≡ false → is_line_break h.name ≡ false →
-      (ns : NodesView) → head_atoms own ns ≡ cond (is_replaced h.name) (object h.name ∷ [])
-      (nodes_atoms (preserves h.name attrs) (styled_nodes ns))
-  core_atoms e f ns =
-      own_atoms ns ∙ rw (f, plain_border h.name attrs no_style ∙ e) refl
+    core_atoms : (ns : NodesView) → head_atoms own ns ≡ cond (is_replaced h.name) (object h.name ∷ [])
+        (nodes_atoms (preserves h.name attrs) (styled_nodes ns))
+    core_atoms ns = own_atoms ns ∙ rw (f, plain_border h.name attrs no_style ∙ e) refl
 
-  object_ready : shows_border (default_display h.name) ≡ false → is_line_break h.name ≡ false →
-      is_replaced h.name ≡ true → Ready (element_node own kids)
-  object_ready e f g = replaced_ready own kids (no_border e f) g (core_atoms e f kids ∙ rw g refl)
+    object_ready : is_replaced h.name ≡ true → Ready (element_node own kids)
+    object_ready g = replaced_ready own kids no_border g (core_atoms kids ∙ rw g refl)
 
-  is_open : shows_border (default_display h.name) ≡ false → is_line_break h.name ≡ false →
-      is_replaced h.name ≡ false → is_entered own ≡ true
-  unfolding is_entered
-  is_open e f g = rw (no_border e f, g) refl
+    is_open : is_replaced h.name ≡ false → is_entered own ≡ true
+    unfolding is_entered
+    is_open g = rw (no_border, g) refl
 
-  open_atoms : shows_border (default_display h.name) ≡ false → is_line_break h.name ≡ false →
-      is_replaced h.name ≡ false → (ns : NodesView) →
-      head_atoms own ns ≡ nodes_atoms false (styled_nodes ns)
-  open_atoms e f g ns =
-      let flows : preserves h.name attrs ≡ false =
-      preserves_by_name h.name attrs no_style ∙ no_border_no_pre h.name e in
-      core_atoms e f ns ∙ rw (g, flows) refl
+    open_atoms : is_replaced h.name ≡ false → (ns : NodesView) →
+        head_atoms own ns ≡ nodes_atoms false (styled_nodes ns)
+    open_atoms g ns =
+        let flows : preserves h.name attrs ≡ false =
+        preserves_by_name h.name attrs no_style ∙ no_border_no_pre h.name e in
+        core_atoms ns ∙ rw (g, flows) refl
 
-  is_inline_level : shows_border (default_display h.name) ≡ false → body_level h ≡ Inline
-  is_inline_level e = rw (e, p.no_css) refl
+    is_inline_level : body_level h ≡ Inline
+    is_inline_level = rw (e, p.no_css) refl
 
-  open_ready : shows_border (default_display h.name) ≡ false → is_line_break h.name ≡ false →
-      is_replaced h.name ≡ false → Ready (element_node own kids)
-  open_ready e f g =
-      let normal = collapses_inside h p.named (no_border_no_pre h.name e) in
-      rw (is_inline_level e, normal, inline_body (body_role role h) body)
-      (entered_ready own (body_runs (body_role role h) body) (is_open e f g) (open_atoms e f g)
-      (body_ready normal))
+    open_ready : is_replaced h.name ≡ false → Ready (element_node own kids)
+    open_ready g =
+        let normal = collapses_inside h p.named (no_border_no_pre h.name e) in
+        rw (is_inline_level, normal, inline_body (body_role role h) body)
+        (entered_ready own (body_runs (body_role role h) body) (is_open g) (open_atoms g)
+        (body_ready normal))
 
   pub element_ready : Ready (element_node own kids)
   element_ready = elim (cases_Bool (shows_border (default_display h.name))) [

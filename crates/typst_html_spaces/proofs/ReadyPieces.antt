@@ -1,5 +1,5 @@
 -- The nodes of a text past which the walk goes, lone tabs aside.
-use Rattle.std.proofs.Common.{◌≡◌, ℕ, true, false, not, ◌&&◌, ◌||◌, ◌==◌, List, [], ◌∷◌, Option, None, Some, inl, inr, ◌⊎◌, refl, ap, ◌∙◌, sym, arith}
+use Rattle.std.proofs.Common.{◌≡◌, ℕ, true, false, not, ◌&&◌, ◌==◌, List, [], ◌∷◌, Option, None, Some, inl, inr, ◌⊎◌, refl, ap, ◌∙◌, sym, arith}
 use Rattle.std.proofs.lemmas.{Bool.{cases_Bool, false≢true, and_parts, or_parts, eqb-true, not-false}, Bool.Decides.{nat_tests}}
 use Rattle.html_names_core.specs.Characters.{is_blank, is_ignorable}
 use Rattle.html_dom_tree.specs.Tree.{NodeView, text_node}
@@ -111,25 +111,19 @@ normal_before c ps h r = (stretch_one c h, r)
 space_before : (before : Option ℕ) (c : ℕ) (ps : List PieceView) → (c == 32) ≡ true →
     is_normal_there before ≡ true → BeginInStretch ps → FollowPieces before (in_stretch c ps)
 space_before before c (stretch s ∷ ps) e h r =
-    (inr (s, h, ap (λ d. d ∷ s) (eqb-true c 32 e), r.0), r.1)
+    (inr (s, h, ap (λ d. d ∷ s) (eqb-true _ _ e), r.0), r.1)
 space_before before c ps e h r = absurd r
 
 -- a character outside of stretches
 
-no_blank : (c : ℕ) → (c == 32) ≡ false → (c == 9) ≡ false → (c == 10) ≡ false →
-    (c == 13) ≡ false → is_blank c ≡ false
-no_blank c a b d e = rw (a, b, d, e) refl
-
-ignored : (c : ℕ) → is_normal c ≡ false → is_blank c ≡ false → is_ignorable c ≡ true
-ignored c n b =
-    not-false (is_ignorable c) (sym (ap (λ x. not x && not (is_ignorable c)) b) ∙ n)
-
 lone_char : (c : ℕ) → is_normal c ≡ false → (c == 13) ≡ false → (c == 10) ≡ false → IsLone c
 lone_char c n e f = elim (cases_Bool (c == 32)) [
-  | inl h ↦ inr (inl (eqb-true c 32 h))
+  | inl h ↦ inr (inl (eqb-true _ _ h))
   | inr h ↦ elim (cases_Bool (c == 9)) [
-    | inl k ↦ inl (eqb-true c 9 k)
-    | inr k ↦ let b = no_blank c h k f e in inr (inr (b, ignored c n b))
+    | inl k ↦ inl (eqb-true _ _ k)
+    | inr k ↦
+        let b : is_blank c ≡ false = rw (h, k, f, e) refl in
+        inr (inr (b, not-false _ (sym (ap (λ x. not x && not (is_ignorable c)) b) ∙ n)))
   ]
 ]
 
@@ -138,44 +132,32 @@ abbrev Stands : (before : Option ℕ) → List ℕ → Type 0
 Stands before cs = FollowPieces before (pieces_after before cs)
     × (is_normal_there (first_char cs) ≡ true → BeginInStretch (pieces_after before cs))
 
-inside_step : (before : Option ℕ) (c : ℕ) (cs : List ℕ) → is_in_stretch before c cs ≡ true →
-    pieces_after before (c ∷ cs) ≡ in_stretch c (pieces_after (Some c) cs)
+normal_step : (before : Option ℕ) (c : ℕ) (cs : List ℕ) → is_normal c ≡ true → Stands (Some c) cs →
+    Stands before (c ∷ cs)
 unfolding pieces_after
-inside_step before c cs e = rw e refl
-
-outside_step : (before : Option ℕ) (c : ℕ) (cs : List ℕ) → is_in_stretch before c cs ≡ false →
-    pieces_after before (c ∷ cs) ≡ outside_stretch before c (pieces_after (Some c) cs)
-unfolding pieces_after
-outside_step before c cs e = rw e refl
-
-normal_step : (before : Option ℕ) (c : ℕ) (cs : List ℕ) → is_normal c ≡ true →
-    Stands (Some c) cs → Stands before (c ∷ cs)
 normal_step before c cs n r =
     let e : is_in_stretch before c cs ≡ true = rw n refl in
     let begins : BeginInStretch (pieces_after before (c ∷ cs)) =
-    rw (inside_step before c cs e) (normal_before c (pieces_after (Some c) cs) n r.0) in
+    rw e (normal_before c (pieces_after (Some c) cs) n r.0) in
     (follow_in_stretch before (pieces_after before (c ∷ cs)) begins, λ h. begins)
 
 space_step : (before : Option ℕ) (c : ℕ) (cs : List ℕ) → is_in_stretch before c cs ≡ true →
     is_normal c ≡ false → Stands (Some c) cs → Stands before (c ∷ cs)
+unfolding pieces_after
 space_step before c cs e n r =
-    let sides : ((c == 32) && is_normal_there before && is_normal_there (first_char cs)) ≡ true =
-    sym (ap (λ b. b || ((c == 32) && is_normal_there before && is_normal_there (first_char cs))) n)
-    ∙ e in
-    let two = and_parts ((c == 32) && is_normal_there before) (is_normal_there (first_char cs)) sides in
-    let one = and_parts (c == 32) (is_normal_there before) two.0 in (
-      rw (inside_step before c cs e)
-          (space_before before c (pieces_after (Some c) cs) one.0 one.1 (r.1 two.1)),
+    let two = and_parts _ _ (rw n at e) in
+    let one = and_parts _ _ two.0 in (
+      rw e (space_before before c (pieces_after (Some c) cs) one.0 one.1 (r.1 two.1)),
       λ h. absurd (false≢true (sym n ∙ h)),
     )
 
 other_step : (before : Option ℕ) (c : ℕ) (cs : List ℕ) → is_in_stretch before c cs ≡ false →
     Stands (Some c) cs → Stands before (c ∷ cs)
+unfolding pieces_after
 other_step before c cs e r =
-    let n : is_normal c ≡ false = (or_parts (is_normal c)
-    ((c == 32) && is_normal_there before && is_normal_there (first_char cs)) e).0 in
+    let n : is_normal c ≡ false = (or_parts _ _ e).0 in
     let others = pieces_after (Some c) cs in (
-      rw (outside_step before c cs e) (follow before (outside_stretch before c others)
+      rw e (follow before (outside_stretch before c others)
           (each_outside IsPiece before c others tt (lone_char c n) (all_pieces (Some c) others n r.0))),
       λ h. absurd (false≢true (sym n ∙ h)),
     )

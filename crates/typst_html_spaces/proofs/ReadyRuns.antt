@@ -3,15 +3,14 @@ use Rattle.std.proofs.{Common.{◌≡◌, ℕ, true, false, ◌||◌, List, [], 
 use Rattle.std.{proofs.lemmas.Bool.{cases_Bool, false≢true, or_parts, or_cases, eqb-true}, specs.List.{filter}}
 use Rattle.html_dom_tree.specs.{Styled.{styled_nodes}, Tree.{NodeView, tag_node, text_node, is_tag}, Views.{nodes_of}}
 use Rattle.html_dom_shown.{proofs.NodeAtoms.{nodes_atoms}, specs.Collapsing.{Atom, kept, text_atoms}}
-use Rattle.html_flow_convert.specs.Nodes.{is_one}
-use Rattle.html_flow_convert.specs.Runs.{is_space, is_tab, is_blank_node, first_node_span, are_kept, run_nodes, nodes_with_runs}
+use Rattle.html_flow_convert.specs.{Nodes.{is_one}, Runs.{is_tab, is_blank_node, first_node_span, are_kept, run_nodes, nodes_with_runs}}
 use Rattle.typst_html_spaces.proofs.{Each.{Each}, EachRun.{IsInRun, of_each_run}, ReadyNodes.{tag_ready, wrap_ready}}
 use Rattle.typst_html_spaces.proofs.{ReadyPieces.{AlmostReady}, Walks.{Unseen, Ready, nothing_unseen}}
 
 -- single characters
 
 pub one_char : (d : ℕ) (s : List ℕ) → is_one d s ≡ true → s ≡ d ∷ []
-one_char d (c ∷ []) e = ap (λ x. x ∷ []) (eqb-true c d e)
+one_char d (c ∷ []) e = ap (λ x. x ∷ []) (eqb-true _ _ e)
 one_char d s e = absurd (false≢true e)
 
 -- a run in a `span`
@@ -22,7 +21,7 @@ kept_before c xs u =
 
 blank_unseen : (s : List ℕ) (xs : List Atom) → (is_one 32 s || is_one 9 s) ≡ true → Unseen xs →
     Unseen (text_atoms true s ++ xs)
-blank_unseen s xs e u = elim (or_cases (is_one 32 s) (is_one 9 s) e) [
+blank_unseen s xs e u = elim (or_cases _ _ e) [
   | inl f ↦ rw (one_char 32 s f) (kept_before 32 xs u)
   | inr f ↦ rw (one_char 9 s f) (kept_before 9 xs u)
 ]
@@ -56,7 +55,7 @@ few_ready (n ∷ ns) r e = elim (cases_Bool (is_blank_node n)) [
       let left = no_more n (filter is_blank_node ns) f in
       (no_tab n left.0 r.0, few_ready ns r.1 left.1)
   | inr b ↦ let f : are_kept (filter is_blank_node ns) ≡ false = rw b at e in
-      (no_tab n (or_parts (is_space n) (is_tab n) b).1 r.0, few_ready ns r.1 f)
+      (no_tab n (or_parts _ _ b).1 r.0, few_ready ns r.1 f)
 ]
 
 run_ready : (ns : List NodeView) → Each IsInRun ns → Each AlmostReady ns → Each Ready (run_nodes ns)
@@ -71,7 +70,7 @@ tag_is_ready n e = absurd (false≢true e)
 
 other_is_ready : (n : NodeView) → (is_blank_node n || is_tag n) ≡ false → AlmostReady n → Ready n
 other_is_ready n e =
-    no_tab n (or_parts (is_space n) (is_tab n) (or_parts (is_blank_node n) (is_tag n) e).0).1
+    no_tab n (or_parts _ _ (or_parts _ _ e).0).1
 
 pub runs_ready : (ns : List NodeView) → Each AlmostReady ns → Each Ready (nodes_with_runs ns)
 runs_ready = of_each_run AlmostReady Ready run_ready (λ n e r. tag_is_ready n e) other_is_ready

@@ -23,8 +23,7 @@ module _ {M : Type 0} (total : List NodeView → M) (add : M → M → M)
 
   before_rest : (xs ys : List NodeView) → total (front_nodes xs ++ ys) ≡ total (xs ++ ys)
   before_rest xs ys =
-      append (front_nodes xs) ys
-      ∙ (ap (λ t. add t (total ys)) (fronted xs) ∙ sym (append xs ys))
+      append (front_nodes xs) ys ∙ (ap (λ t. add t (total ys)) (fronted xs) ∙ sym (append xs ys))
 
   split : (ns : List NodeView) → total (blank_front ns ++ after_front ns) ≡ total ns
   unfolding blank_front after_front

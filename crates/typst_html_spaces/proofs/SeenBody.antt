@@ -3,9 +3,8 @@ use Rattle.std.proofs.Common.{◌≡◌, Bool, true, false, Some, ap, ◌∙◌}
 use Rattle.html_names_core.specs.Kinds.{is_raw}
 use Rattle.html_dom_tree.specs.{PlainTree.{nodes_normal, element_normal}, Styled.{styled_nodes}, Tree.{NodesView, ElementView}}
 use Rattle.html_dom_shown.specs.{Bodies.{body_children}, SeenBodies.{seen_plains, seen_body, seen_tree}}
-use Rattle.typst_html_encode.proofs.{IndentsCollapse.{body_collapses, body_normal}, ReadingBack.{reads_back}}
-use Rattle.typst_html_encode.specs.{FrameWriters.{Frames}, Indented.{element_layout}, IndentsCollapse.{NodesAreEdged}}
-use Rattle.typst_html_encode.specs.Text.{document_text, plain_options, pretty_options}
+use Rattle.typst_html_encode.{proofs.{IndentsCollapse.{body_collapses, body_normal}, ReadingBack.{reads_back}}, specs.FrameWriters.{Frames}}
+use Rattle.typst_html_encode.specs.{Indented.{element_layout}, IndentsCollapse.{NodesAreEdged}, Text.{document_text}}
 use Rattle.html_flow_convert.specs.{Converted.{converted_nodes}, declared.convert.ConversionLevel.TheVariants.{Block}}
 use Rattle.html_flow_convert.specs.declared.convert.Whitespace.TheVariants.{Normal}
 use Rattle.typst_html_spaces.proofs.{EdgedNodes.{converted_are_edged}, SpacesStay.{spaces_stay}}
@@ -27,22 +26,14 @@ module _ (e : ElementView) (body : NodesView) (is : body_children e.1 ≡ Some b
 
 module _ (frames : Frames) (e : ElementView) (body : NodesView) (is : body_children e.1 ≡ Some body)
     (edged : NodesAreEdged body) where
-  plain_seen : CanBeRead frames plain_options e →
-      seen_text (document_text frames plain_options e) ≡ Some (seen_plains (nodes_normal body))
-  plain_seen c =
-      ap seen_tree ((reads_back frames).0 e c.named c.frame_free c.clean) ∙ plain_tree_seen e body is
-
-  pretty_seen : CanBeRead frames pretty_options e →
-      seen_text (document_text frames pretty_options e) ≡ Some (seen_plains (nodes_normal body))
-  pretty_seen c =
-      ap seen_tree ((reads_back frames).1 e c.named c.frame_free c.ends_well c.clean)
-      ∙ pretty_tree_seen e body is c.not_raw edged
-
   seen_by : (pretty : Bool) → CanBeRead frames (record { pretty = pretty }) e →
       seen_text (document_text frames (record { pretty = pretty }) e)
       ≡ Some (seen_plains (nodes_normal body))
-  seen_by false c = plain_seen c
-  seen_by true c = pretty_seen c
+  seen_by false c =
+      ap seen_tree ((reads_back frames).0 e c.named c.frame_free c.clean) ∙ plain_tree_seen e body is
+  seen_by true c =
+      ap seen_tree ((reads_back frames).1 e c.named c.frame_free c.ends_well c.clean)
+      ∙ pretty_tree_seen e body is c.not_raw edged
 
 pub body_is_seen : BodyIsSeen
 body_is_seen frames options e body c is edged = seen_by frames e body is edged options.pretty c

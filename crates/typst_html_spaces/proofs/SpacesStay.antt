@@ -25,5 +25,4 @@ spaces_stay role items e =
 pub pretty_spaces_stay : PrettySpacesStay
 pretty_spaces_stay role items level h e r =
     content_collapses level h (styled_nodes (converted_nodes Block Normal role items)) r
-    (converted_are_edged role items e)
-    ∙ spaces_stay role items e
+    (converted_are_edged role items e) ∙ spaces_stay role items e

@@ -1,11 +1,11 @@
 -- The pieces of a text, and what is done to a list of nodes, don't change what is seen.
-use Rattle.std.proofs.Common.{◌≡◌, ℕ, true, false, not, ◌&&◌, ◌==◌, List, [], ◌∷◌, ◌++◌, map, Option, None, Some, inl, inr, refl, ap, ◌∙◌, arith, append-nil}
+use Rattle.std.proofs.Common.{◌≡◌, ℕ, true, false, ◌==◌, List, [], ◌∷◌, ◌++◌, map, Option, None, Some, inl, inr, refl, ap, ◌∙◌, arith, append-nil}
 use Rattle.std.proofs.lemmas.{Bool.{cases_Bool, and_parts, or_cases, not-true}, Bool.Decides.{nat_tests}}
 use Rattle.html_names_core.specs.{Characters.{is_blank, is_ignorable}, Names.{stands_in}}
 use Rattle.html_dom_tree.specs.{Tree.{NodeView}, Views.{nodes_of}}
 use Rattle.html_dom_shown.specs.Collapsing.{Piece, char, line}
 use Rattle.html_flow_convert.specs.{BareSpaces.{bare_spaces}, Converted.{list_nodes, text_item_nodes, break_item_node}, Nodes.{break_node}}
-use Rattle.html_flow_convert.specs.Pieces.{PieceView, stretch, alone, line_break, is_normal, is_normal_there, first_char, is_in_stretch, in_stretch, is_carriage_return, outside_stretch, pieces_after, piece_node}
+use Rattle.html_flow_convert.specs.Pieces.{PieceView, stretch, alone, line_break, is_normal, is_in_stretch, in_stretch, is_carriage_return, outside_stretch, pieces_after, piece_node}
 use Rattle.html_flow_convert.specs.Runs.{nodes_with_runs}
 use Rattle.html_flow_convert.specs.declared.convert.{ConversionLevel.{ConversionLevel}, Whitespace.{Whitespace}}
 use Rattle.html_flow_convert.specs.declared.convert.{ConversionLevel.TheVariants.{Block, Inline}, Whitespace.TheVariants.{Normal, Pre}}
@@ -21,8 +21,8 @@ break_node_pieces span = refl
 
 pub normal_parts : (c : ℕ) → is_normal c ≡ true → (is_blank c ≡ false) × (is_ignorable c ≡ false)
 normal_parts c e =
-    let both = and_parts (not (is_blank c)) (not (is_ignorable c)) e in
-    (not-true (is_blank c) both.0, not-true (is_ignorable c) both.1)
+    let both = and_parts _ _ e in
+    (not-true _ both.0, not-true _ both.1)
 
 no_blank : (c : ℕ) → is_blank c ≡ false → ((c == 13) ≡ false) × ((c == 10) ≡ false)
 no_blank c e = (grind (arith, nat_tests), grind (arith, nat_tests))
@@ -33,13 +33,9 @@ no_return c e = (grind (arith, nat_tests), grind (arith, nat_tests))
 pub in_stretch_no_line : (before : Option ℕ) (c : ℕ) (after : List ℕ) →
     is_in_stretch before c after ≡ true → ((c == 13) ≡ false) × ((c == 10) ≡ false)
 in_stretch_no_line before c after e =
-    elim (or_cases (is_normal c)
-    ((c == 32) && is_normal_there before && is_normal_there (first_char after)) e) [
+    elim (or_cases _ _ e) [
       | inl f ↦ no_blank c (normal_parts c f).0
-      | inr f ↦ no_return c
-          (and_parts (c == 32) (is_normal_there before)
-          (and_parts ((c == 32) && is_normal_there before)
-          (is_normal_there (first_char after)) f).0).0
+      | inr f ↦ no_return c (and_parts _ _ (and_parts _ _ f).0).0
     ]
 
 -- pieces behind a character outside of stretches

@@ -23,32 +23,29 @@ pub record Walks (ts : List Thing) (made : Bool → Bool → List Atom) : Type 0
   pub stay : (p n b a : Bool) → (n ≡ true → a ≡ true) →
       (p ≡ true → visible_at ts n ≡ false → b ≡ true) → AtomsStay b a (made p n)
 
-pub walks_both : (ts us : List Thing) (f g : Bool → Bool → List Atom) → Walks ts f → Walks us g →
+pub walks_both : {ts us : List Thing} {f g : Bool → Bool → List Atom} → Walks ts f → Walks us g →
     Walks (ts ++ us) (λ p n. f p (visible_at us n) ++ g (line_past p ts) n)
-walks_both ts us f g v w =
+walks_both {ts} {us} {f} {g} v w =
     let first : (p n b : Bool) → (p ≡ true → visible_at (ts ++ us) n ≡ false → b ≡ true)
     → line_past p ts ≡ true → visible_at us n ≡ false
     → support_past b (f p (visible_at us n)) ≡ true =
     λ p n b h. v.last p (visible_at us n) b (λ o e. h o (visible_at-append ts us n ∙ e)) in
     record {
-      next = λ p n a h e.
-          support_at-append (f p (visible_at us n)) (g (line_past p ts) n) a
+      next = λ p n a h e. support_at-append (f p (visible_at us n)) (g (line_past p ts) n) a
           ∙ v.next p (visible_at us n) (support_at (g (line_past p ts) n) a)
           (w.next (line_past p ts) n a h) (sym (visible_at-append ts us n) ∙ e);
-      last = λ p n b h e z.
-          support_past-append b (f p (visible_at us n)) (g (line_past p ts) n)
+      last = λ p n b h e z. support_past-append b (f p (visible_at us n)) (g (line_past p ts) n)
           ∙ w.last (line_past p ts) n (support_past b (f p (visible_at us n))) (first p n b h)
           (sym (line_past-append p ts us) ∙ e) z;
-      stay = λ p n b a i h.
-          AtomsStay-append b a (f p (visible_at us n)) (g (line_past p ts) n)
+      stay = λ p n b a i h. AtomsStay-append b a (f p (visible_at us n)) (g (line_past p ts) n)
           (v.stay p (visible_at us n) b (support_at (g (line_past p ts) n) a)
           (w.next (line_past p ts) n a i) (λ o e. h o (visible_at-append ts us n ∙ e)))
           (w.stay (line_past p ts) n (support_past b (f p (visible_at us n))) a i (first p n b h));
     }
 
-pub walks_as : (ts us : List Thing) (f g : Bool → Bool → List Atom) → ts ≡ us →
+pub walks_as : {ts us : List Thing} {f g : Bool → Bool → List Atom} → ts ≡ us →
     ((p n : Bool) → f p n ≡ g p n) → Walks us g → Walks ts f
-walks_as ts us f g t e w = record {
+walks_as t e w = record {
   next = λ p n a h k. rw (e p n) (w.next p n a h (rw t at k));
   last = λ p n b h k z. rw (e p n) (w.last p n b (λ o c. h o (rw t c)) (rw t at k) z);
   stay = λ p n b a i h. rw (e p n) (w.stay p n b a i (λ o c. h o (rw t c)));
@@ -60,8 +57,8 @@ pub record Unseen (xs : List Atom) : Type 0 where
   pub past : support_past true xs ≡ true
   pub stay : (b a : Bool) → AtomsStay b a xs
 
-pub walks_unseen : (xs : List Atom) → Unseen xs → Walks [] (λ p n. xs)
-walks_unseen xs u = record {
+pub walks_unseen : {xs : List Atom} → Unseen xs → Walks [] (λ p n. xs)
+walks_unseen {xs} u = record {
   next = λ p n a h e. ap (support_at xs) (h e) ∙ u.at;
   last = λ p n b h e z. ap (λ c. support_past c xs) (h e z) ∙ u.past;
   stay = λ p n b a i h. u.stay b a;
@@ -73,8 +70,8 @@ pub record Seen (xs : List Atom) : Type 0 where
   pub past : (b : Bool) → support_past b xs ≡ true
   pub stay : (b a : Bool) → AtomsStay b a xs
 
-pub walks_seen : (xs : List Atom) → Seen xs → Walks (visible ∷ []) (λ p n. xs)
-walks_seen xs s = record {
+pub walks_seen : {xs : List Atom} → Seen xs → Walks (visible ∷ []) (λ p n. xs)
+walks_seen s = record {
   next = λ p n a h e. s.at a;
   last = λ p n b h e z. s.past b;
   stay = λ p n b a i h. s.stay b a;
@@ -96,9 +93,9 @@ space_between before after = (if before && after then collapsible 32 else kept 3
 pub walks_space : Walks (space ∷ []) space_between
 walks_space = record {
   next = λ p n a h e. absurd (false≢true e);
-  last = λ p n b h e z. rw (z, and_right p false refl) refl;
+  last = λ p n b h e z. rw (z, and_right _ _ refl) refl;
   stay = λ p n b a i h. elim (cases_Bool (p && n)) [
-    | inl t ↦ let both = and_parts p n t in rw t ((refl, h both.0 refl, i both.1), tt)
+    | inl t ↦ let both = and_parts _ _ t in rw t ((refl, h both.0 refl, i both.1), tt)
     | inr f ↦ rw f (tt, tt)
   ];
 }
@@ -119,10 +116,8 @@ nothing_unseen = record { at = refl; past = refl; stay = λ b a. tt }
 pub walks_nodes : (ms : List NodeView) → Each Ready ms → Walks (nodes_things (nodes_of ms))
     (λ before after. nodes_atoms false (styled_nodes (nodes_between before after (nodes_of ms))))
 unfolding nodes_things styled_nodes
-walks_nodes [] r = walks_unseen [] nothing_unseen
-walks_nodes (m ∷ ms) r = walks_both (node_things m) (nodes_things (nodes_of ms)) (atoms_between m)
-    (λ before after. nodes_atoms false (styled_nodes (nodes_between before after (nodes_of ms))))
-    r.0 (walks_nodes ms r.1)
+walks_nodes [] r = walks_unseen nothing_unseen
+walks_nodes (m ∷ ms) r = walks_both r.0 (walks_nodes ms r.1)
 
 -- a list whose lone spaces are decided
 pub protected_stay : (ms : List NodeView) → Each Ready ms →

@@ -21,9 +21,9 @@ loop-walk-preserved c =
     let later = events_left c.next.new.self in
     let own = event_dead_links hrefs dest e in
     let comes = rw c.in-Some.is at c.in_ok-visit.ensures.comes in
-    ap (λ l. l ++ dead_links_along hrefs (option_map (λ l. l.0) c.visit_dest-dest.result) later)
-    c.in_ok-add_visited.ensures
-    ∙ (ap (λ d. (old ++ own) ++ dead_links_along hrefs d later) c.visit_dest-dest.ensures
+    ap (λ l. l ++ dead_links_along hrefs (option_map (λ l. l.0) c.in_ok-dest.dest) later)
+    c.in_ok-dest.ensures.dead
+    ∙ (ap (λ d. (old ++ own) ++ dead_links_along hrefs d later) c.in_ok-dest.ensures.dest
     ∙ (append_assoc old own (dead_links_along hrefs (event_dest e dest) later)
     ∙ (ap (λ es. old ++ dead_links_along hrefs dest es) (sym comes)
     ∙ c.loop-walk.invariant)))

@@ -1,6 +1,6 @@
-use Rattle.std.proofs.Common.{◌≡◌, ◌+◌, ◌<◌, true, get_or, arith, ap, sym, ◌∙◌, length, drop}
+use Rattle.std.proofs.Common.{◌≡◌, ◌+◌, ◌<◌, true, get_or, arith, ap, sym, ◌∙◌, length}
 use Rattle.std.proofs.lemmas.{Grind.{common_steps}, Str.{IsCharBoundary-start}}
-use Rattle.html_flow_convert.{proofs.Passing.{passes_none, shown_passed, space_passed}, specs.TextStretches.{is_above_space, Passes}}
+use Rattle.html_flow_convert.{proofs.Passing.{passes_none, shown_passed, space_passed}, specs.TextStretches.{is_above_space}}
 use Rattle.html_flow_convert.proofs.pieces.past_words.Goals as goal
 
 pub loop-at-init : goal.loop-at-init
@@ -17,8 +17,8 @@ loop-at-preserved-then-is_above_space c =
     let within : at.at < length text = omega (arith, ap length same, c.loop-at-test.true) in
     let shown : is_above_space (get_or text at.at 0) ≡ true =
     rw same at (sym c.is_above_space.ensures ∙ c.if-is_above_space.true) in
-    let step = shown_passed c.args.ends_normal.now at.ends text at.at c.utf8.text at.invariant.passed
-    at.invariant.cut within shown in
+    let held = at.invariant in
+    let step = shown_passed text at.at c.utf8.text held.passed held.cut within shown in
     record { cut = step.0; passed = step.1 }
 
 pub loop-at-preserved : goal.loop-at-preserved
@@ -32,14 +32,9 @@ loop-at-preserved c =
     let room : at.at + 1 < length text = omega (arith, ap length same, found.room is) in
     let after : is_above_space (get_or text (at.at + 1) 0) ≡ true =
     rw same at (found.after is) in
-    let passed : Passes c.args.ends_normal.now text true (drop at.at text) =
-    rw c.if-ends.true at at.invariant.passed in
-    let step = space_passed c.args.ends_normal.now text at.at c.utf8.text passed at.invariant.cut
-    space room after in
-    record {
-      cut = step.0;
-      passed = rw c.if-ends.true step.1;
-    }
+    let step = space_passed text at.at c.utf8.text (rw c.if-ends.true at at.invariant.passed)
+    at.invariant.cut space room after in
+    record { cut = step.0; passed = rw c.if-ends.true step.1 }
 
 pub returns-clause-passed : goal.returns-clause-passed
 returns-clause-passed c = rw c.range_from.ensures.value c.loop-at.invariant.passed

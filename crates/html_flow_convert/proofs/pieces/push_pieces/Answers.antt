@@ -1,8 +1,8 @@
-use Rattle.std.proofs.Common.{◌≡◌, ◌-◌, ◌++◌, [], chars, length, map, take, refl, sym, ap, subst, ◌∙◌}
+use Rattle.std.proofs.Common.{◌≡◌, ◌-◌, ◌++◌, [], chars, length, map, take, refl, sym, ap, subst, ◌∙◌, append_assoc}
 use Rattle.std.proofs.lemmas.{Result.{on_err_weaker}, Str.{IsCharBoundary-at_seam}}
 use Rattle.std.specs.{Prelude.{OnOk}, Str.{IsCharBoundary}}
 use Rattle.html_names_core.proofs.{Basics.{front_length}, Held.{on_err}}
-use Rattle.html_flow_convert.proofs.Beginnings.{Grows, grows_by_none, grows_more, begins, begins_between, begins_as}
+use Rattle.html_flow_convert.proofs.Beginnings.{Grows, grows_by_none, grows_more, begins}
 use Rattle.html_flow_convert.proofs.Passing.{Pending, passes_none, passes_char, pending_begins, pending_passes, pending_outside}
 use Rattle.html_flow_convert.proofs.Stretching.{text_ended}
 use Rattle.html_flow_convert.specs.{Beginnings.{AddsBeginning}, Pieces.{outside_stretch, piece_node, text_nodes}}
@@ -18,13 +18,12 @@ use Rattle.html_flow_convert.proofs.pieces.push_pieces.Goals.{then-not-is_within
 pub loop-c-init : goal.loop-c-init
 loop-c-init c =
     let made = map node_view c.args.nodes.now.items in
-    let first = pending_begins c.args.span.0 c.args.text.now made c.utf8.text in
     record {
       pending_is_text = c.utf8.text;
       rest_is_text = c.past_words-rest.utf8;
       at = c.chars-left.ensures.rest;
-      held = pending_passes _ _ _ _ _ _ _ _ _ first c.past_words-rest.ensures.passed
-          c.past_words-rest.utf8;
+      held = pending_passes (pending_begins c.args.span.0 c.args.text.now made c.utf8.text)
+          c.past_words-rest.ensures.passed c.past_words-rest.utf8;
       grown = grows_by_none made;
     }
 
@@ -44,44 +43,37 @@ loop-c-preserved c =
     let text = at.pending.now in
     let rest = at.rest.now in
     let after = c.as_str-after.result.now in
-    let normal = c.is_normal-is_normal.result in
     let f = piece_node span in
     let made = map node_view at.nodes.items in
     let old = map node_view c.args.nodes.now.items in
     let all = old ++ text_nodes span (chars c.args.text.now) in
     let new = c.if-not-is_within in
     let parts : rest ≡ encode char ++ after =
-    sym at.invariant.at ∙ (c.in-Some.ensures.steps.0
-    ∙ ap (λ l. encode char ++ l) (sym c.as_str-after.ensures)) in
-    let step : (Pending span new.returned normal new.pending.now after (map node_view new.nodes.items) all
-    × Grows old (map node_view new.nodes.items)) × shadow (Utf8 new.pending.now)
+    sym at.invariant.at ∙ rw c.as_str-after.ensures c.in-Some.ensures.steps.0 in
+    let step : (Pending span new.returned c.is_normal-is_normal.result new.pending.now after
+    (map node_view new.nodes.items) all × Grows old (map node_view new.nodes.items))
+    × shadow (Utf8 new.pending.now)
     = elim c.if-not-is_within.branch [
       | then-not-is_within+in_ok-push_stretch+in_ok-push_outside w ↦
           let range : w.range.result.now ≡ take (length text - length rest) text =
           simp unary_clauses at w.range.ensures.value in
           let own = map f (with_stretch (chars (take (length text - length rest) text)) []) in
           let between = map f (outside_stretch (char_before w.is_after_return.result) char []) in
-          let stretched = w.in_ok-push_stretch.ensures.added
-          ∙ ap (λ t. made ++ map f (with_stretch (chars t) [])) range in
-          let pushed = w.in_ok-push_outside.ensures.added ∙ ap (λ l. l ++ between) stretched in
-          let apart = sym c.is_within.ensures ∙ w.if-not-is_within.true in
-          let held = pending_outside span at.returned at.ends_normal w.is_after_return.result text rest after
-          made _ all char at.invariant.held parts c.as_str-after.utf8 apart w.is_after_return.ensures pushed in
+          let pushed = w.in_ok-push_outside.ensures.added ∙ ap (λ l. l ++ between)
+          (w.in_ok-push_stretch.ensures.added
+          ∙ ap (λ t. made ++ map f (with_stretch (chars t) [])) range) in
+          let held = pending_outside after char at.invariant.held parts c.as_str-after.utf8
+          (sym c.is_within.ensures ∙ w.if-not-is_within.true) w.is_after_return.ensures pushed in
           rw (w.nodes-is, w.pending-is, w.returned-is, c.is_normal-is_normal.ensures) (
-            (held, grows_more old (made ++ own) _ between (grows_more old made _ own at.invariant.grown refl) pushed),
+            (held, grows_more _ (grows_more {made = made} own at.invariant.grown refl) pushed),
             c.as_str-after.utf8,
           )
       | else-not-is_within w ↦
-          let on = sym c.is_within.ensures ∙ w.if-not-is_within.false in
-          let one = passes_char at.ends_normal at.ends_normal normal rest rest after char
-          (passes_none at.ends_normal rest) at.invariant.held.held.rest_utf8 parts on
-          c.is_normal-is_normal.ensures in
+          let one = passes_char c.is_normal-is_normal.result after char
+          (passes_none at.ends_normal rest) at.invariant.held.held.rest_utf8 parts
+          (sym c.is_within.ensures ∙ w.if-not-is_within.false) c.is_normal-is_normal.ensures in
           rw (w.nodes-is, w.pending-is, w.returned-is) (
-            (
-              pending_passes span at.returned at.ends_normal normal text rest after made all at.invariant.held
-                  one c.as_str-after.utf8,
-              at.invariant.grown,
-            ),
+            (pending_passes at.invariant.held one c.as_str-after.utf8, at.invariant.grown),
             at.invariant.pending_is_text,
           )
     ] in
@@ -89,7 +81,7 @@ loop-c-preserved c =
       pending_is_text = step.1;
       rest_is_text = c.past_words-rest-in-Some.utf8;
       at = c.chars-left-in-Some.ensures.rest;
-      held = pending_passes _ _ _ _ _ _ _ _ _ step.0.0 c.past_words-rest-in-Some.ensures.passed
+      held = pending_passes step.0.0 c.past_words-rest-in-Some.ensures.passed
           c.past_words-rest-in-Some.utf8;
       grown = step.0.1;
     }
@@ -97,13 +89,11 @@ loop-c-preserved c =
 pub returns-in_err-push_stretch-clause-begun : goal.returns-in_err-push_stretch-clause-begun
 returns-in_err-push_stretch-clause-begun c =
     let at = c.loop-c in
-    let made = map node_view at.nodes.items in
-    let old = map node_view c.args.nodes.now.items in
     let new = map node_view c.push_stretch.new.nodes.items in
-    let all = text_nodes c.args.span.0 (chars c.args.text.now) in
-    on_err c.from_residual.result (AddsBeginning old new all)
-    (begins_as old made new all (ap (map node_view) c.in_err-push_stretch.ensures.kept)
-    (begins old made _ all at.invariant.grown at.invariant.held.held.agrees))
+    on_err c.from_residual.result (AddsBeginning (map node_view c.args.nodes.now.items) new
+    (text_nodes c.args.span.0 (chars c.args.text.now))) (begins _ _ at.invariant.grown
+    (ap (map node_view) c.in_err-push_stretch.ensures.kept)
+    at.invariant.held.held.agrees)
 
 pub returns-in_err-push_outside-clause-begun : goal.returns-in_err-push_outside-clause-begun
 returns-in_err-push_outside-clause-begun c =
@@ -114,42 +104,32 @@ returns-in_err-push_outside-clause-begun c =
     let after = c.as_str-after.result.now in
     let f = piece_node c.args.span.0 in
     let made = map node_view at.nodes.items in
-    let old = map node_view c.args.nodes.now.items in
-    let new = map node_view c.push_outside.new.nodes.items in
     let all = text_nodes c.args.span.0 (chars c.args.text.now) in
     let own = map f (with_stretch (chars (take (length text - length rest) text)) []) in
     let between = map f (outside_stretch (char_before c.is_after_return.result) char []) in
     let parts : rest ≡ encode char ++ after =
-    sym at.invariant.at ∙ (c.in-Some.ensures.steps.0
-    ∙ ap (λ l. encode char ++ l) (sym c.as_str-after.ensures)) in
+    sym at.invariant.at ∙ rw c.as_str-after.ensures c.in-Some.ensures.steps.0 in
     let range : c.range.result.now ≡ take (length text - length rest) text =
     simp unary_clauses at c.range.ensures.value in
-    let stretched = c.in_ok-push_stretch.ensures.added
-    ∙ ap (λ t. made ++ map f (with_stretch (chars t) [])) range in
-    let whole = pending_outside c.args.span.0 at.returned at.ends_normal c.is_after_return.result text rest
-    after made ((made ++ own) ++ between) (old ++ all) char at.invariant.held parts c.as_str-after.utf8
-    (sym c.is_within.ensures ∙ c.if-not-is_within.true) c.is_after_return.ensures refl in
-    on_err c.from_residual-in_err-push_outside.result (AddsBeginning old new all)
-    (begins_as old (made ++ own) new all
-    (ap (map node_view) c.in_err-push_outside.ensures.kept ∙ stretched)
-    (begins_between old made own between _ all at.invariant.grown whole.held.agrees))
+    let apart = sym c.is_within.ensures ∙ c.if-not-is_within.true in
+    let whole = pending_outside {new = (made ++ own) ++ between} after char at.invariant.held parts
+    c.as_str-after.utf8 apart c.is_after_return.ensures refl in
+    on_err c.from_residual-in_err-push_outside.result (AddsBeginning
+    (map node_view c.args.nodes.now.items) (map node_view c.push_outside.new.nodes.items) all)
+    (begins _ all (grows_more {made = made} own at.invariant.grown refl)
+    (ap (map node_view) c.in_err-push_outside.ensures.kept ∙ (c.in_ok-push_stretch.ensures.added
+    ∙ ap (λ t. made ++ map f (with_stretch (chars t) [])) range))
+    (sym (append_assoc (made ++ own) between _) ∙ whole.held.agrees))
 
 pub returns : goal.returns
 returns c =
-    let at = c.loop-c in
-    let held = at.invariant.held.held in
-    let made = map node_view at.nodes.items in
-    let old = map node_view c.args.nodes.now.items in
-    let none : length at.rest.now ≡ 0 =
-    ap length (sym at.invariant.at) ∙ c.in_default.ensures.steps.0.0 in
+    let held = c.loop-c.invariant.held.held in
+    let none : length c.loop-c.rest.now ≡ 0 =
+    ap length (sym c.loop-c.invariant.at) ∙ c.in_default.ensures.steps.0.0 in
     let new = map node_view c.push_stretch-2.new.nodes.items in
-    let all = text_nodes c.args.span.0 (chars c.args.text.now) in
     record {
-      added = subst (λ all. OnOk c.push_stretch-2.result (new ≡ all))
-          (text_ended c.args.span.0 at.invariant.held.before at.pending.now at.rest.now made _ held none)
+      added = subst (λ all. OnOk c.push_stretch-2.result (new ≡ all)) (text_ended held none)
           c.push_stretch-2.ensures.added;
-      begun = on_err_weaker c.push_stretch-2.result
-          (λ kept. begins_as old made new all (ap (map node_view) kept)
-          (begins old made _ all at.invariant.grown held.agrees))
-          c.push_stretch-2.ensures.kept;
+      begun = on_err_weaker c.push_stretch-2.result (λ kept. begins _ _ c.loop-c.invariant.grown
+          (ap (map node_view) kept) held.agrees) c.push_stretch-2.ensures.kept;
     }

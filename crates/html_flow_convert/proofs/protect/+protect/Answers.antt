@@ -49,10 +49,9 @@ pub protect_nodes-loop-node-preserved : goal.protect_nodes-loop-node-preserved
 protect_nodes-loop-node-preserved t c =
     let at = c.loop-node in
     let h : at.node-index < length at.nodes = grind (arith, common_steps) in
-    let on = protect_in_place at.nodes _ at.node-index c.node-item.result c.protect_node.new.node
-    (answers_view at.answers) (answers_view c.protect_node.new.answers) _ _ h refl
-    c.in_ok-protect_node.ensures.made c.in_ok-protect_node.ensures.rest
-    at.invariant.agrees at.invariant.rest in
+    let on = protect_in_place at.nodes at.node-index c.node-item.result c.protect_node.new.node
+    (answers_view at.answers) h refl c.in_ok-protect_node.ensures.made
+    c.in_ok-protect_node.ensures.rest at.invariant.agrees at.invariant.rest in
     record {
       unvisited = (grind (arith, common_steps), λ k d le. grind (arith, common_steps));
       agrees = on.0;

@@ -8,8 +8,7 @@ use Rattle.html_flow_convert.proofs.runs.with_runs.Goals as goal
 pub returns-then-not-has_kept_run : goal.returns-then-not-has_kept_run
 returns-then-not-has_kept_run c =
     runs_stay (map node_view c.args.nodes.items)
-    (ap (λ ns. has_kept_run false (map node_view ns)) (sym c.deref.ensures.value)
-    ∙ (sym c.has_kept_run.ensures ∙ c.if-not-has_kept_run.true))
+    (rw c.deref.ensures.value at (sym c.has_kept_run.ensures ∙ c.if-not-has_kept_run.true))
 
 pub loop-node-init : goal.loop-node-init
 loop-node-init c =
@@ -31,8 +30,7 @@ loop-node-preserved-in-Continue-1 c =
     let on : goes_on run n ≡ true =
     rw c.deref-in-Some.ensures.value at (sym c.goes_on.ensures ∙ c.if-goes_on.true) in
     let grown : map node_view c.push.new.self.items ≡ run ++ n ∷ [] =
-    ap (map node_view) c.in_ok-push.ensures.items
-    ∙ map-append node_view c.loop-node.run.items (c.in-Some.node ∷ []) in
+    rw (c.in_ok-push.ensures.items, map-append) refl in
     record {
       made = rw grown (sym (run_goes_on _ run (map node_view (reverse nodes)) n (goes_on_node run n on))
           ∙ rw next at held.made);
@@ -51,11 +49,8 @@ loop-node-preserved c =
     let off : goes_on run n ≡ false =
     rw c.deref-in-Some.ensures.value at (sym c.goes_on.ensures ∙ c.if-goes_on.false) in
     let pushed : map node_view c.push-else-goes_on.new.self.items ≡ (done ++ run_nodes run) ++ n ∷ [] =
-    ap (map node_view) c.in_ok-push-2.ensures.items
-    ∙ (map-append node_view c.end_run.new.made.items (c.in-Some.node ∷ [])
-    ∙ ap (λ l. l ++ n ∷ []) c.in_ok-end_run.ensures.made) in
-    let none : map node_view c.end_run.new.run.items ≡ [] =
-    ap (map node_view) c.in_ok-end_run.ensures.ended in
+    rw (c.in_ok-push-2.ensures.items, map-append, c.in_ok-end_run.ensures.made) refl in
+    let none : map node_view c.end_run.new.run.items ≡ [] = rw c.in_ok-end_run.ensures.ended refl in
     record {
       made = rw (pushed, none) (sym (run_ends done run (map node_view (reverse nodes)) n held.begins off)
           ∙ rw next at held.made);

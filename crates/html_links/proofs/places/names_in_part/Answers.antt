@@ -33,6 +33,7 @@ loop-walk-preserved-then-not-keeps_children-2 c =
     skipped with_event (leaves_out c.args.is_whole) (used_in c.loop-walk.names)
     (used_in c.add_element-in-Enter.new.names) _ (events_left c.loop-walk.walk)
     (events_left c.next.new.self) (path_of c.next.new.self) (head_of c.in-Enter.element.now)
+    (nodes_view c.in-Enter.element.now.children.items)
     (events_left c.skip.new.self)
     (rw (c.in-Some.is, c.in-Enter.is) at c.in_ok-visit.ensures.comes)
     c.in_ok-add_element-in-Enter.ensures c.loop-walk.invariant
@@ -50,6 +51,7 @@ loop-walk-preserved-else-not-keeps_children-2 c =
     entered with_event (leaves_out c.args.is_whole) (used_in c.loop-walk.names)
     (used_in c.add_element-in-Enter.new.names) _ (events_left c.loop-walk.walk)
     (events_left c.next.new.self) (path_of c.next.new.self) (head_of c.in-Enter.element.now)
+    (nodes_view c.in-Enter.element.now.children.items)
     (rw (c.in-Some.is, c.in-Enter.is) at c.in_ok-visit.ensures.comes)
     c.in_ok-add_element-in-Enter.ensures c.loop-walk.invariant
     (ap not (sym c.keeps_children-in-Enter.ensures ∙ c.if-not-keeps_children-2.false))

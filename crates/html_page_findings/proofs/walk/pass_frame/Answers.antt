@@ -3,11 +3,10 @@ use Rattle.html_names_core.specs.Texts.{text_view}
 use Rattle.html_dom_tree.specs.FrameViews.{html_frame_view}
 use Rattle.html_page_findings.proofs.walk.pass_frame.Goals as goal
 
-pub returns-in_ok-pass_anchors-in-Ids-clause-taken : goal.returns-in_ok-pass_anchors-in-Ids-clause-taken
-returns-in_ok-pass_anchors-in-Ids-clause-taken g c rest =
-    let first = c.in_ok-pass_optional-in-Ids.ensures in
+pub returns-in_ok-pass_anchors-in-Ids : goal.returns-in_ok-pass_anchors-in-Ids
+returns-in_ok-pass_anchors-in-Ids g c rest =
     let id : option_map text_view c.in_ok-copy_of-in-Ids.field-0
     ≡ (html_frame_view c.args.frame.now).id = search rules in
     rw (c.in-Ids.is, map-append, append_assoc)
-    ((rw (first.path, c.deref.ensures.value) at c.in_ok-pass_anchors-in-Ids.ensures.taken rest)
-    ∙ (rw id at first.taken _))
+    ((rw c.deref.ensures.value at c.in_ok-pass_anchors-in-Ids.ensures rest)
+    ∙ (rw id at c.in_ok-pass_optional-in-Ids.ensures _))

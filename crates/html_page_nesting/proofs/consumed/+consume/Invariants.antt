@@ -6,12 +6,11 @@ use Rattle.html_page_nesting.proofs.consumed.+consume.Given as goal
 -- those that are left stand in reverse
 abbrev pub invariant-pass_nodes_of-loop-child : goal.invariant-pass_nodes_of-loop-child
 invariant-pass_nodes_of-loop-child g l =
-    let first = l.fn.walk in
     let made = g.S.MisnestedSink.made_with in
-    let parent = first.path.items in
+    let parent = l.fn.path.items in
     record {
-      path : l.walk.path.items ≡ parent;
-      taken : Left (made first.sink) (made l.walk.sink)
+      path : l.path.items ≡ parent;
+      taken : Left (made l.fn.reports.sink) (made l.reports.sink)
           (nodes_walk parent 0 l.around (nodes_view l.fn.nodes.items))
           (nodes_walk parent l.index l.around (nodes_view (reverse l.nodes.items)));
       count : l.index + length l.nodes.items ≡ length l.fn.nodes.items;

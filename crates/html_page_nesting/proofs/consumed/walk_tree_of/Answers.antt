@@ -4,6 +4,6 @@ use Rattle.html_page_nesting.proofs.consumed.walk_tree_of.Goals as goal
 
 pub returns : goal.returns
 returns g c =
-    walk_ended g.S.MisnestedSink.made_with c.args.sink c.pass_tree_of-passed.new.walk.sink
+    walk_ended g.S.MisnestedSink.made_with c.args.sink c.pass_tree_of-passed.new.reports.sink
     (misnested_nodes (element_view c.args.root)) c.pass_tree_of-passed.result c.finish.result
-    (rw c.new-walk.ensures.sink at c.pass_tree_of-passed.ensures c.new-walk.ensures.path) c.finish.ensures
+    (rw c.new-reports.ensures at c.pass_tree_of-passed.ensures) c.finish.ensures

@@ -4,6 +4,6 @@ use Rattle.html_page_nesting.proofs.walk.walk_tree.Goals as goal
 
 pub returns : goal.returns
 returns g c =
-    walk_ended g.S.MisnestedSink.made_with c.args.sink c.pass_tree-passed.new.walk.sink
+    walk_ended g.S.MisnestedSink.made_with c.args.sink c.pass_tree-passed.new.reports.sink
     (misnested_nodes (element_view c.args.root.now)) c.pass_tree-passed.result c.finish.result
-    (rw c.new-walk.ensures.sink at c.pass_tree-passed.ensures c.new-walk.ensures.path) c.finish.ensures
+    (rw c.new-reports.ensures at c.pass_tree-passed.ensures) c.finish.ensures

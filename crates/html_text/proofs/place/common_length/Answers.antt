@@ -22,11 +22,6 @@ returns-then-c-expected c =
     let same = rw (word, text, other) at held.same in
     omega (arith, same)
 
-pub overflow_add-count : goal.overflow_add-count
-overflow_add-count c =
-    let long = first_long _ _ c.in-Some-next.c c.in-Some-next.ensures.steps.0 in
-    omega (arith, c.loop-expected.invariant.few, long.0, long.1)
-
 pub loop-expected-preserved : goal.loop-expected-preserved
 loop-expected-preserved c =
     let held = c.loop-expected.invariant in

@@ -1,7 +1,6 @@
-use Rattle.std.proofs.{Common.{◌≡◌, ◌+◌, ◌-◌, ◌++◌, [], chars, take, sym, ap, ◌∙◌, arith}, StrCases.{chars_of_empty}}
-use Rattle.std.proofs.lemmas.Str.{chars_past_char}
+use Rattle.std.proofs.{Common.{◌≡◌, ◌+◌, ◌-◌, ◌++◌, chars, take, sym, ap, ◌∙◌, arith}, lemmas.Str.{chars_past_char}}
 use lib.Utf8.{encode}
-use Rattle.html_text.{proofs.Places.{first_long, one_more, passed, none_more}, specs.Places.{beginning, place_at, place_behind}}
+use Rattle.html_text.{proofs.Places.{first_long, one_more, passed}, specs.Places.{beginning, place_at, place_behind}}
 use Rattle.html_text.proofs.place.place_at.Goals as goal
 
 pub loop-done-init : goal.loop-done-init
@@ -13,15 +12,6 @@ loop-done-init c = record {
   line = omega arith;
   column = omega arith;
 }
-
-pub returns-in_default : goal.returns-in_default
-returns-in_default c =
-    let at = c.loop-done in
-    let empty = ap chars (sym c.chars-left.ensures.rest)
-    ∙ chars_of_empty _ c.in_default.ensures.steps.0.0 in
-    sym (none_more at.place (c.args.count - at.done))
-    ∙ (ap (λ cs. place_behind at.place (take (c.args.count - at.done) cs)) (sym empty)
-    ∙ at.invariant.same)
 
 pub loop-done-preserved : goal.loop-done-preserved
 loop-done-preserved c =
@@ -46,10 +36,3 @@ loop-done-preserved c =
       line = omega (arith, held.line, one.0, one.1, long.1);
       column = omega (arith, held.column, one.0, one.2, long.1);
     }
-
-pub returns : goal.returns
-returns c =
-    let at = c.loop-done in
-    let none : take (c.args.count - at.done) (chars at.rest.now) ≡ [] =
-    ap (λ n. take n (chars at.rest.now)) {x = c.args.count - at.done} {y = 0} (omega arith) in
-    sym (ap (place_behind at.place) none) ∙ at.invariant.same

@@ -1,13 +1,8 @@
-use Rattle.std.proofs.Common.{◌≡◌, ◌&&◌, ◌+◌, ◌-◌, ◌≤◌, chars, sym, ap, ◌∙◌, length, arith, bytes_eq, drop, map, subst}
+use Rattle.std.proofs.Common.{◌≡◌, ◌+◌, ◌-◌, ◌≤◌, chars, sym, ap, ◌∙◌, length, arith, bytes_eq, drop, map, subst}
 use Rattle.std.{proofs.lemmas.Bool.{false≢true, false_from_ne_true, and_right}, specs.Char.{to_ascii_lowercase}}
 use Rattle.html_text.specs.ClosingTags as ending
 use Rattle.html_text.{proofs.RawEnds.{by_characters, by_bytes, end_is}, proofs.TagNames.{name_is}, specs.RawEnds.{EndsAt}}
 use Rattle.html_text.proofs.raw_end.end_of.Goals as goal
-
-pub returns-then-not-is_tag_end : goal.returns-then-not-is_tag_end
-returns-then-not-is_tag_end c =
-    ap (λ b. b && ending.ends_closing (chars c.args.name.now) (chars c.args.text.now))
-    (sym c.is_tag_end.ensures ∙ c.if-not-is_tag_end.true)
 
 pub returns-then-text-closing : goal.returns-then-text-closing
 returns-then-text-closing c =

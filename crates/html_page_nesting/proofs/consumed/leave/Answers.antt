@@ -1,6 +1,6 @@
 use Rattle.std.proofs.Common.{◌-◌, ap, ◌∙◌, length, take, ◌∷◌, [], refl}
 use Rattle.html_names_core.proofs.Basics.{last_taken}
-use Rattle.html_page_findings.proofs.walk.leave.Goals as goal
+use Rattle.html_page_nesting.proofs.consumed.leave.Goals as goal
 
 pub returns : goal.returns
 returns c = λ parent index is.
