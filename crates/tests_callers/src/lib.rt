@@ -1,8 +1,8 @@
-//! Tests of callers' code: the guide's functions, word for word (`guide`), and each way to pass
-//! faults on (`styles`). They use only the crates that users name, and tests_frames.
+//! Tests of callers' code: the guide's functions, word for word (`guide`), and how the faults of
+//! calls are passed on (`faults`). They use only the crates that users name.
 #![tactic(auto)]
 
 #[cfg(test)]
-mod guide;
+mod faults;
 #[cfg(test)]
-mod styles;
+mod guide;

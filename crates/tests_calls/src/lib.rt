@@ -1,10 +1,8 @@
-//! Tests of public calls over several crates when growths of memory are refused: one table of the
-//! calls that borrow their arguments, and one of those that consume and return them. What the calls
-//! make is tested elsewhere.
+//! Tests of public calls over several crates when growths of memory are refused: of those that
+//! borrow their arguments, and of those that consume and return them. What the calls make is tested
+//! elsewhere.
 #![tactic(auto)]
 
-#[cfg(test)]
-mod answer;
 #[cfg(test)]
 mod calls;
 #[cfg(test)]

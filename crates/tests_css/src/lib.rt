@@ -2,10 +2,6 @@
 #![tactic(auto)]
 
 #[cfg(test)]
-mod asserts;
-#[cfg(test)]
 mod growths;
-#[cfg(test)]
-mod texts;
 #[cfg(test)]
 mod warnings;

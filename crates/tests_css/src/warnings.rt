@@ -1,9 +1,16 @@
 //! The warnings of values, and those that a sink receives.
 
-use crate::asserts::{assert_inline, assert_warned};
 use html_values_css::{CssWriter, Paint, Properties, ToCss, Warning, WarningSink};
 use std::alloc::{AllocError, Global};
-use tests_asserts::{TestResult, assert_text};
+use tests_asserts::{TestResult, Tester, assert_text};
+
+fn assert_warned(rt: &impl Tester, warnings: &[Warning], wanted: &[Warning]) {
+    assert_eq!(rt; warnings, wanted);
+}
+
+fn assert_inline(alloc: Global, properties: &Properties, wanted: &str) -> TestResult {
+    assert_text(&properties.to_inline().to_string(alloc)?, wanted)
+}
 
 /// A sink that refuses a warning when it holds `room` of them.
 #[derive(Drop)]
@@ -124,15 +131,15 @@ fn a_caller_may_fail(rt: HostRuntime) -> TestResult {
     Ok(())
 }
 
-const TEXTS: [(Warning, &str); 2] = [
-    (Warning::Gradient, "gradient was ignored during HTML export"),
-    (Warning::Tiling, "tiling was ignored during HTML export"),
-];
-
 #[test]
 fn texts_of_warnings(rt: HostRuntime) -> TestResult {
-    for (warning, wanted) in TEXTS {
-        assert_text(&warning.to_string(rt.alloc())?, wanted)?;
-    }
-    Ok(())
+    let (gradient, tiling) = (Warning::Gradient, Warning::Tiling);
+    assert_text(
+        &gradient.to_string(rt.alloc())?,
+        "gradient was ignored during HTML export",
+    )?;
+    assert_text(
+        &tiling.to_string(rt.alloc())?,
+        "tiling was ignored during HTML export",
+    )
 }

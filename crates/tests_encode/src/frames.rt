@@ -1,25 +1,25 @@
 //! Writing trees with frames.
 
-ghost use Rattle.std.specs.Prelude.{◌==◌, [], Some, None, chars, if◌then◌else◌};
+ghost use Rattle.std.specs.Prelude.{◌==◌, Some, None, chars, if◌then◌else◌};
 ghost use Rattle.typst_html_encode.specs.FrameWriters.{picture_of};
 
-use crate::asserts::{PLAIN, PRETTY, assert_answer, element};
-use crate::large::long_text;
+use crate::asserts::{assert_answer, element};
 use html_dom_tree::{Frame, FrameItem, HtmlElement, HtmlFrame, HtmlNode, Location, Span, Tag};
 use html_values_css::Abs;
 use std::alloc::{AllocError, Global};
 use std::test::Fail;
 use tests_asserts::{TestResult, Tester};
 use tests_samples::point;
-use typst_html_encode::{FrameFault, FrameWriter, HtmlOptions};
+use typst_html_encode::{FrameFault, FrameWriter};
 
 /// A writer with one text for pretty and another for plain writing, which refuses the pictures with
-/// one number.
+/// one number, and has no memory for those with another.
 #[derive(Clone, Copy)]
 struct TwoTexts<'a> {
     plain: &'a str,
     pretty: &'a str,
     refused: u64,
+    too_large: u64,
 }
 
 impl FrameWriter for TwoTexts<'_> {
@@ -31,200 +31,138 @@ impl FrameWriter for TwoTexts<'_> {
         if frame.inner.picture == self.refused {
             return Err(FrameFault::Refused);
         }
+        if frame.inner.picture == self.too_large {
+            return Err(FrameFault::OutOfMemory);
+        }
         Ok(String::from_str(alloc, if pretty { self.pretty } else { self.plain })?)
     }
 }
 
-/// A writer that has no memory for any frame.
-struct Exhausted;
-
-impl FrameWriter for Exhausted {
-    ghost drawing = { λ _ frame pretty. Some [] };
-
-    fn write(
-        &self,
-        _alloc: Global,
-        _frame: &HtmlFrame,
-        _pretty: bool,
-    ) -> Result<String, FrameFault> {
-        Err(FrameFault::OutOfMemory)
-    }
-}
-
-/// Returns a frame with that picture, which holds a tag and a link that are not written.
-fn frame(alloc: Global, picture: u64, span: Span) -> Result<HtmlNode, AllocError> {
-    let location = Location(7);
-    let tag = FrameItem::Tag(Tag::End { location });
-    let link = FrameItem::Link(Some(location));
-    let items = vec![in alloc; (point(0, 0), tag), (point(0, 0), link)]?;
-    let size = Abs::from_millionths(11_000_000);
-    let frame = HtmlFrame::new(alloc, Frame { picture, items }, size, span);
-    Ok(HtmlNode::from(frame))
-}
+/// A writer that has a text for each picture.
+const WRITER: TwoTexts<'static> = TwoTexts {
+    plain: "<g>\n</g>",
+    pretty: "<a>\r\n  b\n</a>\n",
+    refused: 0,
+    too_large: 0,
+};
 
 /// Returns an element with span 1 and that many frames, with the pictures 1, 2 and so on, and the
-/// spans 3, 5 and so on.
+/// spans 3, 5 and so on. Each holds a tag and a link that are not written.
 fn with_frames(alloc: Global, name: &str, count: u8) -> Result<HtmlElement, Fail> {
-    let mut element = element(alloc, name, &[])?;
-    for number in 1..=u64::from(count) {
-        let frame = frame(alloc, number, Span(1 + 2 * number))?;
-        element.children.push(frame)?;
+    let (mut element, location) = (element(alloc, name, &[])?, Location(7));
+    for picture in 1..=u64::from(count) {
+        let tag = FrameItem::Tag(Tag::End { location });
+        let link = FrameItem::Link(Some(location));
+        let items = vec![in alloc; (point(0, 0), tag), (point(0, 0), link)]?;
+        let (size, span) = (Abs::from_millionths(11_000_000), Span(1 + 2 * picture));
+        let frame = HtmlFrame::new(alloc, Frame { picture, items }, size, span);
+        element.children.push(HtmlNode::from(frame))?;
     }
     Ok(element)
 }
 
-/// An element and its number of frames, the text of each in plain and in pretty writing, the
-/// picture that is refused, and the result.
-type Row = (
-    &'static str,
-    u8,
-    &'static str,
-    &'static str,
-    u64,
-    &'static str,
-);
-
-fn assert_rows(rt: &impl Tester, options: &HtmlOptions, rows: &[Row]) -> TestResult {
-    for (name, count, plain, pretty, refused, wanted) in rows {
-        let (plain, pretty, refused) = (*plain, *pretty, *refused);
-        let root = with_frames(rt.alloc(), name, *count)?;
-        assert_answer(
-            rt,
-            &root,
-            options,
-            &TwoTexts {
-                plain,
-                pretty,
-                refused,
-            },
-            wanted,
-        )?;
-    }
-    Ok(())
+/// Asserts the result of writing an element and that many frames.
+fn assert_frames<F: FrameWriter>(
+    rt: &impl Tester,
+    (name, count, pretty): (&str, u8, bool),
+    frames: &F,
+    wanted: &str,
+) -> TestResult {
+    assert_answer(
+        rt,
+        &with_frames(rt.alloc(), name, count)?,
+        pretty,
+        frames,
+        wanted,
+    )
 }
 
-static PLAIN_ROWS: [Row; 2] = [
+/// Whether pretty writing is on, an element and its number of frames, and its text. Each line of a
+/// frame has the indent of its level, and a last line feed is dropped. If pretty writing is off
+/// inside an element, it is off for the writer of a frame too.
+static TEXTS: [(bool, &str, u8, &str); 5] = [
+    (false, "div", 1, "<div><g>\n</g></div>"),
+    (false, "pre", 2, "<pre><g>\n</g><g>\n</g></pre>"),
+    (true, "div", 1, "\n<div>\n  <a>\n    b\n  </a>\n</div>\n"),
     (
-        "div",
-        1,
-        "<svg>\n  <g/>\n</svg>",
-        "",
-        0,
-        "<!DOCTYPE html><div><svg>\n  <g/>\n</svg></div>",
-    ),
-    (
-        "pre",
-        2,
-        "<svg></svg>",
-        "",
-        0,
-        "<!DOCTYPE html><pre><svg></svg><svg></svg></pre>",
-    ),
-];
-
-/// Each line of a frame has the indent of its level, and a last line feed is dropped. If pretty
-/// writing is off inside an element, it is off for the writer of a frame too.
-static PRETTY_ROWS: [Row; 3] = [
-    (
-        "div",
-        1,
-        "<svg/>",
-        "<svg>\n  <g/>\n</svg>",
-        0,
-        "<!DOCTYPE html>\n<div>\n  <svg>\n    <g/>\n  </svg>\n</div>\n",
-    ),
-    (
+        true,
         "div",
         2,
-        "",
-        "<svg>\r\n</svg>\n",
-        0,
-        "<!DOCTYPE html>\n<div>\n  <svg>\n  </svg><svg>\n  </svg>\n</div>\n",
+        "\n<div>\n  <a>\n    b\n  </a><a>\n    b\n  </a>\n</div>\n",
     ),
-    (
-        "span",
-        1,
-        "<svg>\n</svg>",
-        "<g>\n</g>",
-        0,
-        "<!DOCTYPE html>\n<span><svg>\n</svg></span>\n",
-    ),
-];
-
-/// A frame is no text, and it is a child: such faults are reported before the frame is written.
-static REFUSED_ROWS: [Row; 6] = [
-    ("div", 2, "<svg/>", "", 2, "FrameRefused { span: Span(5) }"),
-    ("span", 3, "<svg/>", "", 3, "FrameRefused { span: Span(7) }"),
-    ("script", 2, "<svg/>", "", 1, "RawChild { span: Span(3) }"),
-    ("title", 2, "<svg/>", "", 1, "RawChild { span: Span(3) }"),
-    ("style", 2, "", "<svg/>", 1, "RawChild { span: Span(3) }"),
-    ("br", 1, "<svg/>", "", 1, "VoidChildren { span: Span(1) }"),
+    (true, "span", 1, "\n<span><g>\n</g></span>\n"),
 ];
 
 #[test]
 fn frames_are_their_writers_texts(rt: HostRuntime) -> TestResult {
-    assert_rows(&rt, &PLAIN, &PLAIN_ROWS)?;
-    assert_rows(&rt, &PRETTY, &PRETTY_ROWS)?;
-    for options in [PLAIN, PRETTY] {
-        assert_rows(&rt, &options, &REFUSED_ROWS)?;
+    for (pretty, name, count, wanted) in &TEXTS {
+        assert_frames(&rt, (name, *count, *pretty), &WRITER, wanted)?;
     }
     Ok(())
 }
 
-/// One writer has no memory, and one refuses all frames.
+/// An element and its number of frames, the picture that is refused, and the result. A frame is no
+/// text, and it is a child: such faults are reported before the frame is written.
+static REFUSED: [(&str, u8, u64, &str); 6] = [
+    ("div", 2, 2, "FrameRefused { span: Span(5) }"),
+    ("span", 3, 3, "FrameRefused { span: Span(7) }"),
+    ("script", 2, 1, "RawChild { span: Span(3) }"),
+    ("title", 2, 1, "RawChild { span: Span(3) }"),
+    ("style", 2, 1, "RawChild { span: Span(3) }"),
+    ("br", 1, 1, "VoidChildren { span: Span(1) }"),
+];
+
+/// A writer may also have no memory, or refuse all frames.
 #[test]
-fn writers_that_write_nothing(rt: HostRuntime) -> TestResult {
-    let div = with_frames(rt.alloc(), "div", 2)?;
-    for options in [PLAIN, PRETTY] {
-        assert_answer(&rt, &div, &options, &Exhausted, "OutOfMemory")?;
-        assert_answer(&rt, &div, &options, &(), "FrameRefused { span: Span(3) }")?;
+fn frames_are_refused(rt: HostRuntime) -> TestResult {
+    for pretty in [false, true] {
+        for (name, count, refused, wanted) in &REFUSED {
+            let refused = *refused;
+            assert_frames(
+                &rt,
+                (name, *count, pretty),
+                &TwoTexts { refused, ..WRITER },
+                wanted,
+            )?;
+        }
+        let div = ("div", 2, pretty);
+        assert_frames(
+            &rt,
+            div,
+            &TwoTexts {
+                too_large: 2,
+                ..WRITER
+            },
+            "OutOfMemory",
+        )?;
+        assert_frames(&rt, div, &(), "FrameRefused { span: Span(3) }")?;
     }
     Ok(())
 }
 
-fn lines(alloc: Global, line: &str, count: u32, between: &str) -> Result<String, AllocError> {
-    let mut text = String::from_str(alloc, line)?;
-    for _ in 1..count {
-        text.push_str(between)?;
-        text.push_str(line)?;
-    }
+/// Returns the line that many times with a text behind it, and then once more.
+fn lines(alloc: Global, line: &str, count: usize, between: &str) -> Result<String, AllocError> {
+    let mut text = format!(in alloc; "{line}{between}")?.repeat(alloc, count)?;
+    text.push_str(line)?;
     Ok(text)
-}
-
-/// Asserts the text for two equal frames of that many lines: the texts before the first line,
-/// between two lines, and after the last.
-fn assert_lines(
-    rt: &impl Tester,
-    options: &HtmlOptions,
-    (line, count): (&str, u32),
-    (before, between, after): (&str, &str, &str),
-) -> TestResult {
-    let text = lines(rt.alloc(), line, count, "\n")?;
-    let (plain, pretty, refused) = (text.as_str(), text.as_str(), 0);
-    let shown = lines(rt.alloc(), line, count, between)?;
-    let wanted = format!(in rt.alloc(); "<!DOCTYPE html>{before}{shown}{shown}{after}")?;
-    let root = with_frames(rt.alloc(), "div", 2)?;
-    assert_answer(
-        rt,
-        &root,
-        options,
-        &TwoTexts {
-            plain,
-            pretty,
-            refused,
-        },
-        &wanted,
-    )?;
-    Ok(())
 }
 
 /// The texts are a few lines of a million letters, and many short lines.
 #[test]
 fn long_texts_of_frames(rt: HostRuntime) -> TestResult {
-    let long = long_text(rt.alloc(), 1_000_000)?;
-    for lines in [(long.as_str(), 3), ("<g/>", 100_000)] {
-        assert_lines(&rt, &PLAIN, lines, ("<div>", "\n", "</div>"))?;
-        assert_lines(&rt, &PRETTY, lines, ("\n<div>\n  ", "\n  ", "\n</div>\n"))?;
+    let (alloc, long) = (rt.alloc(), lines(rt.alloc(), "x", 999_999, "")?);
+    for (line, count) in [(long.as_str(), 2), ("<g/>", 99_999)] {
+        let plain = lines(alloc, line, count, "\n")?;
+        let pretty = lines(alloc, line, count, "\n  ")?;
+        let writer = TwoTexts {
+            plain: &plain,
+            pretty: &plain,
+            ..WRITER
+        };
+        let wanted = format!(in alloc; "<div>{plain}{plain}</div>")?;
+        assert_frames(&rt, ("div", 2, false), &writer, &wanted)?;
+        let wanted = format!(in alloc; "\n<div>\n  {pretty}{pretty}\n</div>\n")?;
+        assert_frames(&rt, ("div", 2, true), &writer, &wanted)?;
     }
     Ok(())
 }

@@ -1,16 +1,12 @@
-//! Tests of writing trees: texts, frames, faults, sizes, and refused growths of memory, over public
+//! Tests of writing trees: texts, frames, a deep tree, and refused growths of memory, over public
 //! calls.
 #![tactic(auto)]
 
 #[cfg(test)]
 mod asserts;
 #[cfg(test)]
-mod faults;
-#[cfg(test)]
 mod frames;
 #[cfg(test)]
 mod growths;
-#[cfg(test)]
-mod large;
 #[cfg(test)]
 mod texts;

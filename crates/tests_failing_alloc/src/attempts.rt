@@ -1,5 +1,5 @@
 //! Calls that are refused their first growth, then their second, and so on until a run succeeds.
-//! Each way in which a call takes a value has a loop of its own, so that no closure wraps a call.
+//! Calls that return what they consumed have a loop of their own, and all others the same.
 
 use crate::memory::Memory;
 use crate::shown::{is_shown, shown_of};
@@ -46,11 +46,8 @@ struct Attempts {
 impl Attempts {
     /// Takes all memory.
     fn begin(alloc: Global) -> Result<Attempts, AllocError> {
-        let memory = Memory::take(alloc)?;
-        Ok(Attempts {
-            memory,
-            is_refused: false,
-        })
+        let (memory, is_refused) = (Memory::take(alloc)?, false);
+        Ok(Attempts { memory, is_refused })
     }
 
     /// Ends a refused attempt, which must keep its arguments, and frees a little memory.
@@ -61,15 +58,6 @@ impl Attempts {
         self.is_refused = true;
         self.memory.free_block();
         Ok(())
-    }
-
-    /// Ends an attempt that must fail with a fault that is shown as that text, and otherwise does
-    /// the same as `refuse`.
-    fn refuse_by<E: Debug>(&mut self, fault: &E, refusal: &str, is_kept: bool) -> TestResult {
-        if !is_shown(fault, refusal) {
-            return Err(Fail::new("a call fails by another fault than that of memory"));
-        }
-        self.refuse(is_kept)
     }
 
     /// Ends an attempt that was not refused: it must be right, and not the first.
@@ -113,29 +101,31 @@ pub fn refuses_given<T: Debug + Drop, R: Made, F: Fn(T) -> Result<R, Refused<T>>
     attempts.give_up()
 }
 
-/// Asserts that a call is refused at first, fails with "out of memory" and leaves its borrowed
-/// argument unchanged each time, and has a right result once it is no longer refused.
-pub fn refuses_lent<T, R, E, F>(alloc: Global, mut lent: T, call: F) -> TestResult
+/// Asserts the same as [`refuses_given`] for a call that also borrows a value, which must stay.
+pub fn refuses_pushed<L: Debug + Drop, T: Debug + Drop, R: Made, F>(
+    alloc: Global,
+    lent: L,
+    given: T,
+    call: F,
+) -> TestResult
 where
-    T: Debug + Drop,
-    R: Made,
-    E: From<AllocError> + Debug + Drop,
-    F: Fn(&mut T) -> Result<R, E>,
+    F: Fn(&mut L, T) -> Result<R, Refused<T>>,
     requires { F.IsAlwaysCallable call }
 {
-    let (shown, refusal) = (shown_of(alloc, &lent)?, refusal_of::<E>(alloc)?);
-    let mut attempts = Attempts::begin(alloc)?;
-    for _ in 0..MOST_ATTEMPTS {
-        match call(&mut lent) {
-            Ok(made) => return attempts.end(made.is_right()),
-            Err(fault) => attempts.refuse_by(&fault, &refusal, is_shown(&lent, &shown))?,
+    let moved = |(mut lent, given): (L, T)|
+        requires { F.IsAlwaysCallable call }
+    {
+        match call(&mut lent, given) {
+            Ok(made) => Ok(made),
+            Err(Refused { back }) => Err(Refused { back: (lent, back) }),
         }
-    }
-    attempts.give_up()
+    };
+    refuses_given(alloc, (lent, given), moved)
 }
 
-/// Asserts the same as [`refuses_lent`] for an argument that no text shows, and that `is_kept`
-/// checks.
+/// Asserts that a call is refused at first, fails with "out of memory" and leaves its borrowed
+/// argument unchanged each time, as `is_kept` checks, and has a right result once it is no longer
+/// refused.
 pub fn refuses_kept<T, R, E, K, F>(alloc: Global, mut lent: T, is_kept: K, call: F) -> TestResult
 where
     T: Drop,
@@ -146,38 +136,43 @@ where
     requires test { K.IsAlwaysCallable is_kept }
     requires call { F.IsAlwaysCallable call }
 {
-    let refusal = refusal_of::<E>(alloc)?;
+    let refusal = shown_of(alloc, &E::from(AllocError))?;
     let mut attempts = Attempts::begin(alloc)?;
     for _ in 0..MOST_ATTEMPTS {
         match call(&mut lent) {
             Ok(made) => return attempts.end(made.is_right()),
-            Err(fault) => attempts.refuse_by(&fault, &refusal, is_kept(&lent))?,
+            Err(fault) if is_shown(&fault, &refusal) => attempts.refuse(is_kept(&lent))?,
+            Err(_) => return Err(Fail::new("a call fails by another fault than that of memory")),
         }
     }
     attempts.give_up()
 }
 
-/// Asserts that a call without arguments is refused at first, fails with "out of memory" each time,
-/// and has a right result once it is no longer refused.
+/// Asserts the same as [`refuses_kept`] for an argument that a text shows.
+pub fn refuses_lent<T, R, E, F>(alloc: Global, lent: T, call: F) -> TestResult
+where
+    T: Debug + Drop,
+    R: Made,
+    E: From<AllocError> + Debug + Drop,
+    F: Fn(&mut T) -> Result<R, E>,
+    requires { F.IsAlwaysCallable call }
+{
+    let shown = shown_of(alloc, &lent)?;
+    refuses_kept(alloc, lent, |lent: &T| is_shown(lent, &shown), call)
+}
+
+/// Asserts the same for a call without arguments.
 pub fn refuses<R: Made, E: From<AllocError> + Debug + Drop, F: Fn() -> Result<R, E>>(
     alloc: Global,
     call: F,
 ) -> TestResult
     requires { F.IsAlwaysCallable call }
 {
-    let refusal = refusal_of::<E>(alloc)?;
-    let mut attempts = Attempts::begin(alloc)?;
-    for _ in 0..MOST_ATTEMPTS {
-        match call() {
-            Ok(made) => return attempts.end(made.is_right()),
-            Err(fault) => attempts.refuse_by(&fault, &refusal, true)?,
-        }
-    }
-    attempts.give_up()
+    refuses_kept(alloc, (), |_: &()| true, |_: &mut ()| call())
 }
 
-/// Asserts the same as [`refuses`] for a call that consumes its argument and does not return it.
-/// Each attempt takes another of these values, which were made while there was memory.
+/// Asserts the same for a call that consumes its argument and does not return it. Each attempt
+/// takes another of these values, which were made while there was memory.
 pub fn refuses_taken<T, R, E, F>(alloc: Global, values: Vec<T>, call: F) -> TestResult
 where
     T: Drop,
@@ -186,15 +181,15 @@ where
     F: Fn(T) -> Result<R, E>,
     requires { F.IsAlwaysCallable call }
 {
-    let refusal = refusal_of::<E>(alloc)?;
-    let mut attempts = Attempts::begin(alloc)?;
-    for value in values {
-        match call(value) {
-            Ok(made) => return attempts.end(made.is_right()),
-            Err(fault) => attempts.refuse_by(&fault, &refusal, true)?,
-        }
-    }
-    attempts.give_up()
+    refuses_kept(
+        alloc,
+        values,
+        |_: &Vec<T>| true,
+        |values: &mut Vec<T>| match values.pop() {
+            Some(value) => call(value),
+            None => Err(E::from(AllocError)),
+        },
+    )
 }
 
 /// Asserts that copies of the value are refused at first, and that the first copy is shown like the
@@ -207,17 +202,7 @@ pub fn refuses_copy<T: Debug + Drop, F: Fn(&T) -> Result<T, AllocError>>(
     requires { F.IsAlwaysCallable copy }
 {
     let shown = shown_of(alloc, &value)?;
-    let mut attempts = Attempts::begin(alloc)?;
-    for _ in 0..MOST_ATTEMPTS {
-        match copy(&value) {
-            Ok(copied) => return attempts.end(is_shown(&copied, &shown)),
-            Err(AllocError) => attempts.refuse(is_shown(&value, &shown))?,
-        }
-    }
-    attempts.give_up()
-}
-
-/// Returns the text that shows a failed allocation.
-fn refusal_of<E: From<AllocError> + Debug + Drop>(alloc: Global) -> Result<String, AllocError> {
-    shown_of(alloc, &E::from(AllocError))
+    refuses_lent(alloc, value, |value: &mut T| -> Result<bool, AllocError> {
+        Ok(is_shown(&copy(value)?, &shown))
+    })
 }

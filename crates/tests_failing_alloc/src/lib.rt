@@ -14,6 +14,7 @@ mod memory;
 mod shown;
 
 pub use attempts::{
-    Made, SPARES, refuses, refuses_copy, refuses_given, refuses_kept, refuses_lent, refuses_taken,
+    Made, SPARES, refuses, refuses_copy, refuses_given, refuses_kept, refuses_lent, refuses_pushed,
+    refuses_taken,
 };
 pub use shown::{is_shown, shown_of};

@@ -1,8 +1,8 @@
-//! Tests of elements made from arguments, and of refused growths of memory, over public calls. The
-//! rows of `tests_rows` say what items become.
+//! Tests of the faults of construction, and of refused growths of memory, over public calls. The
+//! rows of `tests_rows` say what is constructed, and what items become.
 #![tactic(auto)]
 
 #[cfg(test)]
-mod construction;
+mod faults;
 #[cfg(test)]
 mod growths;

@@ -2,10 +2,11 @@
 
 use html_names::room::push_compact;
 use html_names::text_writer::TextWriter;
-use html_names::{HtmlAttr, HtmlTag, NameTable, Refused, attr, laws, tag};
+use html_names::{HtmlAttr, HtmlTag, NameTable, attr, laws, tag};
 use std::alloc::{AllocError, Global};
+use std::fmt::{self, Debug};
 use tests_asserts::TestResult;
-use tests_failing_alloc::{refuses, refuses_copy, refuses_given, refuses_kept};
+use tests_failing_alloc::{Made, refuses, refuses_copy, refuses_kept, refuses_pushed};
 
 /// The number of letters that fill the text of a `TextWriter` that got them one by one.
 const FULL: usize = 32;
@@ -35,6 +36,11 @@ fn has_first_names(table: &NameTable) -> bool {
         && *table.attr_at(0) == attr::class
 }
 
+/// Returns whether no other name has a number.
+fn has_no_more(table: &NameTable) -> bool {
+    has_first_names(table) && table.tags() == 1 && table.attrs() == 1
+}
+
 /// Returns a table in which `p` and `class` have numbers.
 fn table_of(alloc: Global) -> Result<NameTable, AllocError> {
     let mut table = NameTable::new(alloc);
@@ -43,77 +49,53 @@ fn table_of(alloc: Global) -> Result<NameTable, AllocError> {
     Ok(table)
 }
 
-/// The calls on a table: one that numbers a name, and the laws of numbers.
-const CALLS: [u8; 4] = [0, 1, 2, 3];
-
-/// Returns whether a refused call leaves the numbered names, and one that requests a number adds
-/// none.
-fn is_kept(call: u8, table: &NameTable) -> bool {
-    has_first_names(table) && (call > 0 || table.tags() == 1 && table.attrs() == 1)
+/// Asserts that a law, which requests numbers, is refused at first, and leaves the numbered names.
+fn assert_law<R: Made, F: Fn(&mut NameTable) -> Result<R, AllocError>>(
+    alloc: Global,
+    law: F,
+) -> TestResult
+    requires { F.IsAlwaysCallable law }
+{
+    refuses_kept(alloc, table_of(alloc)?, has_first_names, law)
 }
 
 #[test]
 fn numbered_tags(rt: HostRuntime) -> TestResult {
     let (alloc, one) = (rt.alloc(), HtmlTag::intern(rt.alloc(), "x-one")?);
     let two = HtmlTag::intern(alloc, "x-two")?;
-    for call in CALLS {
-        let is_kept = |table: &NameTable| is_kept(call, table);
-        refuses_kept(alloc, table_of(alloc)?, is_kept, |table| match call {
-            0 => Ok(table.tag(&one)? == 1),
-            1 => Ok(!laws::equal_tag_numbers(table, &one, &two)?),
-            2 => laws::tag_number_stays(table, &one, &two),
-            _ => laws::tag_at_number(table, &one),
-        })?;
-    }
-    Ok(())
+    refuses_kept(alloc, table_of(alloc)?, has_no_more, |table| {
+        table.tag(&one).map(|number| number == 1)
+    })?;
+    assert_law(
+        alloc,
+        |table| laws::equal_tag_numbers(table, &one, &two).map(|same| !same),
+    )?;
+    assert_law(alloc, |table| laws::tag_number_stays(table, &one, &two))?;
+    assert_law(alloc, |table| laws::tag_at_number(table, &one))
 }
 
 #[test]
 fn numbered_attributes(rt: HostRuntime) -> TestResult {
     let (alloc, one) = (rt.alloc(), HtmlAttr::intern(rt.alloc(), "data-x")?);
     let two = HtmlAttr::intern(alloc, "data-y")?;
-    for call in CALLS {
-        let is_kept = |table: &NameTable| is_kept(call, table);
-        refuses_kept(alloc, table_of(alloc)?, is_kept, |table| match call {
-            0 => Ok(table.attr(&one)? == 1),
-            1 => Ok(!laws::equal_attr_numbers(table, &one, &two)?),
-            2 => laws::attr_number_stays(table, &one, &two),
-            _ => laws::attr_at_number(table, &one),
-        })?;
-    }
-    Ok(())
+    refuses_kept(alloc, table_of(alloc)?, has_no_more, |table| {
+        table.attr(&one).map(|number| number == 1)
+    })?;
+    assert_law(
+        alloc,
+        |table| laws::equal_attr_numbers(table, &one, &two).map(|same| !same),
+    )?;
+    assert_law(alloc, |table| laws::attr_number_stays(table, &one, &two))?;
+    assert_law(alloc, |table| laws::attr_at_number(table, &one))
 }
 
-/// A table, and a tag and the name of an attribute for it.
-type Inserted = (NameTable, Option<HtmlTag>, Option<HtmlAttr>);
+/// A table without names that is shown by how many names it has.
+#[derive(Drop)]
+struct Names(NameTable);
 
-/// Returns whether no name has a number, and one is left.
-fn is_left((table, tag, attr): &Inserted) -> bool {
-    let tag = tag.as_ref().is_some_and(|tag| tag.resolve() == OWN_NAME);
-    let attr = attr.as_ref().is_some_and(|attr| attr.resolve() == OWN_NAME);
-    table.tags() == 0 && table.attrs() == 0 && (tag || attr)
-}
-
-/// Moves a name into the table, and returns whether it has the right number there.
-fn inserts((table, tag, attr): &mut Inserted) -> Result<bool, AllocError> {
-    if let Some(name) = tag.take() {
-        return match table.insert_tag(name) {
-            Ok(number) => Ok(number == 0),
-            Err(Refused { back }) => {
-                *tag = Some(back);
-                Err(AllocError)
-            }
-        };
-    }
-    let Some(name) = attr.take() else {
-        return Ok(false);
-    };
-    match table.insert_attr(name) {
-        Ok(number) => Ok(number == 0),
-        Err(Refused { back }) => {
-            *attr = Some(back);
-            Err(AllocError)
-        }
+impl Debug for Names {
+    fn fmt<W: fmt::Write>(&self, f: &mut fmt::Formatter<W>) -> fmt::Result {
+        write!(f, "{} tags, {} attributes", self.0.tags(), self.0.attrs())
     }
 }
 
@@ -121,32 +103,22 @@ fn inserts((table, tag, attr): &mut Inserted) -> Result<bool, AllocError> {
 #[test]
 fn inserted_names(rt: HostRuntime) -> TestResult {
     let (alloc, tag) = (rt.alloc(), HtmlTag::intern(rt.alloc(), OWN_NAME)?);
-    refuses_kept(
+    refuses_pushed(
         alloc,
-        (NameTable::new(alloc), Some(tag), None),
-        is_left,
-        inserts,
+        Names(NameTable::new(alloc)),
+        tag,
+        |names: &mut Names, tag| { names.0.insert_tag(tag).map(|number| number == 0) },
     )?;
     let attr = HtmlAttr::intern(alloc, OWN_NAME)?;
-    refuses_kept(
+    refuses_pushed(
         alloc,
-        (NameTable::new(alloc), None, Some(attr)),
-        is_left,
-        inserts,
+        Names(NameTable::new(alloc)),
+        attr,
+        |names: &mut Names, attr| { names.0.insert_attr(attr).map(|number| number == 0) },
     )
 }
 
-/// A list, and a text to append to it.
-type Appended = (Vec<String>, String);
-
-fn appends((mut list, text): Appended) -> Result<bool, Refused<Appended>> {
-    match push_compact(&mut list, text) {
-        Ok(()) => Ok(list.len() > 1 || list.capacity() == 1),
-        Err(Refused { back }) => Err(Refused { back: (list, back) }),
-    }
-}
-
-/// Appends to a list that is empty, and to one that is full.
+/// Appends to a list that is empty, which gets room for one, and to one that is full.
 #[test]
 fn appended_values(rt: HostRuntime) -> TestResult {
     let alloc = rt.alloc();
@@ -154,7 +126,10 @@ fn appended_values(rt: HostRuntime) -> TestResult {
         Vec::new(alloc),
         vec![in alloc; String::from_str(alloc, "first")?]?,
     ] {
-        refuses_given(alloc, (list, String::from_str(alloc, "held")?), appends)?;
+        let text = String::from_str(alloc, "held")?;
+        refuses_pushed(alloc, list, text, |list: &mut Vec<String>, text| {
+            push_compact(list, text).map(|_| list.len() > 1 || list.capacity() == 1)
+        })?;
     }
     Ok(())
 }

@@ -6,6 +6,6 @@
 #[cfg(test)]
 mod displays;
 #[cfg(test)]
-mod growths;
+mod faults;
 #[cfg(test)]
-mod interning;
+mod growths;

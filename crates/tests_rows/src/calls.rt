@@ -8,6 +8,11 @@
 //!
 //! - `attribute`: `known`, `handler`, both or `-`
 //!
+//! For values and arguments, which `tests_rows_values` spells:
+//!
+//! - `cast`: the result of a cast, and `castable` if the type is for a value that it refuses
+//! - `construct`: the constructed element, or the fault, and the spans of the arguments left
+//!
 //! For an address:
 //!
 //! - `address`: `script` or `-`
@@ -74,6 +79,7 @@ use crate::{checks, documents, kinds, lists, nodes, pages, replies, runs};
 use anyhow::Result;
 use std::alloc::Global;
 use tests_rows_run::{Caller, Row};
+use tests_rows_values::{cast, constructed};
 
 #[derive(Clone, Copy)]
 pub(crate) struct Library;
@@ -91,6 +97,8 @@ impl Caller for Library {
             "fragment-text" => documents::fragment_text(alloc, row),
             "kinds" => kinds::of_name(alloc, row),
             "attribute" => kinds::of_attribute(alloc, row),
+            "cast" => cast(alloc, &row.input),
+            "construct" => constructed(alloc, &row.input),
             "address" => checks::is_script(alloc, row),
             "decoded-fragment" => checks::decoded_name(alloc, row),
             "place-in" => checks::place_name(alloc, row),
@@ -112,14 +120,8 @@ impl Caller for Library {
             "dead-fragments" => checks::dead_fragment_list(alloc, row),
             "repeated-ids" => checks::repeated_id_list(alloc, row),
             "misnested" => checks::misnested_list(alloc, row),
-            "c-check"
-            | "c-dead-links"
-            | "c-document"
-            | "c-fragment"
-            | "c-links"
-            | "c-unused"
-            | "c-write" => replies::reply(alloc, row, call),
             "c-version" => replies::version(alloc),
+            call if call.starts_with("c-") => replies::reply(alloc, row, call),
             _ => runs::output(alloc, row),
         }
     }

@@ -2,8 +2,8 @@
 
 use crate::documents::{document_of, linked_of, separate};
 use crate::pages::root_of;
-use anyhow::{Context, Result, ensure};
-use html_anchors::{DeadLink, dead_links, ids_are_distinct};
+use anyhow::{Result, bail, ensure};
+use html_anchors::{dead_links, ids_are_distinct};
 use html_dom_document::HtmlDocument;
 use html_links::{decoded_fragment, href_is_script, place_in};
 use html_page_findings::{dead_fragments, repeated_ids};
@@ -11,6 +11,7 @@ use html_page_nesting::{misnested, report_misnested_of};
 use serde_json::Value;
 use std::alloc::Global;
 use std::collections::BTreeSet;
+use tests_rows_items::{list_of, string_of, text_of};
 use tests_rows_run::Row;
 
 /// Returns the dead links, and after them those that are left without an `href` once links are
@@ -27,26 +28,18 @@ pub(crate) fn dead_link_list(alloc: Global, row: &Row<'_>) -> Result<String> {
 fn dead_links_of(alloc: Global, document: HtmlDocument) -> Result<String> {
     let mut links = String::new(alloc);
     for link in &dead_links(alloc, &document)? {
-        add_link(&mut links, link)?;
+        separate(&mut links)?;
+        write!(links, "{} to {}", link.span.0, link.dest.0)?;
     }
     Ok(links)
 }
 
-fn add_link(text: &mut String, link: &DeadLink) -> Result<()> {
-    separate(text)?;
-    Ok(write!(text, "{} to {}", link.span.0, link.dest.0)?)
-}
-
 /// The result must be the same before and after links get an `href`.
 pub(crate) fn have_distinct_ids(alloc: Global, row: &Row<'_>) -> Result<String> {
-    let before = are_distinct_in(alloc, document_of(alloc, row)?)?;
-    let after = are_distinct_in(alloc, linked_of(alloc, row)?)?;
+    let before = ids_are_distinct(alloc, &document_of(alloc, row)?)?;
+    let after = ids_are_distinct(alloc, &linked_of(alloc, row)?)?;
     ensure!(before == after, "with links: {after}");
     Ok(format!(in alloc; "{before}")?)
-}
-
-fn are_distinct_in(alloc: Global, document: HtmlDocument) -> Result<bool> {
-    Ok(ids_are_distinct(alloc, &document)?)
 }
 
 pub(crate) fn dead_fragment_list(alloc: Global, row: &Row<'_>) -> Result<String> {
@@ -82,19 +75,14 @@ pub(crate) fn misnested_list(alloc: Global, row: &Row<'_>) -> Result<String> {
 /// names of all places.
 pub(crate) fn place_name(alloc: Global, row: &Row<'_>) -> Result<String> {
     let value = Value::from_slice(alloc, &row.input)?;
-    let texts = value.as_array().context("no list")?;
+    let [href, rest @ ..] = list_of(&value)? else {
+        bail!("an address is wanted");
+    };
     let mut names = BTreeSet::new(alloc);
-    let mut href = None;
-    for text in texts {
-        let text = text.as_str().context("no text")?;
-        match href {
-            None => href = Some(text),
-            Some(_) => {
-                let _ = names.insert(text.to_string(alloc)?)?;
-            }
-        }
+    for text in rest {
+        let _ = names.insert(string_of(alloc, text)?)?;
     }
-    or_none(alloc, place_in(alloc, href.context("no address")?, &names)?)
+    or_none(alloc, place_in(alloc, text_of(href)?, &names)?)
 }
 
 pub(crate) fn decoded_name(alloc: Global, row: &Row<'_>) -> Result<String> {
@@ -102,18 +90,15 @@ pub(crate) fn decoded_name(alloc: Global, row: &Row<'_>) -> Result<String> {
 }
 
 fn or_none(alloc: Global, name: Option<String>) -> Result<String> {
-    match name {
-        Some(name) => Ok(name),
-        None => Ok("-".to_string(alloc)?),
-    }
+    Ok(name.unwrap_or("-".to_string(alloc)?))
 }
 
 /// Returns whether an address is a script.
 pub(crate) fn is_script(alloc: Global, row: &Row<'_>) -> Result<String> {
-    let answer = if href_is_script(row.text()?) {
+    let name = if href_is_script(row.text()?) {
         "script"
     } else {
         "-"
     };
-    Ok(answer.to_string(alloc)?)
+    Ok(name.to_string(alloc)?)
 }

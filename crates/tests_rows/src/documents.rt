@@ -5,7 +5,7 @@ ghost use Rattle.std.specs.Prelude.{◌≤◌};
 use crate::runs::{PLAIN, inner_text};
 use anyhow::{Context, Result, bail, ensure};
 use html_anchors::resolve_links;
-use html_dom_document::{DocumentInfo, HtmlDocument, HtmlIntrospector};
+use html_dom_document::{DocumentInfo, HtmlDocument};
 use html_dom_tree::Location;
 use html_flow_convert::{ConversionLevel, is_depth_limit};
 use serde_json::Value;
@@ -84,13 +84,6 @@ fn spelled_in(alloc: Global, json: &[u8]) -> Result<SpelledDocument> {
     })
 }
 
-fn text_or_refusal(alloc: Global, text: Result<String, ExportFault>) -> Result<String> {
-    match text {
-        Ok(text) => inner_text(alloc, &text, PLAIN),
-        Err(fault) => refusal(alloc, &fault),
-    }
-}
-
 /// Returns the words for a refusal: its number and span, the name of an element that is not alone,
 /// and the spans of further footnotes.
 fn refusal(alloc: Global, fault: &ExportFault) -> Result<String> {
@@ -98,10 +91,8 @@ fn refusal(alloc: Global, fault: &ExportFault) -> Result<String> {
     match fault {
         ExportFault::NotAlone { tag, .. } => write!(text, " {tag}")?,
         ExportFault::Footnotes { spans } => {
-            if let [_, more @ ..] = spans.as_slice() {
-                for span in more {
-                    write!(text, " {}", span.0)?;
-                }
+            for span in spans.iter().skip(1) {
+                write!(text, " {}", span.0)?;
             }
         }
         _ => {}
@@ -128,7 +119,10 @@ pub(crate) fn text(alloc: Global, row: &Row<'_>, linked: bool) -> Result<String>
             alloc, items, info, head, footnotes, *limit, &options, &frames,
         )
     };
-    text_or_refusal(alloc, text)
+    match text {
+        Ok(text) => inner_text(alloc, &text, PLAIN),
+        Err(fault) => refusal(alloc, &fault),
+    }
 }
 
 /// Returns the text of items by themselves, or the refusal.
@@ -148,45 +142,28 @@ pub(crate) fn fragment_text(alloc: Global, row: &Row<'_>) -> Result<String> {
 }
 
 pub(crate) fn anchors(alloc: Global, row: &Row<'_>) -> Result<String> {
-    anchors_of(alloc, document_of(alloc, row)?.introspector())
-}
-
-fn anchors_of(alloc: Global, introspector: &HtmlIntrospector) -> Result<String> {
-    let mut anchors = String::new(alloc);
-    for location in &introspector.link_targets()? {
-        if let Some(anchor) = introspector.anchor(*location) {
-            add_anchor(&mut anchors, *location, anchor)?;
+    let (document, mut anchors) = (document_of(alloc, row)?, String::new(alloc));
+    for location in &document.introspector().link_targets()? {
+        if let Some(anchor) = document.introspector().anchor(*location) {
+            separate(&mut anchors)?;
+            write!(anchors, "{} {anchor}", location.0)?;
         }
     }
     Ok(anchors)
 }
 
-fn add_anchor(text: &mut String, location: Location, anchor: &str) -> Result<()> {
-    separate(text)?;
-    Ok(write!(text, "{} {anchor}", location.0)?)
-}
-
 pub(crate) fn positions(alloc: Global, row: &Row<'_>) -> Result<String> {
-    positions_of(alloc, document_of(alloc, row)?.introspector())
-}
-
-fn positions_of(alloc: Global, introspector: &HtmlIntrospector) -> Result<String> {
-    let mut positions = String::new(alloc);
+    let (document, mut positions) = (document_of(alloc, row)?, String::new(alloc));
     for number in 0..LOCATIONS {
-        if let Some(position) = introspector.position(Location(number)) {
-            add_path(&mut positions, number, position.path())?;
+        if let Some(position) = document.introspector().position(Location(number)) {
+            separate(&mut positions)?;
+            write!(positions, "{number} at")?;
+            for index in position.path() {
+                write!(positions, " {index}")?;
+            }
         }
     }
     Ok(positions)
-}
-
-fn add_path(text: &mut String, number: u64, path: &[usize]) -> Result<()> {
-    separate(text)?;
-    write!(text, "{number} at")?;
-    for index in path {
-        write!(text, " {index}")?;
-    }
-    Ok(())
 }
 
 pub(crate) fn separate(text: &mut String) -> Result<()> {

@@ -8,7 +8,7 @@
 //! notes and of the page are, and that of any other element by `into_items`.
 
 use crate::runs::{PLAIN, inner_text};
-use anyhow::{Context, Result, bail, ensure};
+use anyhow::{Result, bail, ensure};
 use html_dom_document::DocumentInfo;
 use html_dom_tree::{HtmlElement, HtmlNode, Span};
 use html_flow_convert::{HtmlElem, Pair, makes_block};
@@ -17,7 +17,7 @@ use html_names_core::{HtmlAttr, HtmlTag, tag};
 use html_page_text::{PageText, Shown, page_text};
 use serde_json::Value;
 use std::alloc::Global;
-use tests_rows_items::items_of;
+use tests_rows_items::{items_of, list_of, text_of};
 use tests_rows_run::Row;
 use typst_html_encode::HtmlOptions;
 use typst_html_export::export_linked;
@@ -49,7 +49,7 @@ fn exported(alloc: Global, row: &Row<'_>) -> Result<String> {
     let mut notes = Notes::new(alloc);
     let mut list = ItemList::new(alloc).spanned(Span(1));
     let calls = Value::from_slice(alloc, &row.input)?;
-    add_all(array(&calls)?, alloc, &mut list, &mut notes)?;
+    add_all(list_of(&calls)?, alloc, &mut list, &mut notes)?;
     let (items, section) = (list.into_block_items(), notes.section()?);
     let (info, options) = (DocumentInfo::new(alloc), HtmlOptions::default());
     Ok(export_linked(alloc, &items, &info, &section, DEPTH_LIMIT, &options, &())?)
@@ -199,12 +199,12 @@ fn element_of(
     css: &[Value],
 ) -> Result<HtmlElem> {
     let mut element = list.new_element(HtmlTag::intern(alloc, text_of(tag)?)?);
-    for attr in array(attrs)? {
+    for attr in list_of(attrs)? {
         let (name, value) = two_texts(attr)?;
         element = element.with_attr_text(HtmlAttr::intern(alloc, name)?, value)?;
     }
     for properties in css {
-        for property in array(properties)? {
+        for property in list_of(properties)? {
             let (name, value) = two_texts(property)?;
             element.css.push(name, value.to_string(alloc)?)?;
         }
@@ -213,16 +213,8 @@ fn element_of(
 }
 
 fn two_texts(value: &Value) -> Result<(&str, &str)> {
-    let [name, value] = array(value)? else {
+    let [name, value] = list_of(value)? else {
         bail!("a name and a value are wanted");
     };
     Ok((text_of(name)?, text_of(value)?))
-}
-
-fn text_of(value: &Value) -> Result<&str> {
-    value.as_str().context("a text is wanted")
-}
-
-fn array(value: &Value) -> Result<&[Value]> {
-    Ok(value.as_array().context("a list is wanted")?.as_slice())
 }

@@ -45,7 +45,8 @@ pub(crate) fn output(alloc: Global, row: &Row<'_>) -> Result<String> {
         Status::Done => inner_text(alloc, &text, frame_of(&row.words)),
         Status::Refused => {
             let refusal = text.strip_prefix("refused: ").context("no refusal")?;
-            Ok(format!(in alloc; "refused {}", line(refusal)?)?)
+            let line = refusal.strip_suffix('\n').context("no line")?;
+            Ok(format!(in alloc; "refused {line}")?)
         }
         Status::BadInput => {
             ensure!(text.as_str() == "bad input\n", "{text}");
@@ -83,10 +84,6 @@ fn words_of(alloc: Global, row: &Row<'_>) -> Result<Vec<String>> {
         words.push(String::from_str(alloc, word)?)?;
     }
     Ok(words)
-}
-
-fn line(text: &str) -> Result<&str> {
-    text.strip_suffix('\n').context("no line")
 }
 
 /// Returns the text around the part that is compared.

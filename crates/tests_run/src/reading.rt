@@ -3,6 +3,7 @@
 
 use std::alloc::Global;
 use std::process::Abort;
+use tests_asserts::TestResult;
 use tests_reading::{reads_again, reads_same};
 use typst_html::{HtmlElement, Place, ReadFault, read_html};
 
@@ -10,14 +11,13 @@ use typst_html::{HtmlElement, Place, ReadFault, read_html};
 const DEEPEST: usize = 10_000;
 
 #[test]
-fn the_deepest_text_is_read(rt: HostRuntime) {
-    let mut page = String::from_str(rt.alloc(), "<!DOCTYPE html>").expect(&rt, "memory for a page");
-    for tag in ["<p>", "</p>"] {
-        for _ in 0..DEEPEST {
-            page.push_str(tag).expect(&rt, "memory for a page");
-        }
-    }
-    assert!(rt; reads_same(rt.alloc(), &page));
+fn the_deepest_text_is_read(rt: HostRuntime) -> TestResult {
+    let alloc = rt.alloc();
+    let mut page = String::from_str(alloc, "<!DOCTYPE html>")?;
+    page.push_str(&"<p>".repeat(alloc, DEEPEST)?)?;
+    page.push_str(&"</p>".repeat(alloc, DEEPEST)?)?;
+    assert!(rt; reads_same(alloc, &page));
+    Ok(())
 }
 
 #[test]

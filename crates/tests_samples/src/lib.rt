@@ -12,4 +12,4 @@ mod nodes;
 
 pub use documents::{document_of, info_of, locale_of, output_of};
 pub use frames::{frame_of, group_of, html_frame_of, point, start, start_of};
-pub use nodes::{attrs_of, css_of, element_of, id_of, inner_of, nested, text_of};
+pub use nodes::{css_of, element_of, id_of, inner_of, nested, text_of};

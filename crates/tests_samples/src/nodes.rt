@@ -2,22 +2,9 @@
 
 use crate::frames::{html_frame_of, start_of};
 use html_dom_tree::{HtmlAttrs, HtmlElement, HtmlNode, Span};
-use html_names_core::{HtmlAttr, HtmlTag, attr, tag};
+use html_names_core::{HtmlTag, attr, tag};
 use html_values_css::Properties;
 use std::alloc::{AllocError, Global};
-use std::test::Fail;
-
-/// Returns the attributes of these names and values, pushed in that order.
-pub fn attrs_of(alloc: Global, pairs: &[(&str, &str)]) -> Result<HtmlAttrs, Fail> {
-    let mut list = HtmlAttrs::new(alloc);
-    for (name, value) in pairs {
-        list.push(
-            HtmlAttr::intern(alloc, name)?,
-            String::from_str(alloc, value)?,
-        )?;
-    }
-    Ok(list)
-}
 
 /// Returns a list of one pair, without room for more.
 pub fn id_of(alloc: Global, text: &str) -> Result<HtmlAttrs, AllocError> {

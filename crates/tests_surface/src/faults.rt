@@ -1,16 +1,55 @@
-//! Numbers, spans and texts of faults, and the faults that `?` makes of those of the layers below.
+//! Numbers, spans and texts of faults, also of those that `?` makes of faults of the layers below.
+//! Rows of `tests_rows` show those of all refusals of pages but one (`as-browsers`, `c-check`).
 
 use html_page::{PageFault, PageRefusal};
-use std::alloc::{AllocError, AllocFailed};
-use std::test::Fail;
-use tests_asserts::assert_text;
+use std::alloc::Global;
+use tests_asserts::{TestResult, assert_text};
 use typst_html::{
     CastFault, ConstructFault, ExportFault, FlowFault, FrameFault, NameFault, NameTable, Place,
-    ReadFault, Refused, Span,
+    ReadFault, Refused, Span, tag,
 };
-use typst_html_run::{Fault, WriteFailed};
+use typst_html_run::WriteFailed;
 
-/// The faults made of those of the layers below: numbers, spans and texts.
+/// Asserts the number, the span and the text of each fault.
+fn assert_faults(alloc: Global, faults: &[ExportFault], wanted: &str) -> TestResult {
+    let mut shown = String::new(alloc);
+    for fault in faults {
+        write!(shown, "{} at {}: {fault}\n", fault.number(), fault.span().0)?;
+    }
+    assert_text(&shown, wanted)
+}
+
+const OWN: &str = "\
+    0 at 0: out of memory\n\
+    8 at 7: items are nested too deeply\n\
+    9 at 7: this element must be the only element in the document\n\
+    11 at 7: a character cannot be encoded in HTML\n\
+    12 at 7: HTML void elements must not have children\n\
+    13 at 7: HTML raw text element cannot have non-text children\n\
+    14 at 7: HTML raw text element cannot contain its own closing tag\n\
+    15 at 7: a frame was refused by its writer\n\
+    10 at 7: footnotes are not supported with a custom root element\n\
+    10 at 0: footnotes are not supported with a custom root element\n";
+
+#[test]
+fn faults_of_writing(rt: HostRuntime) -> TestResult {
+    let (span, tag, c, none) = (Span(7), tag::body, '\0', Vec::new(rt.alloc()));
+    let spans = vec![in rt.alloc(); span, Span(8)]?;
+    let faults = [
+        ExportFault::OutOfMemory,
+        ExportFault::TooDeep { span },
+        ExportFault::NotAlone { tag, span },
+        ExportFault::Unencodable { c, span },
+        ExportFault::VoidChildren { span },
+        ExportFault::RawChild { span },
+        ExportFault::RawClosing { span },
+        ExportFault::FrameRefused { span },
+        ExportFault::Footnotes { spans },
+        ExportFault::Footnotes { spans: none },
+    ];
+    assert_faults(rt.alloc(), &faults, OWN)
+}
+
 const MADE: &str = "\
     8 at 7: items are nested too deeply\n\
     15 at 0: a frame was refused by its writer\n\
@@ -20,9 +59,9 @@ const MADE: &str = "\
     18 at 5: arguments could not be cast\n";
 
 #[test]
-fn faults_of_the_layers_below(rt: HostRuntime) -> Result<(), Fail> {
-    let (mut shown, span) = (String::new(rt.alloc()), Span(7));
-    let casts = vec![in rt.alloc(); (CastFault::NumberRange, Span(5))]?;
+fn faults_of_the_layers_below(rt: HostRuntime) -> TestResult {
+    let (alloc, span) = (rt.alloc(), Span(7));
+    let casts = vec![in alloc; (CastFault::NumberRange, Span(5))]?;
     let faults = [
         ExportFault::from(FlowFault::TooDeep { span }),
         ExportFault::from(FrameFault::Refused),
@@ -31,128 +70,58 @@ fn faults_of_the_layers_below(rt: HostRuntime) -> Result<(), Fail> {
         ExportFault::from(ConstructFault::BodyKind { span }),
         ExportFault::from(ConstructFault::Casts(casts)),
     ];
-    for fault in &faults {
-        write!(shown, "{} at {}: {fault}\n", fault.number(), fault.span().0)?;
-    }
-    assert_text(&shown, MADE)
+    assert_faults(alloc, &faults, MADE)
 }
 
-#[test]
-fn want_of_memory_is_one_fault(rt: HostRuntime) {
-    let faults = [
-        ExportFault::from(AllocError),
-        ExportFault::from(AllocFailed { value: 1u8 }),
-        ExportFault::from(Refused { back: 1u8 }),
-        ExportFault::from(NameFault::from(AllocError)),
-        ExportFault::from(NameFault::from(AllocFailed { value: 1u8 })),
-        ExportFault::from(NameFault::from(Refused { back: 1u8 })),
-        ExportFault::from(CastFault::from(AllocError)),
-        ExportFault::from(CastFault::from(AllocFailed { value: 1u8 })),
-        ExportFault::from(CastFault::from(Refused { back: 1u8 })),
-        ExportFault::from(FlowFault::OutOfMemory),
-        ExportFault::from(ConstructFault::OutOfMemory),
-        ExportFault::from(FrameFault::OutOfMemory),
-    ];
-    for fault in &faults {
-        assert!(rt; *fault == ExportFault::OutOfMemory);
-    }
-    assert!(rt; Fault::from(Refused { back: 1u8 }) == Fault::OutOfMemory);
-    assert!(rt; ReadFault::from(AllocError) == ReadFault::OutOfMemory);
-    assert!(rt; ReadFault::from(AllocFailed { value: 1u8 }) == ReadFault::OutOfMemory);
-    assert!(rt; ReadFault::from(Refused { back: 1u8 }) == ReadFault::OutOfMemory);
-    assert!(rt; PageFault::from(AllocError) == PageFault::OutOfMemory);
-    assert!(rt; PageFault::from(AllocFailed { value: 1u8 }) == PageFault::OutOfMemory);
-}
-
-/// Faults with texts of their own, and their numbers.
-const OWN: &str = "\
+const OTHERS: &str = "\
     0: out of memory\n\
     8: items are nested too deeply\n\
+    0: out of memory\n\
+    15: a frame was refused by its writer\n\
     0: out of memory\n\
     8: elements are nested too deeply at 3:14\n\
     25: other syntax than that of written pages at 3:14\n\
     0: out of memory\n\
     25: a byte that is no text at 3:14\n\
-    26: U+0000 at 3:14\n\
+    39: a token finds no place at 3:14\n\
     a write failed\n";
 
 #[test]
-fn faults_with_texts_of_their_own(rt: HostRuntime) -> Result<(), Fail> {
-    let mut shown = String::new(rt.alloc());
-    let (span, offset, line, column) = (Span(7), 40, 3, 14);
-    let place = Place {
-        offset,
-        line,
-        column,
-    };
+fn other_faults(rt: HostRuntime) -> TestResult {
+    let (mut shown, span) = (String::new(rt.alloc()), Span(7));
+    let (offset, line, column) = (40, 3, 14);
+    let (place, refusal) = (
+        Place {
+            offset,
+            line,
+            column,
+        },
+        PageRefusal::Unsettled,
+    );
     for fault in [FlowFault::OutOfMemory, FlowFault::TooDeep { span }] {
         write!(shown, "{}: {fault}\n", fault.number())?;
     }
-    for fault in [
-        ReadFault::OutOfMemory,
-        ReadFault::TooDeep { place },
-        ReadFault::Syntax { place },
-    ] {
+    for fault in [FrameFault::OutOfMemory, FrameFault::Refused] {
         write!(shown, "{}: {fault}\n", fault.number())?;
     }
-    let refusal = PageRefusal::NullCharacter;
-    for fault in [
-        PageFault::OutOfMemory,
+    let (deep, syntax) = (ReadFault::TooDeep { place }, ReadFault::Syntax { place });
+    for fault in [ReadFault::OutOfMemory, deep, syntax] {
+        write!(shown, "{}: {fault}\n", fault.number())?;
+    }
+    let (bytes, refused) = (
         PageFault::NotText { place },
         PageFault::Refused { refusal, place },
-    ] {
+    );
+    for fault in [PageFault::OutOfMemory, bytes, refused] {
         write!(shown, "{}: {fault}\n", fault.number())?;
     }
     write!(shown, "{WriteFailed}\n")?;
-    assert_text(&shown, OWN)
-}
-
-/// The refusals of pages, with their numbers.
-const REFUSALS: &str = "\
-    8: elements are nested too deeply\n\
-    26: U+0000\n\
-    27: a name that no element of this project has\n\
-    28: a tag has too many attributes\n\
-    29: a formatting element would be made again\n\
-    30: an end tag would move nodes out of a formatting element\n\
-    31: an open a would be removed\n\
-    32: a text or an element would be moved out of a table\n\
-    33: attributes would be added to those of html or body\n\
-    34: the head would be opened again\n\
-    35: a frameset, plaintext or template\n\
-    36: a form, object, applet or marquee would be closed by another tag\n\
-    37: an element of HTML would close svg or math\n\
-    38: a table hangs on a document type that is not known\n\
-    39: a token finds no place\n";
-
-#[test]
-fn refusals_of_pages(rt: HostRuntime) -> Result<(), Fail> {
-    let mut shown = String::new(rt.alloc());
-    for refusal in [
-        PageRefusal::TooDeep,
-        PageRefusal::NullCharacter,
-        PageRefusal::UnknownName,
-        PageRefusal::TooManyAttributes,
-        PageRefusal::Reconstruction,
-        PageRefusal::AdoptionAgency,
-        PageRefusal::OpenAnchorRemoved,
-        PageRefusal::FosterParenting,
-        PageRefusal::MergedAttributes,
-        PageRefusal::HeadReopened,
-        PageRefusal::UnreadElement,
-        PageRefusal::CrossedElement,
-        PageRefusal::HtmlInForeign,
-        PageRefusal::DocumentType,
-        PageRefusal::Unsettled,
-    ] {
-        write!(shown, "{}: {refusal}\n", refusal.number())?;
-    }
-    assert_text(&shown, REFUSALS)
+    assert_text(&shown, OTHERS)
 }
 
 /// Values whose fields are not shown.
 #[test]
-fn hidden_fields(rt: HostRuntime) -> Result<(), Fail> {
+fn hidden_fields(rt: HostRuntime) -> TestResult {
     let (refused, names) = (Refused { back: 7u8 }, NameTable::new(rt.alloc()));
     let shown = format!(in rt.alloc(); "{refused:?} {names:?}")?;
     assert_text(&shown, "Refused(..) NameTable")

@@ -1,7 +1,7 @@
 //! Tests of the public surface: each public name is where users look for it (`names`), the types
 //! have their traits (`traits`), and a caller implements each trait, word for word as the docs do
-//! (`own`). `faults` and `program` test what no other test calls or shows. They use only
-//! the crates that users name, typst_html_run for the program, and tests_asserts and tests_frames.
+//! (`own`). `faults` and `program` test what no other test calls or shows. They use only the crates
+//! that users name, typst_html_run for the program, and tests_asserts.
 #![tactic(auto)]
 
 #[cfg(test)]

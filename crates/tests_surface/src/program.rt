@@ -2,14 +2,7 @@
 
 use std::io;
 use std::io::{Error, ErrorKind, Write};
-use typst_html_run::{LastCall, Recorded, Status, WriteFailed};
-
-#[test]
-fn statuses_have_codes(rt: HostRuntime) {
-    let (done, refused) = (Status::Done.code(), Status::Refused.code());
-    let (bad_input, failed) = (Status::BadInput.code(), Status::Failed.code());
-    assert!(rt; [done, refused, bad_input, failed] == [0, 1, 2, 3]);
-}
+use typst_html_run::{LastCall, Recorded, WriteFailed};
 
 #[test]
 fn recorded_writers_write(rt: HostRuntime) {

@@ -30,29 +30,21 @@ fn texts_of_words(rt: HostRuntime) -> TestResult {
     assert_text(alloc, &TrueFalseBool(true), "true")?;
     assert_text(alloc, &YesNoBool(true), "yes")?;
     assert_text(alloc, &OnOffBool(true), "on")?;
-    for (dir, wanted) in [
-        (Dir::LTR, "ltr"),
-        (Dir::RTL, "rtl"),
-        (Dir::TTB, "ttb"),
-        (Dir::BTT, "btt"),
-    ] {
-        assert_text(alloc, &dir, wanted)?;
-    }
-    for (dir, wanted) in [(HorizontalDir::LTR, "ltr"), (HorizontalDir::RTL, "rtl")] {
-        assert_text(alloc, &dir, wanted)?;
-    }
-    Ok(())
+    assert_text(alloc, &Dir::LTR, "ltr")?;
+    assert_text(alloc, &Dir::RTL, "rtl")?;
+    assert_text(alloc, &Dir::TTB, "ttb")?;
+    assert_text(alloc, &Dir::BTT, "btt")?;
+    assert_text(alloc, &HorizontalDir::LTR, "ltr")?;
+    assert_text(alloc, &HorizontalDir::RTL, "rtl")
 }
 
 #[test]
 fn texts_of_numbers(rt: HostRuntime) -> TestResult {
     let alloc = rt.alloc();
-    for (number, wanted) in [(-12, "-12"), (i64::MIN, "-9223372036854775808")] {
-        assert_text(alloc, &number, wanted)?;
-    }
-    for (number, wanted) in [(0, "0"), (u64::MAX, "18446744073709551615")] {
-        assert_text(alloc, &number, wanted)?;
-    }
+    assert_text(alloc, &-12i64, "-12")?;
+    assert_text(alloc, &i64::MIN, "-9223372036854775808")?;
+    assert_text(alloc, &0u64, "0")?;
+    assert_text(alloc, &u64::MAX, "18446744073709551615")?;
     assert_text(alloc, &NonZeroI64::new(-7).ok_or("zero")?, "-7")?;
     assert_text(alloc, &NonZeroU64::new(7).ok_or("zero")?, "7")?;
     let (width, height) = (16, 0);
@@ -71,11 +63,8 @@ fn other_texts(rt: HostRuntime) -> TestResult {
     assert_text(alloc, &'é', "é")?;
     assert_text(alloc, &RED, "#ff001080")?;
     assert_text(alloc, &Duration(694_861), "1w 1d 1h 1m 1s")?;
-    assert_text(
-        alloc,
-        &Datetime::new(Moment::Date(date(2024, 2, 9)))?,
-        "2024-02-09",
-    )
+    let day = Datetime::new(Moment::Date(date(2024, 2, 9)))?;
+    assert_text(alloc, &day, "2024-02-09")
 }
 
 /// Asserts that a cast of the value is refused at first, and then returns that text.

@@ -1,13 +1,8 @@
-//! Tests of typed values and of casts, over public calls.
+//! Tests of the faults of casts, and of values and casts when growths of memory are refused, over
+//! public calls. The rows of `tests_rows` say what casts return.
 #![tactic(auto)]
 
 #[cfg(test)]
-mod casts;
+mod faults;
 #[cfg(test)]
 mod growths;
-#[cfg(test)]
-mod natives;
-#[cfg(test)]
-mod samples;
-#[cfg(test)]
-mod texts;

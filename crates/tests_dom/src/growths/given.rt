@@ -1,16 +1,16 @@
-//! Calls that consume their arguments, and return them if they fail.
+//! Calls that consume their arguments, and return them if they fail, or do not.
 
-use crate::growths::lent::is_known;
-use html_anchors::with_resolved_links;
+use crate::growths::lent::{has_anchor, has_style, is_known, targets_of};
+use html_anchors::{with_link_anchors, with_resolved_links};
 use html_dom_document::{DocumentInfo, HtmlDocument, HtmlOutput};
-use html_dom_tree::{HtmlAttrs, HtmlElement, HtmlNode};
+use html_dom_tree::{HtmlAttrs, HtmlElement, HtmlNode, with_inline_styles};
 use html_names_core::{HtmlAttr, Refused, attr, tag};
-use std::alloc::Global;
+use std::alloc::{AllocError, Global};
 use tests_asserts::TestResult;
-use tests_failing_alloc::{is_shown, refuses_given, shown_of};
-use tests_samples::{document_of, id_of, info_of, inner_of, output_of, text_of};
+use tests_failing_alloc::{SPARES, refuses_given, refuses_taken};
+use tests_samples::{document_of, element_of, id_of, info_of, inner_of, output_of, text_of};
 
-/// A call that adds a pair in place.
+/// A call that adds a pair to an element.
 #[derive(Clone, Copy, Debug)]
 enum Way {
     Push,
@@ -19,87 +19,32 @@ enum Way {
     SetInElement,
 }
 
-/// The arguments of a call.
-#[derive(Debug, Drop)]
-enum Given {
-    Added(Way, HtmlElement, HtmlAttr, String),
-    WithAttr(HtmlElement, HtmlAttr, String),
-    Folded(HtmlAttrs, HtmlAttrs),
-    WithChild(HtmlElement, HtmlNode),
-    WithText(HtmlElement),
-    /// With the text that shows the information.
-    Document(HtmlOutput, DocumentInfo, String),
-    Linked(HtmlDocument),
-}
+type Added = (Way, HtmlElement, HtmlAttr, String);
 
-type Answer = Result<bool, Refused<Given>>;
-
-fn refused(back: Given) -> Answer {
-    Err(Refused { back })
-}
-
-fn has_two(element: &HtmlElement) -> bool {
-    element.attrs.0.len() == 2
-}
-
-fn added(
-    way: Way,
-    element: &mut HtmlElement,
-    name: HtmlAttr,
-    value: String,
-) -> Result<(), Refused<(HtmlAttr, String)>> {
-    match way {
+/// Adds a pair in place, and returns whether it is the second one.
+fn added((way, mut element, name, value): Added) -> Result<bool, Refused<Added>> {
+    let added = match way {
         Way::Push => element.attrs.push(name, value),
         Way::PushFront => element.attrs.push_front(name, value),
         Way::Set => element.attrs.set(name, value),
         Way::SetInElement => element.set_attr(name, value),
+    };
+    match added {
+        Ok(()) => Ok(element.attrs.0.len() == 2),
+        Err(Refused { back }) => Err(Refused {
+            back: (way, element, back.0, back.1),
+        }),
     }
 }
 
-fn add(way: Way, mut element: HtmlElement, name: HtmlAttr, value: String) -> Answer {
-    match added(way, &mut element, name, value) {
-        Ok(()) => Ok(has_two(&element)),
-        Err(Refused { back }) => refused(Given::Added(way, element, back.0, back.1)),
-    }
+type WithAttr = (HtmlElement, HtmlAttr, String);
+
+fn with_attr((element, name, value): WithAttr) -> Result<bool, Refused<WithAttr>> {
+    Ok(element.with_attr(name, value)?.attrs.0.len() == 2)
 }
 
-fn link(alloc: Global, document: HtmlDocument) -> Answer {
-    match with_resolved_links(alloc, document) {
-        Ok(document) => Ok(is_known(&document)),
-        Err(Refused { back }) if is_known(&back) => refused(Given::Linked(back)),
-        Err(_) => Ok(false),
-    }
-}
-
-fn call(alloc: Global, given: Given) -> Answer {
-    match given {
-        Given::Added(way, element, name, value) => add(way, element, name, value),
-        Given::WithAttr(element, name, value) => match element.with_attr(name, value) {
-            Ok(element) => Ok(has_two(&element)),
-            Err(Refused { back }) => refused(Given::WithAttr(back.0, back.1, back.2)),
-        },
-        Given::Folded(inner, outer) => match inner.fold(outer) {
-            Ok(list) => Ok(list.0.len() == 1),
-            Err(Refused { back }) => refused(Given::Folded(back.0, back.1)),
-        },
-        Given::WithChild(element, child) => match element.with_child(child) {
-            Ok(element) => Ok(element.children.len() == 1),
-            Err(Refused { back }) => refused(Given::WithChild(back.0, back.1)),
-        },
-        Given::WithText(element) => match element.with_text(alloc, "a text") {
-            Ok(element) => Ok(element.children.len() == 1),
-            Err(Refused { back }) => refused(Given::WithText(back)),
-        },
-        Given::Document(output, info, shown) => match HtmlDocument::new(alloc, output, info) {
-            Ok(document) => Ok(is_shown(document.info(), &shown)),
-            Err(Refused { back }) => refused(Given::Document(back.0, back.1, shown)),
-        },
-        Given::Linked(document) => link(alloc, document),
-    }
-}
-
-fn assert_given(alloc: Global, given: Given) -> TestResult {
-    refuses_given(alloc, given, |given| call(alloc, given))
+fn folded((inner, outer): (HtmlAttrs, HtmlAttrs)) -> Result<bool, Refused<(HtmlAttrs, HtmlAttrs)>> {
+    Ok(inner.fold(outer)?.0.len() == 1)
 }
 
 #[test]
@@ -107,21 +52,70 @@ fn attributes(rt: HostRuntime) -> TestResult {
     let alloc = rt.alloc();
     for way in [Way::Push, Way::PushFront, Way::Set, Way::SetInElement] {
         let (element, value) = (inner_of(alloc)?, String::from_str(alloc, "held")?);
-        assert_given(alloc, Given::Added(way, element, attr::class, value))?;
+        refuses_given(alloc, (way, element, attr::class, value), added)?;
     }
     let (element, value) = (inner_of(alloc)?, String::from_str(alloc, "held")?);
-    assert_given(alloc, Given::WithAttr(element, attr::class, value))?;
-    let (inner, outer) = (id_of(alloc, "inner")?, id_of(alloc, "outer")?);
-    assert_given(alloc, Given::Folded(inner, outer))
+    refuses_given(alloc, (element, attr::class, value), with_attr)?;
+    refuses_given(
+        alloc,
+        (id_of(alloc, "inner")?, id_of(alloc, "outer")?),
+        folded,
+    )
+}
+
+type WithChild = (HtmlElement, HtmlNode);
+
+fn with_child((element, child): WithChild) -> Result<bool, Refused<WithChild>> {
+    Ok(element.with_child(child)?.children.len() == 1)
+}
+
+fn with_text(alloc: Global, element: HtmlElement) -> Result<bool, Refused<HtmlElement>> {
+    Ok(element.with_text(alloc, "a text")?.children.len() == 1)
+}
+
+type Made = (HtmlOutput, DocumentInfo);
+
+fn made(alloc: Global, (output, info): Made) -> Result<bool, Refused<Made>> {
+    Ok(is_known(&HtmlDocument::new(alloc, output, info)?))
+}
+
+/// What a text does not show of the document must stay, too.
+fn linked(alloc: Global, document: HtmlDocument) -> Result<bool, Refused<HtmlDocument>> {
+    match with_resolved_links(alloc, document) {
+        Ok(document) => Ok(is_known(&document)),
+        Err(Refused { back }) if is_known(&back) => Err(Refused { back }),
+        Err(_) => Ok(false),
+    }
 }
 
 #[test]
 fn children_and_documents(rt: HostRuntime) -> TestResult {
-    let (alloc, info) = (rt.alloc(), info_of(rt.alloc())?);
-    let (empty, child) = (HtmlElement::new(alloc, tag::p), text_of(alloc, "held", 7)?);
-    assert_given(alloc, Given::WithChild(empty, child))?;
-    assert_given(alloc, Given::WithText(HtmlElement::new(alloc, tag::p)))?;
-    let (output, shown) = (output_of(alloc)?, shown_of(alloc, &info)?);
-    assert_given(alloc, Given::Document(output, info, shown))?;
-    assert_given(alloc, Given::Linked(document_of(alloc)?))
+    let (alloc, empty) = (rt.alloc(), HtmlElement::new(rt.alloc(), tag::p));
+    refuses_given(alloc, (empty, text_of(alloc, "held", 7)?), with_child)?;
+    let empty = HtmlElement::new(alloc, tag::p);
+    refuses_given(alloc, empty, |element| with_text(alloc, element))?;
+    let parts = (output_of(alloc)?, info_of(alloc)?);
+    refuses_given(alloc, parts, |parts| made(alloc, parts))?;
+    refuses_given(
+        alloc,
+        document_of(alloc)?,
+        |document| linked(alloc, document),
+    )
+}
+
+/// These calls do not return what they consume.
+#[test]
+fn taken_values(rt: HostRuntime) -> TestResult {
+    let (alloc, targets) = (rt.alloc(), targets_of(rt.alloc())?);
+    let (mut elements, mut documents) = (Vec::new(alloc), Vec::new(alloc));
+    for _ in 0..SPARES {
+        elements.push(element_of(alloc)?)?;
+        documents.push(document_of(alloc)?)?;
+    }
+    refuses_taken(alloc, elements, |element| -> Result<bool, AllocError> {
+        Ok(has_style(&with_inline_styles(alloc, element)?))
+    })?;
+    refuses_taken(alloc, documents, |document| -> Result<bool, AllocError> {
+        Ok(has_anchor(&with_link_anchors(alloc, document, &targets)?.1))
+    })
 }

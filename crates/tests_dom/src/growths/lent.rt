@@ -15,83 +15,47 @@ use tests_samples::{document_of, element_of, start};
 
 pub(crate) type Targets = BTreeSet<Location>;
 
-/// A call, and its borrowed arguments.
+/// The arguments of the calls.
 #[derive(Debug, Drop)]
-enum Lent {
-    DeadFragments(HtmlElement),
-    RepeatedIds(HtmlElement),
-    ResolvedStyles(HtmlElement),
-    FlatElement(HtmlElement),
-    FlatNodes(Vec<HtmlNode>),
-    /// With the text that shows the nodes.
-    ToNodes(FlatTree, String),
-    Introspected(Vec<HtmlNode>),
-    LinkTargets(HtmlIntrospector),
-    CopiedIntrospector(HtmlIntrospector),
-    Anchors(HtmlDocument, Targets),
-    ResolvedLinks(HtmlDocument),
-    DistinctIds(HtmlDocument),
-    DeadLinks(HtmlDocument),
-    Href,
+struct Given {
+    element: HtmlElement,
+    /// That element alone.
+    nodes: Vec<HtmlNode>,
+    /// The text that shows the nodes.
+    shown: String,
+    tree: FlatTree,
+    introspector: HtmlIntrospector,
+    /// A dead link between two elements, the second of which has the ids of the first.
+    root: HtmlElement,
+    document: HtmlDocument,
+    targets: Targets,
+    /// A document with a link that leads nowhere.
+    dead: HtmlDocument,
 }
 
-fn call(alloc: Global, lent: &mut Lent) -> Result<bool, AllocError> {
-    match lent {
-        Lent::DeadFragments(root) => Ok(dead_fragments(alloc, root)?.len() == 1),
-        Lent::RepeatedIds(root) => Ok(repeated_ids(alloc, root)?.len() == 4),
-        Lent::ResolvedStyles(element) => {
-            resolve_inline_styles(alloc, element)?;
-            Ok(has_style(element))
-        }
-        Lent::FlatElement(element) => Ok(has_all(&FlatTree::from_element(alloc, element)?)),
-        Lent::FlatNodes(nodes) => Ok(has_all(&FlatTree::from_nodes(alloc, nodes)?)),
-        Lent::ToNodes(tree, shown) => Ok(is_shown(&tree.to_nodes()?, shown)),
-        Lent::Introspected(nodes) => Ok(knows(&HtmlIntrospector::new(alloc, nodes)?)),
-        Lent::LinkTargets(known) => Ok(has_both(&known.link_targets()?)),
-        Lent::CopiedIntrospector(known) => Ok(knows(&known.try_clone()?)),
-        Lent::Anchors(document, targets) => {
-            Ok(has_anchor(&create_link_anchors(alloc, document, targets)?))
-        }
-        Lent::ResolvedLinks(document) => {
-            resolve_links(alloc, document)?;
-            Ok(true)
-        }
-        Lent::DistinctIds(document) => ids_are_distinct(alloc, document),
-        Lent::DeadLinks(document) => Ok(dead_links(alloc, document)?.len() == 1),
-        Lent::Href => Ok(href_to(alloc, "a place")?.as_str() == "#a%20place"),
-    }
-}
-
-/// Returns whether the arguments have the parts that no text shows.
-fn is_whole(lent: &Lent) -> bool {
-    match lent {
-        Lent::LinkTargets(known) | Lent::CopiedIntrospector(known) => knows(known),
-        Lent::Anchors(document, _)
-        | Lent::ResolvedLinks(document)
-        | Lent::DistinctIds(document)
-        | Lent::DeadLinks(document) => is_known(document),
-        _ => true,
-    }
-}
-
-fn assert_lent(alloc: Global, lent: Lent) -> TestResult {
-    refuses_lent(alloc, lent, |lent: &mut Lent| {
-        let answer = call(alloc, lent);
-        if is_whole(lent) { answer } else { Ok(false) }
+fn given_of(alloc: Global) -> Result<Given, AllocError> {
+    let nodes = vec![in alloc; HtmlNode::from(element_of(alloc)?)]?;
+    Ok(Given {
+        element: element_of(alloc)?,
+        shown: shown_of(alloc, &nodes)?,
+        tree: FlatTree::from_nodes(alloc, &nodes)?,
+        introspector: HtmlIntrospector::new(alloc, &nodes)?,
+        nodes,
+        root: root_of(alloc)?,
+        document: document_of(alloc)?,
+        targets: targets_of(alloc)?,
+        dead: dead_of(alloc)?,
     })
-}
-
-pub(crate) fn has_style(element: &HtmlElement) -> bool {
-    element.attrs.get(&attr::style).is_some()
 }
 
 fn link_of(alloc: Global, href: &str) -> Result<HtmlNode, AllocError> {
     let attrs = HtmlAttrs(vec![in alloc; (attr::href, String::from_str(alloc, href)?)]?);
-    let link = HtmlElement::new(alloc, tag::a);
-    Ok(HtmlNode::from(HtmlElement { attrs, ..link }))
+    Ok(HtmlNode::from(HtmlElement {
+        attrs,
+        ..HtmlElement::new(alloc, tag::a)
+    }))
 }
 
-/// Returns a dead link between two elements, the second of which has the ids of the first.
 fn root_of(alloc: Global) -> Result<HtmlElement, AllocError> {
     let mut nodes = Vec::new(alloc);
     nodes.push(HtmlNode::from(element_of(alloc)?))?;
@@ -101,28 +65,70 @@ fn root_of(alloc: Global) -> Result<HtmlElement, AllocError> {
     Ok(HtmlElement::new(alloc, tag::div).with_children(nodes))
 }
 
-#[test]
-fn elements(rt: HostRuntime) -> TestResult {
-    let alloc = rt.alloc();
-    assert_lent(alloc, Lent::DeadFragments(root_of(alloc)?))?;
-    assert_lent(alloc, Lent::RepeatedIds(root_of(alloc)?))?;
-    assert_lent(alloc, Lent::ResolvedStyles(element_of(alloc)?))?;
-    assert_lent(alloc, Lent::FlatElement(element_of(alloc)?))
+/// Returns two locations, one of which starts in the document.
+pub(crate) fn targets_of(alloc: Global) -> Result<Targets, AllocError> {
+    let mut targets = BTreeSet::new(alloc);
+    targets.insert(Location(1))?;
+    targets.insert(Location(2))?;
+    Ok(targets)
 }
 
-fn nodes_of(alloc: Global) -> Result<Vec<HtmlNode>, AllocError> {
-    Ok(vec![in alloc; HtmlNode::from(element_of(alloc)?)]?)
+fn dead_of(alloc: Global) -> Result<HtmlDocument, AllocError> {
+    let link = HtmlElement::new(alloc, tag::a).spanned(Span(3));
+    let children = vec![in alloc; HtmlNode::from(start(1, Some(9))), HtmlNode::from(link)]?;
+    let mut nodes = Vec::new(alloc);
+    nodes.push(HtmlNode::Element(HtmlElement::new(alloc, tag::html).with_children(children)))?;
+    Ok(HtmlDocument::new(alloc, HtmlOutput::new(nodes, 0), DocumentInfo::new(alloc))?)
+}
+
+/// The calls.
+const CALLS: &str = "\
+    dead_fragments repeated_ids resolve_inline_styles from_element from_nodes to_nodes introspect \
+    link_targets try_clone create_link_anchors resolve_links ids_are_distinct dead_links href_to";
+
+/// Makes the call of that name, and returns whether its result is right.
+fn is_right(alloc: Global, name: &str, given: &mut Given) -> Result<bool, AllocError> {
+    Ok(match name {
+        "dead_fragments" => dead_fragments(alloc, &given.root)?.len() == 1,
+        "repeated_ids" => repeated_ids(alloc, &given.root)?.len() == 4,
+        "resolve_inline_styles" => {
+            resolve_inline_styles(alloc, &mut given.element)?;
+            has_style(&given.element)
+        }
+        "from_element" => has_all(&FlatTree::from_element(alloc, &given.element)?),
+        "from_nodes" => has_all(&FlatTree::from_nodes(alloc, &given.nodes)?),
+        "to_nodes" => is_shown(&given.tree.to_nodes()?, &given.shown),
+        "href_to" => href_to(alloc, "a place")?.as_str() == "#a%20place",
+        _ => return is_known_right(alloc, name, given),
+    })
+}
+
+fn is_known_right(alloc: Global, name: &str, given: &mut Given) -> Result<bool, AllocError> {
+    let (introspector, document) = (&given.introspector, &mut given.document);
+    Ok(match name {
+        "introspect" => knows(&HtmlIntrospector::new(alloc, &given.nodes)?),
+        "try_clone" => knows(&introspector.try_clone()?),
+        "link_targets" => has_both(&introspector.link_targets()?),
+        "create_link_anchors" => {
+            has_anchor(&create_link_anchors(alloc, document, &given.targets)?)
+        }
+        "resolve_links" => {
+            resolve_links(alloc, document)?;
+            true
+        }
+        "ids_are_distinct" => ids_are_distinct(alloc, document)?,
+        "dead_links" => dead_links(alloc, &given.dead)?.len() == 1,
+        _ => false,
+    })
+}
+
+pub(crate) fn has_style(element: &HtmlElement) -> bool {
+    element.attrs.get(&attr::style).is_some()
 }
 
 /// Returns whether the tree has `element_of` itself, and all nodes in it at all depths.
 fn has_all(tree: &FlatTree) -> bool {
     tree.nodes().len() == 7
-}
-
-fn tree_of(alloc: Global) -> Result<Lent, AllocError> {
-    let nodes = nodes_of(alloc)?;
-    let shown = shown_of(alloc, &nodes)?;
-    Ok(Lent::ToNodes(FlatTree::from_nodes(alloc, &nodes)?, shown))
 }
 
 /// Returns whether the position of the element in the nodes is known, and the target of their
@@ -136,52 +142,28 @@ fn has_both(targets: &Targets) -> bool {
     targets.contains(&Location(2)) && targets.contains(&Location(3))
 }
 
-#[test]
-fn nodes(rt: HostRuntime) -> TestResult {
-    let (alloc, nodes) = (rt.alloc(), nodes_of(rt.alloc())?);
-    let known = HtmlIntrospector::new(alloc, &nodes)?;
-    assert_lent(alloc, Lent::CopiedIntrospector(known.try_clone()?))?;
-    assert_lent(alloc, Lent::LinkTargets(known))?;
-    assert_lent(alloc, Lent::FlatNodes(nodes))?;
-    assert_lent(alloc, tree_of(alloc)?)?;
-    assert_lent(alloc, Lent::Introspected(nodes_of(alloc)?))
-}
-
 /// Returns whether the position of the element that starts in the document is known.
 pub(crate) fn is_known(document: &HtmlDocument) -> bool {
     document.introspector().position(Location(1)).is_some()
-}
-
-/// Returns two locations, one of which starts in the document.
-pub(crate) fn targets_of(alloc: Global) -> Result<Targets, AllocError> {
-    let mut targets = BTreeSet::new(alloc);
-    targets.insert(Location(1))?;
-    targets.insert(Location(2))?;
-    Ok(targets)
 }
 
 pub(crate) fn has_anchor(anchors: &BTreeMap<Location, String>) -> bool {
     anchors.contains_key(&Location(1))
 }
 
-/// Returns a document with a link that leads nowhere.
-fn dead_of(alloc: Global) -> Result<HtmlDocument, AllocError> {
-    let link = HtmlElement::new(alloc, tag::a).spanned(Span(3));
-    let children = vec![in alloc; HtmlNode::from(start(1, Some(9))), HtmlNode::from(link)]?;
-    let mut nodes = Vec::new(alloc);
-    nodes.push(HtmlNode::Element(HtmlElement::new(alloc, tag::html).with_children(children)))?;
-    Ok(HtmlDocument::new(alloc, HtmlOutput::new(nodes, 0), DocumentInfo::new(alloc))?)
+/// Returns whether the arguments have the parts that no text shows.
+fn is_whole(given: &Given) -> bool {
+    knows(&given.introspector) && is_known(&given.document) && is_known(&given.dead)
 }
 
 #[test]
-fn documents(rt: HostRuntime) -> TestResult {
+fn borrowing_calls(rt: HostRuntime) -> TestResult {
     let alloc = rt.alloc();
-    assert_lent(
-        alloc,
-        Lent::Anchors(document_of(alloc)?, targets_of(alloc)?),
-    )?;
-    assert_lent(alloc, Lent::ResolvedLinks(document_of(alloc)?))?;
-    assert_lent(alloc, Lent::DistinctIds(document_of(alloc)?))?;
-    assert_lent(alloc, Lent::DeadLinks(dead_of(alloc)?))?;
-    assert_lent(alloc, Lent::Href)
+    for name in CALLS.split_whitespace() {
+        refuses_lent(alloc, given_of(alloc)?, |given: &mut Given| {
+            let answer = is_right(alloc, name, given);
+            if is_whole(given) { answer } else { Ok(false) }
+        })?;
+    }
+    Ok(())
 }

@@ -2,15 +2,15 @@
 
 use html_dom_tree::{HtmlNode, Location, Span};
 use html_flow::{
-    Arg, ArgValue, Args, ConstructFault, ConversionLevel, ElementInfo, FlowFault, FrameElem,
-    HtmlElem, Item, Pair, Role, Whitespace, construct, convert_to_nodes, html_block_fragment,
-    html_inline_fragment, html_math_fragment, push_located,
+    Arg, ArgValue, Args, ConstructFault, ConversionLevel, ElementInfo, FrameElem, HtmlElem, Item,
+    Pair, Role, Whitespace, construct, convert_to_nodes, html_block_fragment, html_inline_fragment,
+    html_math_fragment, push_located,
 };
-use html_names_core::{HtmlAttr, Refused, attr, tag};
+use html_names_core::{attr, tag};
 use html_values::{AttrType, ListType, NativeType, Value};
 use std::alloc::{AllocError, Global};
 use tests_asserts::TestResult;
-use tests_failing_alloc::{refuses_copy, refuses_given, refuses_lent};
+use tests_failing_alloc::{refuses_copy, refuses_given, refuses_lent, refuses_pushed};
 use tests_items::{
     block_of, blocks_of, elem_of, frame_elem_of, noted_frame_of, role_of, text_item_of,
 };
@@ -25,149 +25,81 @@ fn copied_items(rt: HostRuntime) -> TestResult {
     refuses_copy(alloc, elem_of(alloc, tag::p)?, HtmlElem::try_clone)
 }
 
-/// A call that makes nodes from items.
-#[derive(Clone, Copy, Debug)]
-enum Making {
-    Block,
-    Inline,
-    BlockFragment,
-    InlineFragment,
-    MathFragment,
-}
-
-impl Making {
-    fn nodes(self, alloc: Global, items: &[Pair]) -> Result<Vec<HtmlNode>, FlowFault> {
-        let (span, spaces) = (Span(1), Whitespace::Normal);
-        let (block, inline) = (ConversionLevel::Block, ConversionLevel::Inline);
-        match self {
-            Making::Block => convert_to_nodes(alloc, items, block, spaces, None, 0, 9),
-            Making::Inline => convert_to_nodes(alloc, items, inline, spaces, None, 0, 9),
-            Making::BlockFragment => {
-                html_block_fragment(alloc, items, span, spaces, Some("x"), 0, 9)
-            }
-            Making::InlineFragment => html_inline_fragment(alloc, items, span, spaces, None, 0, 9),
-            Making::MathFragment => html_math_fragment(alloc, items, span, spaces, None, 0, 9),
-        }
-    }
-}
-
 fn has_some(nodes: Vec<HtmlNode>) -> bool {
     !nodes.is_empty()
 }
 
 #[test]
 fn converted_items(rt: HostRuntime) -> TestResult {
-    let alloc = rt.alloc();
-    for making in [
-        Making::Block,
-        Making::Inline,
-        Making::BlockFragment,
-        Making::InlineFragment,
-        Making::MathFragment,
-    ] {
+    let (alloc, spaces) = (rt.alloc(), Whitespace::Normal);
+    for level in [ConversionLevel::Block, ConversionLevel::Inline] {
         refuses_lent(alloc, blocks_of(alloc)?, |items: &mut Vec<Pair>| {
-            making.nodes(alloc, items).map(has_some)
+            convert_to_nodes(alloc, items, level, spaces, None, 0, 9).map(has_some)
         })?;
     }
-    Ok(())
+    refuses_lent(alloc, blocks_of(alloc)?, |items: &mut Vec<Pair>| {
+        html_block_fragment(alloc, items, Span(1), spaces, Some("x"), 0, 9).map(has_some)
+    })?;
+    refuses_lent(alloc, blocks_of(alloc)?, |items: &mut Vec<Pair>| {
+        html_inline_fragment(alloc, items, Span(1), spaces, None, 0, 9).map(has_some)
+    })?;
+    refuses_lent(alloc, blocks_of(alloc)?, |items: &mut Vec<Pair>| {
+        html_math_fragment(alloc, items, Span(1), spaces, None, 0, 9).map(has_some)
+    })
 }
-
-/// A call that adds an attribute to an element.
-#[derive(Clone, Copy, Debug)]
-enum Way {
-    With,
-    WithOptional,
-    Set,
-}
-
-/// A call, the element, and a pair for it.
-type Given = (Way, HtmlElem, HtmlAttr, String);
 
 fn has_two(element: &HtmlElem) -> bool {
     element.attrs.0.len() == 2
 }
 
-fn refused(back: Given) -> Result<bool, Refused<Given>> {
-    Err(Refused { back })
+fn held(alloc: Global) -> Result<String, AllocError> {
+    String::from_str(alloc, "held")
 }
 
-fn added((way, mut element, name, value): Given) -> Result<bool, Refused<Given>> {
-    match way {
-        Way::With => match element.with_attr(name, value) {
-            Ok(element) => Ok(has_two(&element)),
-            Err(Refused { back }) => refused((way, back.0, back.1, back.2)),
-        },
-        Way::WithOptional => match element.with_optional_attr(name, Some(value)) {
-            Ok(element) => Ok(has_two(&element)),
-            Err(
-                Refused {
-                    back: (element, name, value),
-                },
-            ) => match value {
-                Some(value) => refused((way, element, name, value)),
-                None => Ok(false),
-            },
-        },
-        Way::Set => match element.set_attr(name, value) {
-            Ok(()) => Ok(has_two(&element)),
-            Err(Refused { back }) => refused((way, element, back.0, back.1)),
-        },
-    }
-}
-
-/// Adds a value to elements.
+/// Adds an attribute to an element.
 #[test]
 fn changed_attributes(rt: HostRuntime) -> TestResult {
     let alloc = rt.alloc();
-    for way in [Way::With, Way::WithOptional, Way::Set] {
-        let element = elem_of(alloc, tag::p)?;
-        let given = (way, element, attr::class, String::from_str(alloc, "held")?);
-        refuses_given(alloc, given, added)?;
-    }
-    Ok(())
+    let given = (elem_of(alloc, tag::p)?, attr::class, held(alloc)?);
+    refuses_given(alloc, given, |(elem, name, value)| {
+        elem.with_attr(name, value).map(|elem| has_two(&elem))
+    })?;
+    let given = (elem_of(alloc, tag::p)?, attr::class, Some(held(alloc)?));
+    refuses_given(alloc, given, |(elem, name, value)| {
+        let made = elem.with_optional_attr(name, value);
+        made.map(|elem| has_two(&elem))
+    })?;
+    let (elem, pair) = (elem_of(alloc, tag::p)?, (attr::class, held(alloc)?));
+    refuses_pushed(alloc, elem, pair, |elem: &mut HtmlElem, (name, value)| {
+        elem.set_attr(name, value).map(|_| has_two(elem))
+    })?;
+    let given = (HtmlElem::new(alloc, tag::p), attr::class);
+    refuses_given(alloc, given, |(elem, name)| {
+        elem.with_attr_text(name, "held").map(|_| ())
+    })
 }
 
 fn is_alone(element: HtmlElem) -> bool {
     element.body.is_some_and(|items| items.len() == 1)
 }
 
-/// Items, and a label and an item to append.
-type Located = (Vec<Pair>, Option<String>, Item);
-
-fn located((mut items, label, item): Located) -> Result<bool, Refused<Located>> {
-    match push_located(&mut items, Location(1), label, None, item) {
-        Ok(()) => Ok(items.len() == 3),
-        Err(
-            Refused {
-                back: (label, item),
-            },
-        ) => Err(Refused {
-            back: (items, label, item),
-        }),
-    }
-}
-
 /// Adds a text to an element without a body, as an item and as a text, and between tags to a list
 /// without room.
 #[test]
 fn changed_bodies(rt: HostRuntime) -> TestResult {
-    let alloc = rt.alloc();
-    let given = (
-        HtmlElem::new(alloc, tag::p),
-        Pair::from(text_item_of(alloc)?),
-    );
-    refuses_given(alloc, given, |(element, item)| {
+    let (alloc, element) = (rt.alloc(), HtmlElem::new(rt.alloc(), tag::p));
+    let item = Pair::from(text_item_of(alloc)?);
+    refuses_given(alloc, (element, item), |(element, item)| {
         element.with_item(alloc, item).map(is_alone)
     })?;
     refuses_given(alloc, HtmlElem::new(alloc, tag::p), |element| {
         element.with_text(alloc, "a text").map(is_alone)
     })?;
-    let label = Some(String::from_str(alloc, "held")?);
-    refuses_given(
-        alloc,
-        (Vec::new(alloc), label, text_item_of(alloc)?),
-        located,
-    )
+    let given = (Some(held(alloc)?), text_item_of(alloc)?);
+    let none = Vec::new(alloc);
+    refuses_pushed(alloc, none, given, |list: &mut Vec<Pair>, (label, item)| {
+        push_located(list, Location(1), label, None, item).map(|_| list.len() == 3)
+    })
 }
 
 fn arg_of(alloc: Global, name: &str, value: Value) -> Result<Arg, AllocError> {

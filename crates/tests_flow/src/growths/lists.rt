@@ -2,10 +2,10 @@
 
 use html_dom_tree::{Location, Span};
 use html_flow::{HtmlElem, ItemList, NamedPlaces, Notes, Pair};
-use html_names_core::{Refused, attr, tag};
-use std::alloc::AllocError;
+use html_names_core::tag;
+use std::alloc::Global;
 use tests_asserts::TestResult;
-use tests_failing_alloc::{refuses_given, refuses_lent};
+use tests_failing_alloc::{refuses_lent, refuses_pushed};
 use tests_items::text_item_of;
 
 /// A text that is too long for the room of another.
@@ -13,84 +13,61 @@ const LONG: &str =
     " and vinegar, oil and pepper, bread and cheese, plums and pears, nuts and honey, \
     tea and milk, rice and beans, leeks and eggs, dill and thyme, and all that keeps through the winter";
 
-/// A call that adds something with the list's span to a list.
-#[derive(Clone, Copy, Debug)]
-enum Adding {
-    Text,
-    Space,
-    LineBreak,
+fn has_one(list: &ItemList) -> bool {
+    list.items().len() == 1
 }
 
-impl Adding {
-    fn makes_one(self, list: &mut ItemList) -> Result<bool, AllocError> {
-        match self {
-            Adding::Text => list.text(LONG)?,
-            Adding::Space => list.space()?,
-            Adding::LineBreak => list.line_break()?,
-        }
-        Ok(list.items().len() == 1)
-    }
-}
-
-/// Adds texts to a list without items, and after a text.
+/// Adds to a list without items, and a text after a text.
 #[test]
 fn texts_in_lists(rt: HostRuntime) -> TestResult {
     let alloc = rt.alloc();
-    for adding in [Adding::Text, Adding::Space, Adding::LineBreak] {
-        refuses_lent(alloc, ItemList::new(alloc), |list: &mut ItemList| {
-            adding.makes_one(list)
+    let (list, mut salted) = (ItemList::new(alloc), ItemList::new(alloc).spanned(Span(4)));
+    salted.text("Salt")?;
+    for list in [list, salted] {
+        refuses_lent(alloc, list, |list: &mut ItemList| {
+            list.text(LONG).map(|_| has_one(list))
         })?;
     }
-    let mut list = ItemList::new(alloc).spanned(Span(4));
-    list.text("Salt")?;
-    refuses_lent(alloc, list, |list: &mut ItemList| {
-        Adding::Text.makes_one(list)
+    refuses_lent(alloc, ItemList::new(alloc), |list: &mut ItemList| {
+        list.space().map(|_| has_one(list))
+    })?;
+    refuses_lent(alloc, ItemList::new(alloc), |list: &mut ItemList| {
+        list.line_break().map(|_| has_one(list))
     })
 }
 
-/// A call that adds an element to a list.
-#[derive(Clone, Copy, Debug)]
-enum Placing {
-    Element,
-    Place,
-    Link,
-}
+/// A list, and the places of its names.
+type Lists = (ItemList, NamedPlaces);
 
-/// A call and its arguments.
-type Given = (Placing, ItemList, NamedPlaces, HtmlElem);
-
-fn placed((placing, mut list, mut places, element): Given) -> Result<bool, Refused<Given>> {
-    let added = match placing {
-        Placing::Element => list.element(element),
-        Placing::Place => list.place(&mut places, "held", element),
-        Placing::Link => list.link(&mut places, "held", element),
-    };
-    match added {
-        Ok(()) => Ok(!list.is_empty()),
-        Err(Refused { back }) => Err(Refused {
-            back: (placing, list, places, back),
-        }),
-    }
+fn lists_of(alloc: Global) -> (Lists, HtmlElem) {
+    let (list, places) = (ItemList::new(alloc), NamedPlaces::new(alloc));
+    let elem = list.new_element(tag::p);
+    ((list, places), elem)
 }
 
 #[test]
 fn elements_in_lists(rt: HostRuntime) -> TestResult {
     let alloc = rt.alloc();
-    for placing in [Placing::Element, Placing::Place, Placing::Link] {
-        let (list, places) = (ItemList::new(alloc), NamedPlaces::new(alloc));
-        let element = list.new_element(tag::p);
-        refuses_given(alloc, (placing, list, places, element), placed)?;
-    }
-    Ok(())
+    let (lists, elem) = lists_of(alloc);
+    refuses_pushed(alloc, lists, elem, |(list, _): &mut Lists, elem| {
+        list.element(elem).map(|_| !list.is_empty())
+    })?;
+    let (lists, elem) = lists_of(alloc);
+    refuses_pushed(alloc, lists, elem, |(list, places): &mut Lists, elem| {
+        list.place(places, "held", elem).map(|_| !list.is_empty())
+    })?;
+    let (lists, elem) = lists_of(alloc);
+    refuses_pushed(alloc, lists, elem, |(list, places): &mut Lists, elem| {
+        list.link(places, "held", elem).map(|_| !list.is_empty())
+    })
 }
 
 #[test]
 fn items_in_lists(rt: HostRuntime) -> TestResult {
     let alloc = rt.alloc();
-    let given = (ItemList::new(alloc), Pair::from(text_item_of(alloc)?));
-    refuses_given(alloc, given, |(mut list, item)| match list.item(item) {
-        Ok(()) => Ok(!list.is_empty()),
-        Err(Refused { back }) => Err(Refused { back: (list, back) }),
+    let (list, item) = (ItemList::new(alloc), Pair::from(text_item_of(alloc)?));
+    refuses_pushed(alloc, list, item, |list: &mut ItemList, item| {
+        list.item(item).map(|_| !list.is_empty())
     })
 }
 
@@ -98,38 +75,16 @@ fn items_in_lists(rt: HostRuntime) -> TestResult {
 fn locations_of_names(rt: HostRuntime) -> TestResult {
     let places = NamedPlaces::new(rt.alloc());
     refuses_lent(rt.alloc(), places, |places: &mut NamedPlaces| {
-        places
-            .location("held")
-            .map(|location| location == Location(1))
+        places.location("held").map(|it| it == Location(1))
     })
 }
-
-#[test]
-fn texts_of_attributes(rt: HostRuntime) -> TestResult {
-    let alloc = rt.alloc();
-    let given = (HtmlElem::new(alloc, tag::p), attr::class);
-    refuses_given(alloc, given, |(element, name)| {
-        element.with_attr_text(name, "held").map(|_| ())
-    })
-}
-
-/// Footnotes, and the content of the next one.
-type Noted = (Notes, Vec<Pair>);
 
 #[test]
 fn marks_of_notes(rt: HostRuntime) -> TestResult {
-    let alloc = rt.alloc();
-    let given = (
-        Notes::new(alloc),
-        vec![in alloc; Pair::from(text_item_of(alloc)?)]?,
-    );
-    refuses_given(alloc, given, |(mut notes, content): Noted| {
-        match notes.mark(content, Span(4)) {
-            Ok(_) => Ok(notes.len() == 1),
-            Err(Refused { back }) => Err(Refused {
-                back: (notes, back),
-            }),
-        }
+    let (alloc, notes) = (rt.alloc(), Notes::new(rt.alloc()));
+    let content = vec![in alloc; Pair::from(text_item_of(alloc)?)]?;
+    refuses_pushed(alloc, notes, content, |notes: &mut Notes, content| {
+        notes.mark(content, Span(4)).map(|_| notes.len() == 1)
     })
 }
 

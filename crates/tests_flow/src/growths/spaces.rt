@@ -50,32 +50,16 @@ fn taken_of(alloc: Global) -> Result<Vec<Vec<HtmlNode>>, AllocError> {
     Ok(values)
 }
 
-/// A call that consumes nodes.
-#[derive(Clone, Copy, Debug)]
-enum Taking {
-    KeepTab,
-    KeepSpace,
-    AddText,
-}
-
-impl Taking {
-    /// Returns whether the call makes the right nodes.
-    fn call(self, alloc: Global, nodes: Vec<HtmlNode>) -> Result<bool, AllocError> {
-        match self {
-            Taking::KeepTab => Ok(is_kept_at(&keep_runs(alloc, nodes)?, TAB)),
-            Taking::KeepSpace => Ok(is_kept_at(&protect_spaces(alloc, nodes)?, SPACE)),
-            Taking::AddText => adds_text(alloc, nodes),
-        }
-    }
-}
-
 #[test]
 fn taken(rt: HostRuntime) -> TestResult {
     let alloc = rt.alloc();
-    for taking in [Taking::KeepTab, Taking::KeepSpace, Taking::AddText] {
-        refuses_taken(alloc, taken_of(alloc)?, |nodes| taking.call(alloc, nodes))?;
-    }
-    Ok(())
+    refuses_taken(alloc, taken_of(alloc)?, |nodes| {
+        keep_runs(alloc, nodes).map(|kept| is_kept_at(&kept, TAB))
+    })?;
+    refuses_taken(alloc, taken_of(alloc)?, |nodes| {
+        protect_spaces(alloc, nodes).map(|kept| is_kept_at(&kept, SPACE))
+    })?;
+    refuses_taken(alloc, taken_of(alloc)?, |nodes| adds_text(alloc, nodes))
 }
 
 /// Returns a space at the beginning, and one between two words.

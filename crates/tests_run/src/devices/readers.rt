@@ -2,7 +2,7 @@
 
 use super::{CASES, Case, INPUT, OUTPUT};
 use crate::runs::{answer, assert_run};
-use std::alloc::Global;
+use std::alloc::{AllocError, Global};
 use std::io;
 use std::io::{Error, ErrorKind, Read};
 use std::process::Abort;
@@ -71,16 +71,11 @@ impl Read for Asked<'_> {
 }
 
 /// Returns the input whose only text is that many letters.
-fn long_input(rt: &impl Abort, alloc: Global, letters: usize) -> String {
-    let mut input = String::new(alloc);
-    input
-        .push_str(r#"["el","p",[],[["text",""#)
-        .expect(rt, "memory for the input");
-    for _ in 0..letters {
-        input.push('x').expect(rt, "memory for the input");
-    }
-    input.push_str(r#""]]]"#).expect(rt, "memory for the input");
-    input
+fn long_input(alloc: Global, letters: usize) -> Result<String, AllocError> {
+    format!(in alloc;
+        r#"["el","p",[],[["text","{}"]]]"#,
+        "x".repeat(alloc, letters)?
+    )
 }
 
 /// Asserts that a failing read ends the run: nothing is written, and nothing is read after that.
@@ -93,17 +88,13 @@ fn assert_failed(rt: &impl Abort, alloc: Global, case: &Case, fails_at: usize, k
     assert!(rt; reader.reads == fails_at.saturating_add(1), "{input}");
 }
 
-fn assert_each_failed(rt: &impl Abort, alloc: Global, case: &Case) {
-    for fails_at in 0..=case.input.len() {
-        assert_failed(rt, alloc, case, fails_at, ErrorKind::Other);
-    }
-}
-
 /// A failing read ends the run whatever the input spells, and even if it spells nothing.
 #[test]
 fn each_read_fails(rt: HostRuntime) {
     for case in &CASES {
-        assert_each_failed(&rt, rt.alloc(), case);
+        for fails_at in 0..=case.input.len() {
+            assert_failed(&rt, rt.alloc(), case, fails_at, ErrorKind::Other);
+        }
     }
 }
 
@@ -128,7 +119,7 @@ fn assert_long<R: Read>(rt: &impl Abort, alloc: Global, reader: &mut R) {
 
 #[test]
 fn thousands_of_reads(rt: HostRuntime) {
-    let input = long_input(&rt, rt.alloc(), 9000);
+    let input = long_input(rt.alloc(), 9000).expect(&rt, "memory for the input");
     let mut reader = Drip::new(input.as_bytes(), usize::MAX, ErrorKind::Other);
     assert_long(&rt, rt.alloc(), &mut reader);
     assert!(rt; reader.reads == input.len().saturating_add(1));
@@ -137,13 +128,13 @@ fn thousands_of_reads(rt: HostRuntime) {
 /// The read that reaches the end may be the 1,048,576th, and no later one.
 #[test]
 fn as_many_reads_as_there_may_be(rt: HostRuntime) {
-    let input = long_input(&rt, rt.alloc(), 1_048_548);
+    let input = long_input(rt.alloc(), 1_048_548).expect(&rt, "memory for the input");
     let mut reader = Drip::new(input.as_bytes(), usize::MAX, ErrorKind::Other);
     let (status, out) = answer(&rt, rt.alloc(), &["tree"], &mut reader);
     assert!(rt; status == Status::Done);
     assert!(rt; out.len() == 1_048_570);
     assert!(rt; reader.reads == 1_048_576);
-    let input = long_input(&rt, rt.alloc(), 1_048_549);
+    let input = long_input(rt.alloc(), 1_048_549).expect(&rt, "memory for the input");
     let mut reader = Drip::new(input.as_bytes(), usize::MAX, ErrorKind::Other);
     assert_run(&rt, rt.alloc(), &mut reader, Status::Failed, "");
 }
@@ -151,7 +142,7 @@ fn as_many_reads_as_there_may_be(rt: HostRuntime) {
 /// Each read requests 4,096 bytes.
 #[test]
 fn lengths_of_reads(rt: HostRuntime) {
-    let input = long_input(&rt, rt.alloc(), 9000);
+    let input = long_input(rt.alloc(), 9000).expect(&rt, "memory for the input");
     let mut reader = Asked {
         rest: input.as_bytes(),
         lengths: Vec::new(rt.alloc()),

@@ -92,13 +92,6 @@ fn assert_recorded(rt: &impl Abort, alloc: Global, case: &Case) {
     }
 }
 
-#[test]
-fn recorded_writes(rt: HostRuntime) {
-    for case in &CASES {
-        assert_recorded(&rt, rt.alloc(), case);
-    }
-}
-
 /// Asserts that a failing write ends the run: the beginning is written, nothing is tried again,
 /// nothing is flushed.
 fn assert_failed(rt: &impl Abort, alloc: Global, case: &Case, fails_at: usize) {
@@ -109,32 +102,12 @@ fn assert_failed(rt: &impl Abort, alloc: Global, case: &Case, fails_at: usize) {
     assert!(rt; writer.flushes == 0, "{}", case.input);
 }
 
-fn assert_each_failed(rt: &impl Abort, alloc: Global, case: &Case) {
-    for fails_at in 0..case.text.len() {
-        assert_failed(rt, alloc, case, fails_at);
-    }
-}
-
-#[test]
-fn each_write_fails(rt: HostRuntime) {
-    for case in &CASES {
-        assert_each_failed(&rt, rt.alloc(), case);
-    }
-}
-
 /// Asserts that a write of no bytes ends the run.
 fn assert_none_taken(rt: &impl Abort, alloc: Global, case: &Case) {
     let mut writer = Slow::new(alloc, 0);
     let status = status_of(rt, alloc, case, &mut writer, 0);
     assert!(rt; status == Status::Failed, "{}", case.input);
     assert!(rt; writer.writes == 1, "{}", case.input);
-}
-
-#[test]
-fn no_byte_a_write(rt: HostRuntime) {
-    for case in &CASES {
-        assert_none_taken(&rt, rt.alloc(), case);
-    }
 }
 
 /// Asserts that everything is written, that many bytes at a time, and that the only flush comes
@@ -147,19 +120,6 @@ fn assert_whole(rt: &impl Abort, alloc: Global, case: &Case, most: usize) {
     assert!(rt; writer.flushes == 1, "{}", case.input);
 }
 
-fn assert_each_whole(rt: &impl Abort, alloc: Global, case: &Case) {
-    for most in 1usize..=case.text.len() {
-        assert_whole(rt, alloc, case, most);
-    }
-}
-
-#[test]
-fn few_bytes_a_write(rt: HostRuntime) {
-    for case in &CASES {
-        assert_each_whole(&rt, rt.alloc(), case);
-    }
-}
-
 /// Asserts that a failing flush is a failed write, and is not tried again.
 fn assert_not_flushed(rt: &impl Abort, alloc: Global, case: &Case) {
     let mut writer = Slow::new(alloc, 7);
@@ -170,8 +130,16 @@ fn assert_not_flushed(rt: &impl Abort, alloc: Global, case: &Case) {
 }
 
 #[test]
-fn flush_fails(rt: HostRuntime) {
+fn slow_and_failing_writers(rt: HostRuntime) {
     for case in &CASES {
+        assert_recorded(&rt, rt.alloc(), case);
+        assert_none_taken(&rt, rt.alloc(), case);
         assert_not_flushed(&rt, rt.alloc(), case);
+        for fails_at in 0..case.text.len() {
+            assert_failed(&rt, rt.alloc(), case, fails_at);
+        }
+        for most in 1usize..=case.text.len() {
+            assert_whole(&rt, rt.alloc(), case, most);
+        }
     }
 }

@@ -26,20 +26,9 @@ impl IntoAttr for Limit {
     }
 }
 
-mod tests {
-    use super::Limit;
-    use html_values::IntoAttr;
-    use std::alloc::{AllocError, Global};
-    use std::test::Fail;
+#[test]
+fn a_value_has_its_text(rt: HostRuntime) -> tests_asserts::TestResult {
     use tests_asserts::assert_text;
-
-    fn text_of<T: IntoAttr>(alloc: Global, value: &T) -> Result<String, AllocError> {
-        value.into_attr(alloc)
-    }
-
-    #[test]
-    fn a_value_has_its_text(rt: HostRuntime) -> Result<(), Fail> {
-        assert_text(&text_of(rt.alloc(), &Limit::Most(7))?, "7")?;
-        assert_text(&text_of(rt.alloc(), &Limit::Unlimited)?, "none")
-    }
+    assert_text(&Limit::Most(7).into_attr(rt.alloc())?, "7")?;
+    assert_text(&Limit::Unlimited.into_attr(rt.alloc())?, "none")
 }

@@ -25,41 +25,13 @@ impl FrameWriter for OneText {
     }
 }
 
-mod tests {
-    use super::OneText;
-    use std::alloc::Global;
-    use std::test::Fail;
-    use tests_asserts::assert_text;
-    use typst_html::{
-        Abs, ExportFault, Frame, FrameFault, FrameWriter, HtmlElement, HtmlFrame, HtmlNode,
-        HtmlOptions, Span, html_in_bundle, tag,
-    };
-
-    /// Returns a frame with span 2.
-    fn frame(alloc: Global) -> HtmlFrame {
-        let (picture, items) = (1, Vec::new(alloc));
-        let size = Abs::from_millionths(11_000_000);
-        HtmlFrame::new(alloc, Frame { picture, items }, size, Span(2))
-    }
-
-    /// Returns the text of a `div` with such a frame.
-    fn written<W: FrameWriter>(alloc: Global, writer: &W) -> Result<String, ExportFault> {
-        let root = HtmlElement::new(alloc, tag::div).with_child(HtmlNode::from(frame(alloc)))?;
-        html_in_bundle(alloc, &root, &HtmlOptions::default(), writer)
-    }
-
-    #[test]
-    fn a_frame_is_its_writers_text(rt: HostRuntime) -> Result<(), Fail> {
-        let text = String::from_str(rt.alloc(), "<svg/>")?;
-        let html = written(rt.alloc(), &OneText { text })?;
-        assert_text(&html, "<!DOCTYPE html><div><svg/></div>")
-    }
-
-    #[test]
-    fn no_writer_refuses_each_frame(rt: HostRuntime) {
-        let answer = ().write(rt.alloc(), &frame(rt.alloc()), false);
-        assert!(rt; answer.err() == Some(FrameFault::Refused));
-        let wanted = ExportFault::FrameRefused { span: Span(2) };
-        assert!(rt; written(rt.alloc(), &()).err() == Some(wanted));
-    }
+#[test]
+fn a_frame_is_its_writers_text(rt: HostRuntime) -> tests_asserts::TestResult {
+    use typst_html::{Abs, Frame, HtmlElement, HtmlNode, HtmlOptions, Span, html_in_bundle, tag};
+    let (alloc, items) = (rt.alloc(), Vec::new(rt.alloc()));
+    let (size, text) = (Abs::from_millionths(1), String::from_str(alloc, "<svg/>")?);
+    let frame = HtmlFrame::new(alloc, Frame { picture: 1, items }, size, Span(2));
+    let root = HtmlElement::new(alloc, tag::div).with_child(HtmlNode::from(frame))?;
+    let html = html_in_bundle(alloc, &root, &HtmlOptions::default(), &OneText { text })?;
+    tests_asserts::assert_text(&html, "<!DOCTYPE html><div><svg/></div>")
 }

@@ -27,22 +27,14 @@ impl WarningSink for Kept {
     }
 }
 
-mod tests {
-    use super::Kept;
-    use html_values::{Paint, ToCss, Warning};
-    use std::test::Fail;
-
-    #[test]
-    fn a_sink_keeps_what_it_takes(rt: HostRuntime) -> Result<(), Fail> {
-        let mut kept = Kept {
-            document: 3,
-            warnings: Vec::new(rt.alloc()),
-        };
-        let _ = Paint::Tiling.to_css(rt.alloc(), &mut kept)?;
-        let _ = Paint::Gradient.to_css(rt.alloc(), &mut kept)?;
-        let wanted = [Warning::Tiling, Warning::Gradient];
-        assert_eq!(rt; kept.warnings.as_slice(), wanted.as_slice());
-        assert!(rt; kept.document == 3);
-        Ok(())
-    }
+#[test]
+fn a_sink_keeps_what_it_takes(rt: HostRuntime) -> tests_asserts::TestResult {
+    use html_values::{Paint, ToCss};
+    let (document, warnings) = (3, Vec::new(rt.alloc()));
+    let mut kept = Kept { document, warnings };
+    let _ = Paint::Tiling.to_css(rt.alloc(), &mut kept)?;
+    let _ = Paint::Gradient.to_css(rt.alloc(), &mut kept)?;
+    let wanted = [Warning::Tiling, Warning::Gradient];
+    assert!(rt; kept.document == 3 && kept.warnings.as_slice() == wanted.as_slice());
+    Ok(())
 }

@@ -23,23 +23,11 @@ impl ToCss for Dimension<'_> {
     }
 }
 
-mod tests {
-    use super::Dimension;
-    use html_values::{CssWriter, ToCss};
-    use std::test::Fail;
-    use tests_asserts::assert_text;
-
-    #[test]
-    fn a_value_has_its_text(rt: HostRuntime) -> Result<(), Fail> {
-        let second = Dimension {
-            number: "1",
-            unit: "s",
-        };
-        let css = second.to_css(rt.alloc(), &mut ())?;
-        assert_text(&css, "1s")?;
-        let mut out = CssWriter::new(rt.alloc(), ());
-        out.write("left ")?;
-        out.emit(&second)?;
-        assert_text(out.text(), "left 1s")
-    }
+#[test]
+fn a_value_has_its_text(rt: HostRuntime) -> tests_asserts::TestResult {
+    let (number, unit) = ("1", "s");
+    let mut out = CssWriter::new(rt.alloc(), ());
+    out.write("left ")?;
+    out.emit(&Dimension { number, unit })?;
+    tests_asserts::assert_text(out.text(), "left 1s")
 }

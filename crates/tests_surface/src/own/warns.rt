@@ -20,18 +20,10 @@ impl ToCss for Fading {
     }
 }
 
-mod tests {
-    use super::Fading;
-    use html_values::{ToCss, Warning};
-    use std::test::Fail;
-    use tests_asserts::assert_text;
-
-    #[test]
-    fn a_value_may_warn(rt: HostRuntime) -> Result<(), Fail> {
-        let mut warnings = Vec::new(rt.alloc());
-        let css = Fading.to_css(rt.alloc(), &mut warnings)?;
-        assert_text(&css, "")?;
-        assert!(rt; warnings.as_slice() == [Warning::Gradient].as_slice());
-        Ok(())
-    }
+#[test]
+fn a_value_may_warn(rt: HostRuntime) -> tests_asserts::TestResult {
+    let mut warnings = Vec::new(rt.alloc());
+    tests_asserts::assert_text(&Fading.to_css(rt.alloc(), &mut warnings)?, "")?;
+    assert!(rt; warnings.as_slice() == [Warning::Gradient].as_slice());
+    Ok(())
 }
