@@ -8,6 +8,6 @@ pub mod PageRoots
 pub mod NestingRules
 pub mod Misnested
 pub mod MisnestedViews
-pub mod MisnestingWords
+pub mod MisnestingTexts
 pub mod Walks
 pub mod Passing

@@ -1,7 +1,7 @@
 //! The reasons why a browser does not leave a node where it is.
 
 ghost use Rattle.std.specs.Prelude.{◌≡◌};
-ghost use Rattle.html_page_nesting.specs.MisnestingWords.{rule_words};
+ghost use Rattle.html_page_nesting.specs.MisnestingTexts.{rule_name, rule_words};
 
 use std::fmt;
 
@@ -79,48 +79,89 @@ pub enum Misnesting {
 }
 
 impl Misnesting {
+    /// Returns the name of the rule, and what becomes of the node.
+    #[tactic(auto, unfolding(crate::specs::MisnestingTexts::rule_texts))]
+    fn texts(self) -> (&'static str, &'static str)
+        ensures name { result.0.now ≡ rule_name self }
+        ensures words { result.1.now ≡ rule_words self }
+    {
+        match self {
+            Self::NoPage => ("NoPage", "is no html with a head and a body alone"),
+            Self::TooDeep => ("TooDeep", "stands too deep, and is put beside its parent"),
+            Self::TagName => ("TagName", "has a name that is read otherwise"),
+            Self::AttributeName => (
+                "AttributeName",
+                "has an attribute whose name is read otherwise",
+            ),
+            Self::RepeatedAttribute => (
+                "RepeatedAttribute",
+                "has an attribute twice, and loses one",
+            ),
+            Self::CarriageReturn => (
+                "CarriageReturn",
+                "has a carriage return, which is read as a line feed",
+            ),
+            Self::StaysOpen => ("StaysOpen", "has no end tag here, and holds what follows"),
+            Self::UnreadEnd => (
+                "UnreadEnd",
+                "has an end tag that is not read, and loses what it holds",
+            ),
+            Self::RawText => (
+                "RawText",
+                "holds elements or references, which are read as text",
+            ),
+            Self::ForeignText => (
+                "ForeignText",
+                "has a & or < in svg or math, which is no text there",
+            ),
+            Self::FirstLineFeed => (
+                "FirstLineFeed",
+                "begins with a line feed, which is not read as one",
+            ),
+            Self::ScriptComment => ("ScriptComment", "has a <!--, behind which it may not end"),
+            Self::NotInHead => ("NotInHead", "closes the head or noscript that it stands in"),
+            Self::NotInTable => ("NotInTable", "is moved before the table that it stands in"),
+            Self::NotInColumns => ("NotInColumns", "closes the colgroup that it stands in"),
+            Self::OutsideTable => ("OutsideTable", "is dropped outside of its part of a table"),
+            Self::NeverRead => ("NeverRead", "is ignored here, or read as another"),
+            Self::FormInForm => ("FormInForm", "is ignored in a form"),
+            Self::ClosesParagraph => ("ClosesParagraph", "closes the p that it stands in"),
+            Self::ClosesHeading => ("ClosesHeading", "closes the heading that it stands in"),
+            Self::ClosesItem => ("ClosesItem", "closes the li, dd or dt that it stands in"),
+            Self::ClosesSame => ("ClosesSame", "closes the one of its name that it stands in"),
+            Self::ClosesOption => (
+                "ClosesOption",
+                "closes the option or the part of a select that it stands in",
+            ),
+            Self::ClosesSelect => ("ClosesSelect", "closes the select that it stands in"),
+            Self::ClosesRubyPart => (
+                "ClosesRubyPart",
+                "closes the part of a ruby that it stands in",
+            ),
+            Self::LeavesForeign => ("LeavesForeign", "closes the svg or math that it stands in"),
+            Self::Filled => ("Filled", "is filled with what the chosen option holds"),
+        }
+    }
+
+    /// Returns the name of the rule: `ClosesParagraph`.
+    pub fn name(self) -> &'static str
+        ensures { result.now ≡ rule_name self }
+    {
+        self.texts().0
+    }
+
     /// Returns what becomes of the node, in English: `closes the p that it stands in`.
-    #[tactic(auto, unfolding(crate::specs::MisnestingWords::rule_words))]
     pub fn words(self) -> &'static str
         ensures { result.now ≡ rule_words self }
     {
-        match self {
-            Misnesting::NoPage => "is no html with a head and a body alone",
-            Misnesting::TooDeep => "stands too deep, and is put beside its parent",
-            Misnesting::TagName => "has a name that is read otherwise",
-            Misnesting::AttributeName => "has an attribute whose name is read otherwise",
-            Misnesting::RepeatedAttribute => "has an attribute twice, and loses one",
-            Misnesting::CarriageReturn => "has a carriage return, which is read as a line feed",
-            Misnesting::StaysOpen => "has no end tag here, and holds what follows",
-            Misnesting::UnreadEnd => "has an end tag that is not read, and loses what it holds",
-            Misnesting::RawText => "holds elements or references, which are read as text",
-            Misnesting::ForeignText => "has a & or < in svg or math, which is no text there",
-            Misnesting::FirstLineFeed => "begins with a line feed, which is not read as one",
-            Misnesting::ScriptComment => "has a <!--, behind which it may not end",
-            Misnesting::NotInHead => "closes the head or noscript that it stands in",
-            Misnesting::NotInTable => "is moved before the table that it stands in",
-            Misnesting::NotInColumns => "closes the colgroup that it stands in",
-            Misnesting::OutsideTable => "is dropped outside of its part of a table",
-            Misnesting::NeverRead => "is ignored here, or read as another",
-            Misnesting::FormInForm => "is ignored in a form",
-            Misnesting::ClosesParagraph => "closes the p that it stands in",
-            Misnesting::ClosesHeading => "closes the heading that it stands in",
-            Misnesting::ClosesItem => "closes the li, dd or dt that it stands in",
-            Misnesting::ClosesSame => "closes the one of its name that it stands in",
-            Misnesting::ClosesOption =>
-                "closes the option or the part of a select that it stands in",
-            Misnesting::ClosesSelect => "closes the select that it stands in",
-            Misnesting::ClosesRubyPart => "closes the part of a ruby that it stands in",
-            Misnesting::LeavesForeign => "closes the svg or math that it stands in",
-            Misnesting::Filled => "is filled with what the chosen option holds",
-        }
+        self.texts().1
     }
 }
 
 /// Writes what becomes of the node: `closes the p that it stands in`.
 impl fmt::Display for Misnesting {
     ghost use Rattle.std.specs.Prelude.{Some};
-    ghost use Rattle.html_page_nesting.specs.MisnestingWords.{rule_words};
+    ghost use Rattle.html_page_nesting.specs.MisnestingTexts.{rule_words};
 
     ghost output = { λ rule. Some (rule_words rule) };
 

@@ -3,41 +3,10 @@
 --     [{"rule":t,"why":t,"keeps":n,"path":[n,..],"offset":n,"line":n,"column":n},..]
 use Rattle.std.specs.Prelude.{ℕ, List, [], ◌∷◌, codes}
 use Rattle.serde_json.specs.{Data.{Data, string, array, object, member}, View.{items_of}}
-use Rattle.html_page_nesting.specs.{Misnested.{Finding}, MisnestingWords.{rule_words}, declared.misnesting.Misnesting.{Misnesting}}
-use Rattle.html_page_nesting.specs.declared.misnesting.Misnesting.TheVariants as why
+use Rattle.html_page_nesting.specs.{Misnested.{Finding}, MisnestingTexts.{rule_name, rule_words}, declared.misnesting.Misnesting.{Misnesting}}
 use Rattle.html_page_read.specs.PagePlaces.{place_at}
 use Rattle.html_text.specs.declared.place.Place.{Place}
 use Rattle.typst_html_ffi.specs.FindingLists.{where_behind}
-
--- the name of a rule
-unfoldable pub rule_name : Misnesting → List ℕ
-rule_name why.NoPage = codes "NoPage"
-rule_name why.TooDeep = codes "TooDeep"
-rule_name why.TagName = codes "TagName"
-rule_name why.AttributeName = codes "AttributeName"
-rule_name why.RepeatedAttribute = codes "RepeatedAttribute"
-rule_name why.CarriageReturn = codes "CarriageReturn"
-rule_name why.StaysOpen = codes "StaysOpen"
-rule_name why.UnreadEnd = codes "UnreadEnd"
-rule_name why.RawText = codes "RawText"
-rule_name why.ForeignText = codes "ForeignText"
-rule_name why.FirstLineFeed = codes "FirstLineFeed"
-rule_name why.ScriptComment = codes "ScriptComment"
-rule_name why.NotInHead = codes "NotInHead"
-rule_name why.NotInTable = codes "NotInTable"
-rule_name why.NotInColumns = codes "NotInColumns"
-rule_name why.OutsideTable = codes "OutsideTable"
-rule_name why.NeverRead = codes "NeverRead"
-rule_name why.FormInForm = codes "FormInForm"
-rule_name why.ClosesParagraph = codes "ClosesParagraph"
-rule_name why.ClosesHeading = codes "ClosesHeading"
-rule_name why.ClosesItem = codes "ClosesItem"
-rule_name why.ClosesSame = codes "ClosesSame"
-rule_name why.ClosesOption = codes "ClosesOption"
-rule_name why.ClosesSelect = codes "ClosesSelect"
-rule_name why.ClosesRubyPart = codes "ClosesRubyPart"
-rule_name why.LeavesForeign = codes "LeavesForeign"
-rule_name why.Filled = codes "Filled"
 
 -- the rule that a node breaks, and where it stands
 abbrev pub node_data : (previous path : List ℕ) → Place → Misnesting → Data

@@ -4,7 +4,7 @@ ghost use Rattle.std.specs.Prelude.{◌≡◌, List, ℕ, [], ◌++◌, string_b
 ghost use Rattle.serde_json.specs.Written.{compact_text};
 ghost use Rattle.html_page_nesting.specs.Misnested.{Finding};
 ghost use Rattle.html_page_read.specs.PlaceViews.{text_of};
-ghost use Rattle.typst_html_ffi.specs.{LongTexts.{text_bytes}, MisnestedNodes.{misnested_data, node_data, rule_name}};
+ghost use Rattle.typst_html_ffi.specs.{LongTexts.{text_bytes}, MisnestedNodes.{misnested_data, node_data}};
 ghost use Rattle.typst_html_ffi.specs.PageSteps.{text_with_nodes};
 
 use crate::lists::{push_comma_if, push_key, push_string, push_where};
@@ -91,44 +91,9 @@ fn push_node(
 {
     text.push_str("{")?;
     push_key(alloc, text, false, "rule")?;
-    push_string(alloc, text, rule_name(why))?;
+    push_string(alloc, text, why.name())?;
     push_key(alloc, text, true, "why")?;
     push_string(alloc, text, why.words())?;
     push_where(alloc, text, previous, path, place)?;
     Ok(())
-}
-
-#[tactic(auto, unfolding(crate::specs::MisnestedNodes::rule_name))]
-fn rule_name(rule: Misnesting) -> &'static str
-    ensures { result.now ≡ rule_name rule }
-{
-    match rule {
-        Misnesting::NoPage => "NoPage",
-        Misnesting::TooDeep => "TooDeep",
-        Misnesting::TagName => "TagName",
-        Misnesting::AttributeName => "AttributeName",
-        Misnesting::RepeatedAttribute => "RepeatedAttribute",
-        Misnesting::CarriageReturn => "CarriageReturn",
-        Misnesting::StaysOpen => "StaysOpen",
-        Misnesting::UnreadEnd => "UnreadEnd",
-        Misnesting::RawText => "RawText",
-        Misnesting::ForeignText => "ForeignText",
-        Misnesting::FirstLineFeed => "FirstLineFeed",
-        Misnesting::ScriptComment => "ScriptComment",
-        Misnesting::NotInHead => "NotInHead",
-        Misnesting::NotInTable => "NotInTable",
-        Misnesting::NotInColumns => "NotInColumns",
-        Misnesting::OutsideTable => "OutsideTable",
-        Misnesting::NeverRead => "NeverRead",
-        Misnesting::FormInForm => "FormInForm",
-        Misnesting::ClosesParagraph => "ClosesParagraph",
-        Misnesting::ClosesHeading => "ClosesHeading",
-        Misnesting::ClosesItem => "ClosesItem",
-        Misnesting::ClosesSame => "ClosesSame",
-        Misnesting::ClosesOption => "ClosesOption",
-        Misnesting::ClosesSelect => "ClosesSelect",
-        Misnesting::ClosesRubyPart => "ClosesRubyPart",
-        Misnesting::LeavesForeign => "LeavesForeign",
-        Misnesting::Filled => "Filled",
-    }
 }

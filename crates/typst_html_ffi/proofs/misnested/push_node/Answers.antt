@@ -1,8 +1,8 @@
 use Rattle.std.proofs.Common.{◌++◌, false, true, codes, string_bytes, ap, ◌∙◌}
 use Rattle.serde_json.specs.{Data.{string, member}, Written.{compact_text}}
-use Rattle.html_page_nesting.specs.MisnestingWords.{rule_words}
+use Rattle.html_page_nesting.specs.MisnestingTexts.{rule_name, rule_words}
 use Rattle.typst_html_ffi.proofs.Pages.{no_member_yet, one_more_member}
-use Rattle.typst_html_ffi.specs.{FindingLists.{where_behind}, MisnestedNodes.{rule_name}}
+use Rattle.typst_html_ffi.specs.FindingLists.{where_behind}
 use Rattle.typst_html_ffi.proofs.misnested.push_node.Goals as goal
 
 pub returns : goal.returns
@@ -18,6 +18,6 @@ returns c =
     (one_more_member false (codes "rule") rule later _ _ _ _
     (no_member_yet (member (codes "rule") rule later) _ _ c.in_ok-push_str.ensures.bytes)
     c.in_ok-push_key.ensures (c.in_ok-push_string.ensures
-    ∙ ap (λ name. named ++ compact_text (string name)) c.rule_name.ensures))
+    ∙ ap (λ name. named ++ compact_text (string name)) c.name.ensures))
     c.in_ok-push_key-2.ensures (c.in_ok-push_string-2.ensures
     ∙ ap (λ words. worded ++ compact_text (string words)) c.words.ensures)
