@@ -1,4 +1,5 @@
 pub mod CallReplies
+pub mod Calls
 pub mod DeadLinks
 pub mod FindingLists
 pub mod Fragments

@@ -9,9 +9,10 @@
 ghost use Rattle.std.specs.Prelude.{◌≡◌, IfOk};
 ghost use Rattle.html_anchors.specs.DeadLinks.{dead_links_view};
 ghost use Rattle.typst_html_run.specs.{DocumentAnswers.{text_given}, Replies.{GivesAnswer}};
-ghost use Rattle.typst_html_ffi.specs.CallReplies.{Replies, RepliesWith, call_dead_links, document_call_answer, write_answer};
-ghost use Rattle.typst_html_ffi.specs.{DeadLinks.{dead_links_answer}, Fragments.{fragment_call_answer}, PageFindings.{check_report}};
-ghost use Rattle.typst_html_ffi.specs.{PageLinks.{links_report}, PageReports.{Reports}, Unused.{unused_call_answer}};
+ghost use Rattle.typst_html_ffi.specs.CallReplies.{call_dead_links, document_call_answer, write_answer};
+ghost use Rattle.typst_html_ffi.specs.Calls.{ChecksPage, ListsDeadLinks, ListsLinks, ListsUnused};
+ghost use Rattle.typst_html_ffi.specs.Calls.{Writes, WritesDocument, WritesFragment};
+ghost use Rattle.typst_html_ffi.specs.{DeadLinks.{dead_links_answer}, Fragments.{fragment_call_answer}, Unused.{unused_call_answer}};
 
 mod dead_links;
 mod findings;
@@ -73,8 +74,7 @@ pub fn typst_html_write(
     input: &[u8],
     output: &mut [u8],
 ) -> Reply
-    ensures answered { Replies (write_answer kind layout input.now) output.old result output.new }
-    ensures kept { ¬ (result.status ≡ 0) → output.new ≡ output.old }
+    ensures { Writes kind layout input.now output.old result output.new }
 {
     reply_with(text_of(alloc, kind, layout, input), output)
 }
@@ -117,9 +117,7 @@ pub fn typst_html_document(
     input: &[u8],
     output: &mut [u8],
 ) -> Reply
-    ensures answered { RepliesWith (call_dead_links layout links limit input.now)
-        (document_call_answer layout links limit input.now) output.old result output.new }
-    ensures kept { ¬ (result.status ≡ 0) → ¬ (result.status ≡ 5) → output.new ≡ output.old }
+    ensures { WritesDocument layout links limit input.now output.old result output.new }
 {
     let made = text_of_settings(alloc, layout, links, limit, input);
     reply_with_document(made, output)
@@ -152,9 +150,7 @@ pub fn typst_html_fragment(
     input: &[u8],
     output: &mut [u8],
 ) -> Reply
-    ensures answered { Replies (fragment_call_answer level limit input.now)
-        output.old result output.new }
-    ensures kept { ¬ (result.status ≡ 0) → output.new ≡ output.old }
+    ensures { WritesFragment level limit input.now output.old result output.new }
 {
     reply_with(fragment_of(alloc, level, limit, input), output)
 }
@@ -180,8 +176,7 @@ fn dead_links_of(alloc: Global, limit: u32, input: &[u8]) -> Result<String, Faul
 /// span of its `a`. Input, limit and refusals are those of [`typst_html_document`], buffers and
 /// replies those of [`typst_html_write`].
 pub fn typst_html_dead_links(alloc: Global, limit: u32, input: &[u8], output: &mut [u8]) -> Reply
-    ensures answered { Replies (dead_links_answer limit input.now) output.old result output.new }
-    ensures kept { ¬ (result.status ≡ 0) → output.new ≡ output.old }
+    ensures { ListsDeadLinks limit input.now output.old result output.new }
 {
     reply_with(dead_links_of(alloc, limit, input), output)
 }
@@ -210,8 +205,7 @@ fn unused_of(alloc: Global, limit: u32, input: &[u8]) -> Result<String, Fault>
 /// `region`, `head`. Input and limit are those of [`typst_html_document`], which refuses whatever
 /// is refused here; buffers and replies are those of [`typst_html_write`].
 pub fn typst_html_unused(alloc: Global, limit: u32, input: &[u8], output: &mut [u8]) -> Reply
-    ensures answered { Replies (unused_call_answer limit input.now) output.old result output.new }
-    ensures kept { ¬ (result.status ≡ 0) → output.new ≡ output.old }
+    ensures { ListsUnused limit input.now output.old result output.new }
 {
     reply_with(unused_of(alloc, limit, input), output)
 }
@@ -257,8 +251,7 @@ pub fn typst_html_unused(alloc: Global, limit: u32, input: &[u8], output: &mut [
 /// length of its path. The findings are written as they are found: beside the report, two paths are
 /// held. The tree is freed while the misnested nodes are written.
 pub fn typst_html_check(alloc: Global, limit: u32, page: &[u8], output: &mut [u8]) -> Reply
-    ensures answered { Reports (check_report limit page.now) output.old result output.new }
-    ensures kept { ¬ (result.status ≡ 0) → output.new ≡ output.old }
+    ensures { ChecksPage limit page.now output.old result output.new }
 {
     reply_to_page(alloc, Asked::Findings, limit, page, output)
 }
@@ -281,8 +274,7 @@ pub fn typst_html_check(alloc: Global, limit: u32, page: &[u8], output: &mut [u8
 /// Each list is in document order. Paths, places, pages, limits and refusals are those of
 /// [`typst_html_check`].
 pub fn typst_html_links(alloc: Global, limit: u32, page: &[u8], output: &mut [u8]) -> Reply
-    ensures answered { Reports (links_report limit page.now) output.old result output.new }
-    ensures kept { ¬ (result.status ≡ 0) → output.new ≡ output.old }
+    ensures { ListsLinks limit page.now output.old result output.new }
 {
     reply_to_page(alloc, Asked::Links, limit, page, output)
 }

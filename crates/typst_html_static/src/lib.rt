@@ -3,9 +3,8 @@
 #![tactic(auto)]
 
 ghost use Rattle.std.specs.Prelude.{◌≡◌};
-ghost use Rattle.typst_html_ffi.specs.CallReplies.{Replies, RepliesWith, call_dead_links, document_call_answer, write_answer};
-ghost use Rattle.typst_html_ffi.specs.{DeadLinks.{dead_links_answer}, Fragments.{fragment_call_answer}, PageFindings.{check_report}};
-ghost use Rattle.typst_html_ffi.specs.{PageLinks.{links_report}, PageReports.{Reports}, Unused.{unused_call_answer}};
+ghost use Rattle.typst_html_ffi.specs.Calls.{Writes, WritesDocument, WritesFragment};
+ghost use Rattle.typst_html_ffi.specs.Calls.{ChecksPage, ListsDeadLinks, ListsLinks, ListsUnused};
 
 use std::alloc::Global;
 use typst_html_ffi::Reply;
@@ -27,8 +26,7 @@ pub extern "C" fn typst_html_write(
     input: &[u8],
     output: &mut [u8],
 ) -> Reply
-    ensures answered { Replies (write_answer kind layout input.now) output.old result output.new }
-    ensures kept { ¬ (result.status ≡ 0) → output.new ≡ output.old }
+    ensures { Writes kind layout input.now output.old result output.new }
 {
     typst_html_ffi::typst_html_write(alloc, kind, layout, input, output)
 }
@@ -43,9 +41,7 @@ pub extern "C" fn typst_html_document(
     input: &[u8],
     output: &mut [u8],
 ) -> Reply
-    ensures answered { RepliesWith (call_dead_links layout links limit input.now)
-        (document_call_answer layout links limit input.now) output.old result output.new }
-    ensures kept { ¬ (result.status ≡ 0) → ¬ (result.status ≡ 5) → output.new ≡ output.old }
+    ensures { WritesDocument layout links limit input.now output.old result output.new }
 {
     typst_html_ffi::typst_html_document(alloc, layout, links, limit, input, output)
 }
@@ -59,9 +55,7 @@ pub extern "C" fn typst_html_fragment(
     input: &[u8],
     output: &mut [u8],
 ) -> Reply
-    ensures answered { Replies (fragment_call_answer level limit input.now)
-        output.old result output.new }
-    ensures kept { ¬ (result.status ≡ 0) → output.new ≡ output.old }
+    ensures { WritesFragment level limit input.now output.old result output.new }
 {
     typst_html_ffi::typst_html_fragment(alloc, level, limit, input, output)
 }
@@ -74,8 +68,7 @@ pub extern "C" fn typst_html_dead_links(
     input: &[u8],
     output: &mut [u8],
 ) -> Reply
-    ensures answered { Replies (dead_links_answer limit input.now) output.old result output.new }
-    ensures kept { ¬ (result.status ≡ 0) → output.new ≡ output.old }
+    ensures { ListsDeadLinks limit input.now output.old result output.new }
 {
     typst_html_ffi::typst_html_dead_links(alloc, limit, input, output)
 }
@@ -88,8 +81,7 @@ pub extern "C" fn typst_html_unused(
     input: &[u8],
     output: &mut [u8],
 ) -> Reply
-    ensures answered { Replies (unused_call_answer limit input.now) output.old result output.new }
-    ensures kept { ¬ (result.status ≡ 0) → output.new ≡ output.old }
+    ensures { ListsUnused limit input.now output.old result output.new }
 {
     typst_html_ffi::typst_html_unused(alloc, limit, input, output)
 }
@@ -102,8 +94,7 @@ pub extern "C" fn typst_html_check(
     page: &[u8],
     output: &mut [u8],
 ) -> Reply
-    ensures answered { Reports (check_report limit page.now) output.old result output.new }
-    ensures kept { ¬ (result.status ≡ 0) → output.new ≡ output.old }
+    ensures { ChecksPage limit page.now output.old result output.new }
 {
     typst_html_ffi::typst_html_check(alloc, limit, page, output)
 }
@@ -116,8 +107,7 @@ pub extern "C" fn typst_html_links(
     page: &[u8],
     output: &mut [u8],
 ) -> Reply
-    ensures answered { Reports (links_report limit page.now) output.old result output.new }
-    ensures kept { ¬ (result.status ≡ 0) → output.new ≡ output.old }
+    ensures { ListsLinks limit page.now output.old result output.new }
 {
     typst_html_ffi::typst_html_links(alloc, limit, page, output)
 }

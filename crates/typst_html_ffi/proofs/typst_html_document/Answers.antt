@@ -1,6 +1,7 @@
 use Rattle.typst_html_ffi.proofs.typst_html_document.Goals as goal
 
-pub returns-clause-answered : goal.returns-clause-answered
-returns-clause-answered c =
+pub returns : goal.returns
+returns c =
     let made = c.text_of_settings-made.ensures in
-    c.reply_with_document.ensures.answered _ _ made.text made.dead
+    let reply = c.reply_with_document.ensures in
+    (reply.answered _ _ made.text made.dead, reply.kept)
