@@ -125,20 +125,64 @@ pub(crate) const SMALL_SVG_TAGS: [&str; 37] = tag_rows!(small_column);
 
 pub(crate) const SVG_TAGS: [&str; 37] = tag_rows!(name_column);
 
+/// The indices in `SMALL_SVG_TAGS`, each spelled as its name.
+#[rattlefmt::skip]
+#[allow(non_camel_case_types)]
+#[repr(u8)]
+enum SvgTag {
+    altglyph, altglyphdef, altglyphitem, animatecolor, animatemotion, animatetransform, clippath,
+    feblend, fecolormatrix, fecomponenttransfer, fecomposite, feconvolvematrix, fediffuselighting,
+    fedisplacementmap, fedistantlight, fedropshadow, feflood, fefunca, fefuncb, fefuncg, fefuncr,
+    fegaussianblur, feimage, femerge, femergenode, femorphology, feoffset, fepointlight,
+    fespecularlighting, fespotlight, fetile, feturbulence, foreignobject, glyphref, lineargradient,
+    radialgradient, textpath,
+}
+
 /// The index in `SMALL_SVG_TAGS` of the first name with each first letter, and the length.
+#[rattlefmt::skip]
 pub(crate) const SVG_TAG_STARTS: [u8; 27] = [
-    0, 6, 6, 7, 7, 7, 33, 34, 34, 34, 34, 34, 35, 35, 35, 35, 35, 35, 36, 36, 37, 37, 37, 37, 37,
-    37, 37,
+    SvgTag::altglyph as u8, SvgTag::clippath as u8, SvgTag::clippath as u8, SvgTag::feblend as u8,
+    SvgTag::feblend as u8, SvgTag::feblend as u8, SvgTag::glyphref as u8,
+    SvgTag::lineargradient as u8, SvgTag::lineargradient as u8, SvgTag::lineargradient as u8,
+    SvgTag::lineargradient as u8, SvgTag::lineargradient as u8, SvgTag::radialgradient as u8,
+    SvgTag::radialgradient as u8, SvgTag::radialgradient as u8, SvgTag::radialgradient as u8,
+    SvgTag::radialgradient as u8, SvgTag::radialgradient as u8, SvgTag::textpath as u8,
+    SvgTag::textpath as u8, 37, 37, 37, 37, 37, 37, 37,
 ];
 
 pub(crate) const SMALL_SVG_ATTRS: [&str; 58] = attr_rows!(small_column);
 
 pub(crate) const SVG_ATTRS: [&str; 58] = attr_rows!(name_column);
 
+/// The indices in `SMALL_SVG_ATTRS`, each spelled as its name.
+#[rattlefmt::skip]
+#[allow(non_camel_case_types)]
+#[repr(u8)]
+enum SvgAttr {
+    attributename, attributetype, basefrequency, baseprofile, calcmode, clippathunits,
+    diffuseconstant, edgemode, filterunits, glyphref, gradienttransform, gradientunits,
+    kernelmatrix, kernelunitlength, keypoints, keysplines, keytimes, lengthadjust,
+    limitingconeangle, markerheight, markerunits, markerwidth, maskcontentunits, maskunits,
+    numoctaves, pathlength, patterncontentunits, patterntransform, patternunits, pointsatx,
+    pointsaty, pointsatz, preservealpha, preserveaspectratio, primitiveunits, refx, refy,
+    repeatcount, repeatdur, requiredextensions, requiredfeatures, specularconstant,
+    specularexponent, spreadmethod, startoffset, stddeviation, stitchtiles, surfacescale,
+    systemlanguage, tablevalues, targetx, targety, textlength, viewbox, viewtarget,
+    xchannelselector, ychannelselector, zoomandpan,
+}
+
 /// The index in `SMALL_SVG_ATTRS` of the first name with each first letter, and the length.
+#[rattlefmt::skip]
 pub(crate) const SVG_ATTR_STARTS: [u8; 27] = [
-    0, 2, 4, 6, 7, 8, 9, 12, 12, 12, 12, 17, 19, 24, 25, 25, 35, 35, 41, 49, 53, 53, 55, 55, 56,
-    57, 58,
+    SvgAttr::attributename as u8, SvgAttr::basefrequency as u8, SvgAttr::calcmode as u8,
+    SvgAttr::diffuseconstant as u8, SvgAttr::edgemode as u8, SvgAttr::filterunits as u8,
+    SvgAttr::glyphref as u8, SvgAttr::kernelmatrix as u8, SvgAttr::kernelmatrix as u8,
+    SvgAttr::kernelmatrix as u8, SvgAttr::kernelmatrix as u8, SvgAttr::lengthadjust as u8,
+    SvgAttr::markerheight as u8, SvgAttr::numoctaves as u8, SvgAttr::pathlength as u8,
+    SvgAttr::pathlength as u8, SvgAttr::refx as u8, SvgAttr::refx as u8,
+    SvgAttr::specularconstant as u8, SvgAttr::tablevalues as u8, SvgAttr::viewbox as u8,
+    SvgAttr::viewbox as u8, SvgAttr::xchannelselector as u8, SvgAttr::xchannelselector as u8,
+    SvgAttr::ychannelselector as u8, SvgAttr::zoomandpan as u8, 58,
 ];
 
 pub(crate) const SMALL_MATH_ATTRS: [&str; 1] = ["definitionurl"];
