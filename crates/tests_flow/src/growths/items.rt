@@ -1,29 +1,17 @@
-//! Items: copies, the nodes that they become, and elements made from arguments.
+//! Items: the nodes that they become, and elements made from arguments.
 
 use html_dom_tree::{HtmlNode, Location, Span};
 use html_flow::{
-    Arg, ArgValue, Args, ConstructFault, ConversionLevel, ElementInfo, FrameElem, HtmlElem, Item,
-    Pair, Role, Whitespace, construct, convert_to_nodes, html_block_fragment, html_inline_fragment,
-    html_math_fragment, push_located,
+    Arg, ArgValue, Args, ConstructFault, ConversionLevel, ElementInfo, HtmlElem, Pair, Whitespace,
+    construct, convert_to_nodes, html_block_fragment, html_inline_fragment, html_math_fragment,
+    push_located,
 };
 use html_names_core::{attr, tag};
 use html_values::{AttrType, ListType, NativeType, Value};
 use std::alloc::{AllocError, Global};
 use tests_asserts::TestResult;
-use tests_failing_alloc::{refuses_copy, refuses_given, refuses_lent, refuses_pushed};
-use tests_items::{
-    block_of, blocks_of, elem_of, frame_elem_of, noted_frame_of, role_of, text_item_of,
-};
-
-#[test]
-fn copied_items(rt: HostRuntime) -> TestResult {
-    let alloc = rt.alloc();
-    refuses_copy(alloc, noted_frame_of(alloc)?, Pair::try_clone)?;
-    refuses_copy(alloc, role_of(alloc)?, Role::try_clone)?;
-    refuses_copy(alloc, frame_elem_of(alloc)?, FrameElem::try_clone)?;
-    refuses_copy(alloc, block_of(alloc)?.item, Item::try_clone)?;
-    refuses_copy(alloc, elem_of(alloc, tag::p)?, HtmlElem::try_clone)
-}
+use tests_failing_alloc::{refuses_given, refuses_lent, refuses_pushed};
+use tests_items::{blocks_of, elem_of, text_item_of};
 
 fn has_some(nodes: Vec<HtmlNode>) -> bool {
     !nodes.is_empty()
