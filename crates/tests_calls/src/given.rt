@@ -1,16 +1,4 @@
-//! The arguments that the calls borrow.
-
-use html_dom_document::DocumentInfo;
-use html_dom_tree::{HtmlElement, HtmlNode};
-use html_flow_convert::Pair;
-use html_links::place_names;
-use serde_json::Value;
-use std::alloc::Global;
-use std::collections::BTreeSet;
-use std::test::Fail;
-use tests_samples::{info_of, inner_of};
-use typst_html_json::{items_in, parse};
-use typst_html_read::read_html;
+//! The inputs of the calls for C.
 
 /// A page with a `div` in a `p`, which browsers move, a repeated id, a link to a place by its
 /// encoded name, and a link to no place.
@@ -41,43 +29,5 @@ pub(crate) const DOCUMENT: &str = concat!(
 pub(crate) const OWN_ROOT: &str =
     r#"{"title":"Tides","lang":"de","items":[["el","html",[],[["text","one"]]]]}"#;
 
-/// The length of the buffer of the calls for C, which is enough for each text.
-const ROOM: usize = 2048;
-
-/// The arguments that the calls borrow.
-#[derive(Debug, Drop)]
-pub(crate) struct Given {
-    /// The tree of the page.
-    pub(crate) root: HtmlElement,
-    /// The places in it.
-    pub(crate) places: BTreeSet<String>,
-    pub(crate) items: Vec<Pair>,
-    pub(crate) info: DocumentInfo,
-    pub(crate) head: Vec<HtmlNode>,
-    /// The value that spells the tree.
-    pub(crate) tree: Value,
-    /// The value that spells the items.
-    pub(crate) list: Value,
-    /// The value that spells the document.
-    pub(crate) document: Value,
-    /// The buffer of the calls for C.
-    pub(crate) buffer: Vec<u8>,
-}
-
-/// Returns the arguments, made while there is memory.
-pub(crate) fn given_of(alloc: Global) -> Result<Given, Fail> {
-    let root = read_html(alloc, PAGE, 9)?;
-    let places = place_names(alloc, &root)?;
-    let list = parse(alloc, ITEMS.as_bytes())?;
-    Ok(Given {
-        root,
-        places,
-        items: items_in(alloc, &list)?,
-        info: info_of(alloc)?,
-        head: vec![in alloc; HtmlNode::from(inner_of(alloc)?)]?,
-        tree: parse(alloc, TREE.as_bytes())?,
-        list,
-        document: parse(alloc, DOCUMENT.as_bytes())?,
-        buffer: vec![in alloc; b'.'; ROOM]?,
-    })
-}
+/// The length of the caller's buffer, which is enough for each text.
+pub(crate) const ROOM: usize = 2048;

@@ -1,33 +1,27 @@
 //! The calls, when growths of memory are refused.
 
-use crate::calls::{CALLS, JSON_CALLS, is_read, is_right, is_spelled};
-use crate::given::{Given, given_of};
+use crate::calls::{CALLS, is_written};
+use crate::given::ROOM;
 use html_flow_convert::{HtmlElem, Pair};
 use html_flow_places::NamedPlaces;
 use html_names_core::{Refused, tag};
 use tests_asserts::TestResult;
-use tests_failing_alloc::{refuses, refuses_given, refuses_lent};
+use tests_failing_alloc::{refuses_given, refuses_lent};
 use tests_items::elem_of;
 
-/// Refuses each growth of each call.
+/// A call that is refused leaves the buffer unchanged.
 #[test]
-fn borrowing_calls(rt: HostRuntime) -> TestResult {
+fn calls_for_c(rt: HostRuntime) -> TestResult {
     let alloc = rt.alloc();
     for name in CALLS.split_whitespace() {
+        let buffer = vec![in alloc; b'.'; ROOM]?;
         refuses_lent(
             alloc,
-            given_of(alloc)?,
-            |given: &mut Given| is_right(alloc, name, given),
+            buffer,
+            |buffer: &mut Vec<u8>| is_written(alloc, name, buffer),
         )?;
     }
-    for name in JSON_CALLS.split_whitespace() {
-        refuses_lent(
-            alloc,
-            given_of(alloc)?,
-            |given: &mut Given| is_spelled(alloc, name, given),
-        )?;
-    }
-    refuses(alloc, || is_read(alloc))
+    Ok(())
 }
 
 /// Whether a link is to be appended or a place, and the arguments of that call.

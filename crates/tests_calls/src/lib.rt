@@ -1,5 +1,5 @@
-//! Tests of public calls over several crates when growths of memory are refused: of those that
-//! borrow their arguments, and of those that consume and return them. What the calls make is tested
+//! Tests of public calls over several crates when growths of memory are refused: of the calls for C,
+//! and of those that consume their arguments and return them. What the calls make is tested
 //! elsewhere.
 #![tactic(auto)]
 

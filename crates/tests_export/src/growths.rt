@@ -2,4 +2,3 @@
 //! a run succeeds.
 
 mod reading;
-mod texts;

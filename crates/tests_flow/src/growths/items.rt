@@ -1,40 +1,15 @@
-//! Items: the nodes that they become, and elements made from arguments.
+//! Items that get attributes and bodies, and elements made from arguments.
 
-use html_dom_tree::{HtmlNode, Location, Span};
+use html_dom_tree::{Location, Span};
 use html_flow::{
-    Arg, ArgValue, Args, ConstructFault, ConversionLevel, ElementInfo, HtmlElem, Pair, Whitespace,
-    construct, convert_to_nodes, html_block_fragment, html_inline_fragment, html_math_fragment,
-    push_located,
+    Arg, ArgValue, Args, ConstructFault, ElementInfo, HtmlElem, Pair, construct, push_located,
 };
 use html_names_core::{attr, tag};
 use html_values::{AttrType, ListType, NativeType, Value};
 use std::alloc::{AllocError, Global};
 use tests_asserts::TestResult;
 use tests_failing_alloc::{refuses_given, refuses_lent, refuses_pushed};
-use tests_items::{blocks_of, elem_of, text_item_of};
-
-fn has_some(nodes: Vec<HtmlNode>) -> bool {
-    !nodes.is_empty()
-}
-
-#[test]
-fn converted_items(rt: HostRuntime) -> TestResult {
-    let (alloc, spaces) = (rt.alloc(), Whitespace::Normal);
-    for level in [ConversionLevel::Block, ConversionLevel::Inline] {
-        refuses_lent(alloc, blocks_of(alloc)?, |items: &mut Vec<Pair>| {
-            convert_to_nodes(alloc, items, level, spaces, None, 0, 9).map(has_some)
-        })?;
-    }
-    refuses_lent(alloc, blocks_of(alloc)?, |items: &mut Vec<Pair>| {
-        html_block_fragment(alloc, items, Span(1), spaces, Some("x"), 0, 9).map(has_some)
-    })?;
-    refuses_lent(alloc, blocks_of(alloc)?, |items: &mut Vec<Pair>| {
-        html_inline_fragment(alloc, items, Span(1), spaces, None, 0, 9).map(has_some)
-    })?;
-    refuses_lent(alloc, blocks_of(alloc)?, |items: &mut Vec<Pair>| {
-        html_math_fragment(alloc, items, Span(1), spaces, None, 0, 9).map(has_some)
-    })
-}
+use tests_items::{elem_of, text_item_of};
 
 fn has_two(element: &HtmlElem) -> bool {
     element.attrs.0.len() == 2

@@ -1,13 +1,11 @@
-//! Bare spaces, and calls that preserve white space: they consume their arguments, and do not
-//! return them.
+//! Calls that preserve white space: they consume their arguments, and do not return them.
 
-use html_dom_flat::FlatTree;
 use html_dom_tree::{HtmlElement, HtmlNode, Span};
-use html_flow_convert::{bare_spaces, keep_runs, protect_spaces, push_text_nodes};
+use html_flow_convert::{keep_runs, protect_spaces, push_text_nodes};
 use html_names_core::tag;
 use std::alloc::{AllocError, Global};
 use tests_asserts::TestResult;
-use tests_failing_alloc::{SPARES, refuses, refuses_taken};
+use tests_failing_alloc::{SPARES, refuses_taken};
 use tests_samples::{start_of, text_of};
 
 /// The number of nodes that are made, and the indices of a lone space and a tab.
@@ -60,24 +58,4 @@ fn taken(rt: HostRuntime) -> TestResult {
         protect_spaces(alloc, nodes).map(|kept| is_kept_at(&kept, SPACE))
     })?;
     refuses_taken(alloc, taken_of(alloc)?, |nodes| adds_text(alloc, nodes))
-}
-
-/// Returns a space at the beginning, and one between two words.
-fn spaced_of(alloc: Global) -> Result<Vec<HtmlNode>, AllocError> {
-    let mut nodes = Vec::new(alloc);
-    nodes.push(text_of(alloc, " ", 1)?)?;
-    nodes.push(text_of(alloc, "one", 2)?)?;
-    nodes.push(HtmlNode::from(start_of(alloc)?))?;
-    nodes.push(text_of(alloc, " ", 3)?)?;
-    nodes.push(text_of(alloc, "two", 4)?)?;
-    Ok(nodes)
-}
-
-#[test]
-fn lone_spaces(rt: HostRuntime) -> TestResult {
-    let alloc = rt.alloc();
-    let tree = FlatTree::from_nodes(alloc, &spaced_of(alloc)?)?;
-    refuses(alloc, || {
-        bare_spaces(alloc, &tree).map(|found| found.bare.as_slice() == [false, true].as_slice())
-    })
 }
