@@ -65,7 +65,7 @@ struct typst_html_reply {
 };
 
 /* The refusals, whose words typst_html_words() returns. A page is refused with 8 or with a number
-   from 26 on. */
+   from 27 on. */
 enum typst_html_refusal {
     TYPST_HTML_REFUSAL_EMPTY_TAG = 1,
     TYPST_HTML_REFUSAL_BAD_TAG_CHAR = 2,
@@ -82,19 +82,14 @@ enum typst_html_refusal {
     TYPST_HTML_REFUSAL_RAW_CHILD = 13,
     TYPST_HTML_REFUSAL_RAW_CLOSING = 14,
     TYPST_HTML_REFUSAL_FRAME_REFUSED = 15,
-    TYPST_HTML_REFUSAL_NULL_CHARACTER = 26,
     TYPST_HTML_REFUSAL_UNKNOWN_NAME = 27,
     TYPST_HTML_REFUSAL_TOO_MANY_ATTRIBUTES = 28,
     TYPST_HTML_REFUSAL_RECONSTRUCTION = 29,
     TYPST_HTML_REFUSAL_ADOPTION_AGENCY = 30,
     TYPST_HTML_REFUSAL_OPEN_ANCHOR_REMOVED = 31,
     TYPST_HTML_REFUSAL_FOSTER_PARENTING = 32,
-    TYPST_HTML_REFUSAL_MERGED_ATTRIBUTES = 33,
-    TYPST_HTML_REFUSAL_HEAD_REOPENED = 34,
     TYPST_HTML_REFUSAL_UNREAD_ELEMENT = 35,
     TYPST_HTML_REFUSAL_CROSSED_ELEMENT = 36,
-    TYPST_HTML_REFUSAL_HTML_IN_FOREIGN = 37,
-    TYPST_HTML_REFUSAL_DOCUMENT_TYPE = 38,
     TYPST_HTML_REFUSAL_UNSETTLED = 39,
 };
 
@@ -131,12 +126,10 @@ static inline const char *typst_html_words(uint8_t number) {
         return "a raw text would end its element";
     case TYPST_HTML_REFUSAL_FRAME_REFUSED:
         return "a frame is refused";
-    case TYPST_HTML_REFUSAL_NULL_CHARACTER:
-        return "U+0000";
     case TYPST_HTML_REFUSAL_UNKNOWN_NAME:
         return "a name that no element of this project has";
     case TYPST_HTML_REFUSAL_TOO_MANY_ATTRIBUTES:
-        return "a tag has too many attributes";
+        return "an element has too many attributes";
     case TYPST_HTML_REFUSAL_RECONSTRUCTION:
         return "a formatting element would be made again";
     case TYPST_HTML_REFUSAL_ADOPTION_AGENCY:
@@ -145,18 +138,10 @@ static inline const char *typst_html_words(uint8_t number) {
         return "an open a would be removed";
     case TYPST_HTML_REFUSAL_FOSTER_PARENTING:
         return "a text or an element would be moved out of a table";
-    case TYPST_HTML_REFUSAL_MERGED_ATTRIBUTES:
-        return "attributes would be added to those of html or body";
-    case TYPST_HTML_REFUSAL_HEAD_REOPENED:
-        return "the head would be opened again";
     case TYPST_HTML_REFUSAL_UNREAD_ELEMENT:
         return "a frameset, plaintext or template";
     case TYPST_HTML_REFUSAL_CROSSED_ELEMENT:
         return "a form, object, applet or marquee would be closed by another tag";
-    case TYPST_HTML_REFUSAL_HTML_IN_FOREIGN:
-        return "an element of HTML would close svg or math";
-    case TYPST_HTML_REFUSAL_DOCUMENT_TYPE:
-        return "a table hangs on a document type that is not known";
     case TYPST_HTML_REFUSAL_UNSETTLED:
         return "a token finds no place";
     default:

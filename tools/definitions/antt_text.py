@@ -199,12 +199,21 @@ class Module:
         end = next((i for i, w in enumerate(words) if w in ("{", "as")), len(words))
         path = [w for w in words[:end] if w not in (".", "package")]
         path = self.modules.get(path[0], path[:1]) + path[1:]
-        if "{" not in words:
+        if "{" in words:
+            self.use_group(path, toks[end + 1:-1])
+        else:
             self.modules[words[-1]] = path
-        for part in split(toks[end + 1:-1], ",") if "{" in words else []:
-            part = [t.text for t in part]
-            target = part[:-2] if "as" in part[1:-1] else part
-            self.uses.setdefault(part[-1], []).append(path + [w for w in target if w != "."])
+
+    def use_group(self, path, toks):
+        """Notes the names of a group of imports below a path, which may hold groups."""
+        for part in split(toks, ","):
+            words = [t.text for t in part]
+            if "{" in words:
+                at = words.index("{")
+                self.use_group(path + [w for w in words[:at] if w != "."], part[at + 1:-1])
+            elif words:
+                target = words[:-2] if "as" in words[1:-1] else words
+                self.uses.setdefault(words[-1], []).append(path + [w for w in target if w != "."])
 
     def lookup(self, name, line=10**9):
         """Returns the meaning of a name at that line; None if it is unknown."""

@@ -21,19 +21,14 @@ WORDS: Final[Mapping[int, str]] = MappingProxyType({
     13: "a raw text element has a child that is no text",
     14: "a raw text would end its element",
     15: "a frame is refused",
-    26: "U+0000",
     27: "a name that no element of this project has",
-    28: "a tag has too many attributes",
+    28: "an element has too many attributes",
     29: "a formatting element would be made again",
     30: "an end tag would move nodes out of a formatting element",
     31: "an open a would be removed",
     32: "a text or an element would be moved out of a table",
-    33: "attributes would be added to those of html or body",
-    34: "the head would be opened again",
     35: "a frameset, plaintext or template",
     36: "a form, object, applet or marquee would be closed by another tag",
-    37: "an element of HTML would close svg or math",
-    38: "a table hangs on a document type that is not known",
     39: "a token finds no place",
 })
-"""The words for what is wrong, by the number of the refusal. A page that is checked has refusals 8 and from 26 on."""
+"""The words for what is wrong, by the number of the refusal. A page that is checked has refusals 8 and from 27 on."""

@@ -1,9 +1,10 @@
+pub mod DocumentRows
 pub mod Fronts
-pub mod Halts
 pub mod PageStretches
 pub mod PlaceSteps
 pub mod References
 pub mod Spaces
+pub mod Splits
 pub mod TagFronts
 pub mod TagNames
 pub mod Words

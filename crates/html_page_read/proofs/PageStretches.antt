@@ -1,5 +1,5 @@
 -- Stretches of common characters are read as these characters one by one.
-use Rattle.std.proofs.Common.{◌≡◌, ℕ, ◌+◌, ◌-◌, ◌<◌, Bool, true, false, not, ◌&&◌, ◌||◌, List, [], ◌∷◌, ◌++◌, chars, length, eqb, ne_eqb, refl, sym, ap, ◌∙◌, arith, append_assoc, append-nil, Ok}
+use Rattle.std.proofs.Common.{◌≡◌, ℕ, ◌+◌, ◌-◌, ◌<◌, Bool, true, false, not, ◌&&◌, ◌||◌, List, [], ◌∷◌, ◌++◌, chars, length, eqb, ne_eqb, refl, sym, ap, ◌∙◌, arith, append_assoc, append-nil}
 use Rattle.std.proofs.lemmas.{Bool.{and_parts, false≢true}, Str.{len_utf8_ascii}}
 use Rattle.html_names_core.specs.Characters.{all}
 use Rattle.html_text.{proofs.Fronts.{common_small}, specs.Fronts.{CutsAll, is_common}}
@@ -9,7 +9,7 @@ use Rattle.html_page_read.specs.PageTokens.{TagDraft, TokenState, Value, PageRea
 use Rattle.html_page_read.specs.declared.reader.{Reader.{Reader}, State.{State}}
 use Rattle.html_page_read.specs.declared.reader.State.TheVariants as state
 use Rattle.html_page_read.specs.declared.reading.Reading as declared
-use Rattle.html_page_stack.specs.{OpenElements.{mode}, Pages.{Page, Char, ◌next◌}, declared.modes.Mode.{Mode}}
+use Rattle.html_page_stack.specs.{OpenElements.{mode}, Pages.{Page, Char}, declared.modes.Mode.{Mode}}
 use Rattle.html_page_stack.specs.declared.modes.Mode.TheVariants.{InText}
 use Rattle.html_page_tree.proofs.TakenTexts.{text_taken}
 use Rattle.html_page_tree.specs.{PageTrees.{is_foreign_token, is_unseen}, TakenTexts.{mode_takes_text, takes_text}}
@@ -32,13 +32,14 @@ taken_still text s p =
     (mode_kept (mode p.stack) text s p)
 
 char_step : (c : ℕ) (r : Reading) → is_common c ≡ true → r.fresh ≡ false →
-    takes_text r.page ≡ true → step (in_data r) c ≡ Ok (in_data (behind_char c r))
+    takes_text r.page ≡ true → step (in_data r) c ≡ in_data (behind_char c r)
 unfolding is_common
 char_step c r h f t =
-    let taken = text_taken c (record r.page { start = r.place })
+    let some = other is_common c 0 h refl in
+    let taken = text_taken c (record r.page { start = r.place }) some
     (taken_still r.page.text r.place r.page ∙ t) in
     rw (
-      other is_common c 0 h refl,
+      some,
       other is_common c 10 h refl,
       other is_common c 13 h refl,
       other is_common c 60 h refl,
@@ -54,7 +55,7 @@ pub front_run : (front cs : List ℕ) (r : Reading) → all is_common front ≡ 
 front_run [] cs r h f t = refl
 front_run (c ∷ front) cs r h f t =
     let both = and_parts (is_common c) (all is_common front) h in
-    ap (λ x. x next (λ q. run q (front ++ cs))) (char_step c r both.0 f t)
+    ap (λ q. run q (front ++ cs)) (char_step c r both.0 f t)
     ∙ front_run front cs (behind_char c r) both.1 refl
     (taken_still (r.page.text ++ c ∷ []) r.place r.page ∙ t)
 
@@ -62,7 +63,7 @@ front_run (c ∷ front) cs r h f t =
 pub plain_step : (s t : TokenState) (c : ℕ) (r : Reading) → eqb c 0 ≡ false → eqb c 10 ≡ false →
     eqb c 13 ≡ false → c < 128 → moved s c r ≡ goes t r →
     step (record { state = s; reading = r }) c
-    ≡ Ok (record { state = t; reading = behind_chars (c ∷ []) r })
+    ≡ record { state = t; reading = behind_chars (c ∷ []) r }
 plain_step s t c r zero feed return small h =
     let one = len_utf8_ascii c small in rw (zero, feed, return, h, one) refl
 
@@ -70,7 +71,7 @@ plain_step s t c r zero feed return small h =
 module _ (f : List ℕ → TokenState) (ok : ℕ → Bool)
     (one : (xs : List ℕ) (c : ℕ) (r : Reading) → ok c ≡ true →
     step (record { state = f xs; reading = r }) c
-    ≡ Ok (record { state = f (xs ++ c ∷ []); reading = behind_chars (c ∷ []) r })) where
+    ≡ record { state = f (xs ++ c ∷ []); reading = behind_chars (c ∷ []) r }) where
   pub grow_run : (xs cs ds : List ℕ) (r : Reading) → all ok cs ≡ true →
       run (record { state = f xs; reading = r }) (cs ++ ds)
       ≡ run (record { state = f (xs ++ cs); reading = behind_chars cs r }) ds
@@ -78,14 +79,14 @@ module _ (f : List ℕ → TokenState) (ok : ℕ → Bool)
       ap (λ l. run (record { state = f l; reading = r }) ds) (sym (append-nil xs))
   grow_run xs (c ∷ cs) ds r h =
       let both = and_parts (ok c) (all ok cs) h in
-      ap (λ x. x next (λ q. run q (cs ++ ds))) (one xs c r both.0)
+      ap (λ q. run q (cs ++ ds)) (one xs c r both.0)
       ∙ (grow_run (xs ++ c ∷ []) cs ds (behind_chars (c ∷ []) r) both.1
       ∙ ap (λ l. run (record { state = f l; reading = behind_chars (c ∷ cs) r }) ds)
       (append_assoc xs (c ∷ []) cs))
 
 quoted_step : (tag : TagDraft) (attr value : List ℕ) (c : ℕ) (r : Reading) →
     is_common c ≡ true → step (in_quotes tag attr value r) c
-    ≡ Ok (in_quotes tag attr (value ++ c ∷ []) (behind_chars (c ∷ []) r))
+    ≡ in_quotes tag attr (value ++ c ∷ []) (behind_chars (c ∷ []) r)
 unfolding is_common
 quoted_step tag attr value c r h =
     plain_step (Value tag attr value 34) (Value tag attr (value ++ c ∷ []) 34) c r

@@ -1,16 +1,16 @@
 -- Names and end tags that are read at once are read as their characters one by one.
-use Rattle.std.proofs.Common.{◌≡◌, ℕ, ◌+◌, ◌-◌, Bool, true, false, List, [], ◌∷◌, ◌++◌, chars, length, eqb, refl, sym, ap, ◌∙◌, arith, append_assoc, length-append, Ok, Err, Some}
+use Rattle.std.proofs.Common.{◌≡◌, ℕ, ◌+◌, ◌-◌, Bool, true, false, List, [], ◌∷◌, ◌++◌, chars, length, eqb, refl, sym, ap, ◌∙◌, arith, append_assoc, length-append, Some}
 use Rattle.std.proofs.lemmas.{Bool.{and_parts, false≢true}, Str.{chars-IsAscii}, Bool.Decides.{nat_tests}}
-use Rattle.std.specs.{Char.{to_ascii_lowercase}, List.{list_all}, Result.{is_ok}}
+use Rattle.std.specs.{Char.{to_ascii_lowercase}, List.{list_all}}
 use Rattle.html_names_core.specs.Characters.{all, is_lower, is_tag_char}
 use Rattle.html_text.{proofs.Fronts.{name_ascii, name_small}, specs.Fronts.{BeginsWith, CutsAll, is_name_char}}
 use Rattle.html_page_read.proofs.{Fronts.{begins_on, front_read}, PageStretches.{chars_form, chars_place, grow_run, other, plain_step}}
 use Rattle.html_page_read.proofs.TagNames.{name_from}
 use Rattle.html_page_read.specs.{Fronts.{begins_small}, PageReading.{run}, PageReferences.{is_letter}}
 use Rattle.html_page_read.specs.PageStretches.{behind_chars, in_data, in_quotes, ReadsFront}
-use Rattle.html_page_read.specs.PageTokens.{TagDraft, TokenState, PageReader, Reading, TagName, BeforeAttr, AttrName, Data, goes, is_name, moved, step, past_char}
+use Rattle.html_page_read.specs.PageTokens.{TagDraft, TokenState, PageReader, Reading, TagName, BeforeAttr, AttrName, Data, goes, is_name, moved, step}
 use Rattle.html_page_read.specs.TagFronts.{EndsOwn, behind_own_end, in_name, tag_open}
-use Rattle.html_page_stack.specs.{OpenElements.{current_name}, Pages.{Page, Reads, End, ◌next◌, closed}}
+use Rattle.html_page_stack.specs.{OpenElements.{current_name}, Pages.{End, closed}}
 use Rattle.html_page_tree.proofs.OwnEnds.{own_end_taken}
 use Rattle.html_page_tree.specs.{OwnEnds.{takes_own_end}, PageBodies.{is_space}, PageTrees.{token_read}}
 
@@ -30,16 +30,16 @@ names (c ∷ cs) h = grind (arith, nat_tests, names cs)
 -- such a character, by which a state is left for another
 name_char_step : (s t : TokenState) (c : ℕ) (r : Reading) → is_name_char c ≡ true →
     moved s c r ≡ goes t r → step (record { state = s; reading = r }) c
-    ≡ Ok (record { state = t; reading = behind_chars (c ∷ []) r })
+    ≡ record { state = t; reading = behind_chars (c ∷ []) r }
 name_char_step s t c r h moves = plain_step s t c r (none c 0 h refl) (none c 10 h refl)
     (none c 13 h refl) (name_small c h) moves
 
 name_step : (tag : TagDraft) (name : List ℕ) (c : ℕ) (r : Reading) → is_name_char c ≡ true →
     step (record { state = TagName (record tag { name = name }); reading = r }) c
-    ≡ Ok (record {
+    ≡ record {
       state = TagName (record tag { name = name ++ c ∷ [] });
       reading = behind_chars (c ∷ []) r;
-    })
+    }
 name_step tag name c r h = name_char_step (TagName (record tag { name = name }))
     (TagName (record tag { name = name ++ c ∷ [] })) c r h
     (rw (spaceless c h, none c 47 h refl, none c 62 h refl, lowered c h) refl)
@@ -60,7 +60,7 @@ letter : (c : ℕ) → is_lower c ≡ true → is_letter c ≡ true
 letter c h = grind arith
 
 open_step : (is_end : Bool) (c : ℕ) (r : Reading) → is_lower c ≡ true →
-    step (record { state = tag_open is_end; reading = r }) c ≡ Ok (in_name is_end (c ∷ []) r)
+    step (record { state = tag_open is_end; reading = r }) c ≡ in_name is_end (c ∷ []) r
 open_step true c r h = let k = small_name c h in
     name_char_step (tag_open true) _ c r k (rw (letter c h, lowered c k) refl)
 open_step false c r h = let k = small_name c h in
@@ -72,7 +72,7 @@ pub tag_run : (is_end : Bool) (name cs : List ℕ) (r : Reading) → begins_smal
     ≡ run (in_name is_end name r) cs
 tag_run is_end [] cs r h k = absurd (false≢true h)
 tag_run is_end (c ∷ name) cs r h k =
-    ap (λ x. x next (λ q. run q (name ++ cs))) (open_step is_end c r h)
+    ap (λ q. run q (name ++ cs)) (open_step is_end c r h)
     ∙ name_run name cs (record { is_end = is_end; name = c ∷ []; attrs = [] })
     (behind_chars (c ∷ []) r) (and_parts (is_name_char c) (all is_name_char name) k).1
 
@@ -86,21 +86,6 @@ named : (name : List ℕ) → begins_small name ≡ true → all is_name_char na
 named [] h k = absurd (false≢true h)
 named (c ∷ cs) h k = name_from c cs (names (c ∷ cs) k)
 
--- behind a step, in the data at that place
-abbrev at_place : Reads Page → (place : ℕ) → Reads PageReader
-at_place x place = x next (λ p. Ok (in_data (record {
-  page = p;
-  place = place;
-  fresh = false;
-  after_return = false;
-})))
-
-behind_end : (x : Reads Page) (f : Page → Reading) (g : PageReader → PageReader) →
-    (((x next (λ p. Ok (f p))) next goes Data) next (λ q. Ok (g q)))
-    ≡ (x next (λ p. Ok (g (in_data (f p)))))
-behind_end (Ok p) f g = refl
-behind_end (Err e) f g = refl
-
 -- behind `>`
 ended : (name : List ℕ) (r : Reading) → token_read (End name) r.page ≡ closed true r.page →
     is_name name ≡ true →
@@ -109,30 +94,34 @@ ended : (name : List ℕ) (r : Reading) → token_read (End name) r.page ≡ clo
       reading = r;
     }) 62
     ≡ behind_own_end 1 r
-ended name r h k = rw (k, h) (behind_end (closed true r.page)
-    (λ p. record r { page = p; fresh = false }) (past_char 62 r.place))
+ended name r h k = rw (k, h) refl
 
 pub own_end_run : (name cs : List ℕ) (r : Reading) → current_name r.page.stack ≡ Some name →
     takes_own_end r.page ≡ true → begins_small name ≡ true → all is_name_char name ≡ true →
     run (record { state = tag_open true; reading = r }) ((name ++ 62 ∷ []) ++ cs)
-    ≡ ((behind_own_end (length (name ++ 62 ∷ [])) r) next (λ q. run q cs))
+    ≡ run (behind_own_end (length (name ++ 62 ∷ [])) r) cs
 own_end_run name cs r current taken small are =
     let q = behind_chars name r in
     let same = page_kept name r in
     let token : token_read (End name) q.page ≡ closed true q.page =
     ap (token_read (End name)) same
     ∙ (own_end_taken name r.page current taken ∙ ap (closed true) (sym same)) in
+    let length : q.place + 1 ≡ r.place + length (name ++ 62 ∷ []) =
+    omega (arith, chars_place name r, length-append name (62 ∷ [])) in
     ap (run (record { state = tag_open true; reading = r })) (append_assoc name (62 ∷ []) cs)
     ∙ (tag_run true name (62 ∷ cs) r small are
-    ∙ ap (λ x. x next (λ q. run q cs)) (ended name q token (named name small are)
-    ∙ (ap (λ p. at_place (closed true p) (q.place + 1)) same
-    ∙ ap (at_place (closed true r.page)) {x = q.place + 1} {y = r.place + length (name ++ 62 ∷ [])}
-    (omega (arith, chars_place name r, length-append name (62 ∷ []))))))
+    ∙ (ap (λ q. run q cs) (ended name q token (named name small are))
+    ∙ (λ i. run (in_data (record {
+      page = closed true (same i);
+      place = length i;
+      fresh = false;
+      after_return = false;
+    })) cs)))
 
 -- the name of an attribute, with `="` behind it
 attr_step : (tag : TagDraft) (attr : List ℕ) (c : ℕ) (r : Reading) → is_name_char c ≡ true →
     step (record { state = AttrName tag attr; reading = r }) c
-    ≡ Ok (record { state = AttrName tag (attr ++ c ∷ []); reading = behind_chars (c ∷ []) r })
+    ≡ record { state = AttrName tag (attr ++ c ∷ []); reading = behind_chars (c ∷ []) r }
 attr_step tag attr c r h =
     name_char_step (AttrName tag attr) (AttrName tag (attr ++ c ∷ [])) c r h (rw (
       spaceless c h,
@@ -144,7 +133,7 @@ attr_step tag attr c r h =
 
 before_step : (tag : TagDraft) (c : ℕ) (r : Reading) → is_name_char c ≡ true →
     step (record { state = BeforeAttr tag; reading = r }) c
-    ≡ Ok (record { state = AttrName tag (c ∷ []); reading = behind_chars (c ∷ []) r })
+    ≡ record { state = AttrName tag (c ∷ []); reading = behind_chars (c ∷ []) r }
 before_step tag c r h = name_char_step (BeforeAttr tag) (AttrName tag (c ∷ [])) c r h
     (rw (spaceless c h, none c 47 h refl, none c 62 h refl, lowered c h) refl)
 
@@ -167,7 +156,7 @@ attr_run c attr cs tag r h =
     let both = and_parts (is_name_char c) (all is_name_char attr) h in
     ap (run (record { state = BeforeAttr tag; reading = r }))
     (append_assoc (c ∷ attr) (61 ∷ 34 ∷ []) cs)
-    ∙ (ap (λ x. x next (λ q. run q (attr ++ 61 ∷ 34 ∷ cs))) (before_step tag c r both.0)
+    ∙ (ap (λ q. run q (attr ++ 61 ∷ 34 ∷ cs)) (before_step tag c r both.0)
     ∙ (attr_name_run attr (61 ∷ 34 ∷ cs) tag (c ∷ []) (behind_chars (c ∷ []) r) both.1
     ∙ ap (λ r. run (in_quotes tag (c ∷ attr) [] r) cs) (chars_on (c ∷ attr) (61 ∷ 34 ∷ []) r)))
 
@@ -181,29 +170,19 @@ name_read is_end q new text front rest opened cut small made =
     ∙ ap (λ p. run p (chars rest)) (sym made)))
     (ap (λ p. p.reading.place) made ∙ chars_place front q.reading)
 
-abbrev place_of : Reads PageReader → ℕ
-place_of (Ok q) = q.reading.place
-place_of (Err e) = 0
-
-place_behind : (x : Reads Page) (place : ℕ) (new : PageReader) → at_place x place ≡ Ok new →
-    new.reading.place ≡ place
-place_behind (Ok p) place new h = sym (ap place_of h)
-place_behind (Err e) place new h = absurd (false≢true (ap is_ok h))
-
 pub own_end_read : (q new : PageReader) (text rest : List ℕ) → q.state ≡ tag_open true →
     EndsOwn q.reading text rest →
-    behind_own_end (length text - length rest) q.reading ≡ Ok new → ReadsFront q new text rest
+    new ≡ behind_own_end (length text - length rest) q.reading → ReadsFront q new text rest
 own_end_read q new text rest opened ends made =
     let front = ends.name ++ 62 ∷ [] in
     let r = q.reading in
     let long : length text - length rest ≡ length front = omega (arith, ends.begins.long) in
-    let made : behind_own_end (length front) r ≡ Ok new =
-    ap (λ k. behind_own_end k r) (sym long) ∙ made in
+    let made : new ≡ behind_own_end (length front) r = made ∙ ap (λ k. behind_own_end k r) long in
     front_read q new text front rest ends.begins
     (ap (λ s. run (record { state = s; reading = r }) (front ++ chars rest)) opened
     ∙ (own_end_run ends.name (chars rest) r ends.current ends.taken ends.small ends.are
-    ∙ ap (λ x. x next (λ p. run p (chars rest))) made))
-    (place_behind (closed true r.page) (r.place + length front) new made)
+    ∙ ap (λ q. run q (chars rest)) (sym made)))
+    (ap (λ q. q.reading.place) made)
 
 pub attr_read : (q new : PageReader) (tag : TagDraft) (text attr behind rest : List ℕ) →
     q.state ≡ BeforeAttr tag → CutsAll is_name_char text attr behind →

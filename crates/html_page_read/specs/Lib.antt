@@ -1,5 +1,4 @@
 pub mod DocumentTypes
-pub mod Endings
 pub mod Fronts
 pub mod PageAnswers
 pub mod PageFaults

@@ -3,15 +3,12 @@
 use Rattle.std.specs.{Prelude.{◌≡◌, ℕ, true, false, List, map, chars, take, Result, Ok, Err, IfOk, IfErr}, Str.{is_utf8}}
 use Rattle.std.specs.Str.Lossy.{utf8_valid_len}
 use Rattle.html_dom_tree.specs.{Tree.{ElementView}, Views.{element_view}, declared.node.HtmlElement.{HtmlElement}}
-use Rattle.html_page_stack.specs.{Endings.{IsHalt}, PageViews.{notes_of}}
 use Rattle.html_page_stack.specs.Pages as pages
-use Rattle.html_page_stack.specs.{Pages.{Reads}, declared.error.PageError.{PageError}, declared.fault.Halt.{Halt}}
-use Rattle.html_page_stack.specs.declared.fault.Halt.TheVariants as halt
-use Rattle.html_page_stack.specs.declared.notes.Notes.{Notes}
-use Rattle.html_page_read.specs.{PagePlaces.{place_at}, PageReaderViews.{reader_of}, PageReading.{page_read}, PageTokens.{PageReader}}
+use Rattle.html_page_stack.specs.{declared.error.PageError.{PageError}, declared.fault.PageRefusal.{PageRefusal}}
+use Rattle.html_page_read.specs.{PagePlaces.{place_at}, PageReading.{PageResult, page_read}}
 use Rattle.html_page_read.specs.declared.fault.PageFault.{PageFault}
 use Rattle.html_page_read.specs.declared.fault.PageFault.TheVariants as fault
-use Rattle.html_page_read.specs.declared.{fault.PageNote.{PageNote}, fault.PageNotes.{PageNotes}, reader.Reader.{Reader}}
+use Rattle.html_page_read.specs.declared.{fault.PageNote.{PageNote}, fault.PageNotes.{PageNotes}}
 
 -- an error, with its place in the text
 abbrev pub placed : (text : List ℕ) → PageError × ℕ → PageNote
@@ -21,31 +18,19 @@ abbrev pub ArePlaced : (text : List ℕ) → pages.Notes → PageNotes → Type 
 ArePlaced text notes reported =
     (reported.count ≡ notes.count) × (reported.first.items ≡ map (placed text) notes.first)
 
--- a call returns the expected reader, which has read a text
-pub record Begins (r : Result Reader Halt) (expected : Reads PageReader) : Type 0 where
-  pub made : IfOk r (λ reader. expected ≡ Ok (reader_of reader))
-  pub halted : IfErr r (IsHalt expected)
-
--- a call reads a text as expected
-pub record ReadsText (r : Result (HtmlElement × Notes) Halt)
-    (expected : Reads (ElementView × pages.Notes)) : Type 0 where
-  pub made : IfOk r (λ read. expected ≡ Ok (element_view read.0, notes_of read.1))
-  pub halted : IfErr r (IsHalt expected)
-
 -- the fault is the expected refusal, with its place in the text
-abbrev pub IsFault : (text : List ℕ) → Reads (ElementView × pages.Notes) → PageFault → Type 0
+abbrev pub IsFault : (text : List ℕ) → PageResult → PageFault → Type 0
 IsFault text expected fault.OutOfMemory = Unit {0}
 IsFault text expected (fault.NotText place) = ⊥
 IsFault text expected (fault.Refused refusal place) =
     (n : ℕ) × (expected ≡ Err (refusal, n)) × (place ≡ place_at text n)
 
--- the fault for the reason why reading stops
-abbrev pub fault_of : (text : List ℕ) → Halt → PageFault
-fault_of text halt.OutOfMemory = fault.OutOfMemory
-fault_of text (halt.Refused refusal place) = fault.Refused refusal (place_at text place)
+-- the fault of a refusal, with its place in the text
+abbrev pub fault_at : (text : List ℕ) → PageRefusal × ℕ → PageFault
+fault_at text refused = fault.Refused refused.0 (place_at text refused.1)
 
 -- the element and the reported errors are those of the text
-pub record IsPage (text : List ℕ) (expected : Reads (ElementView × pages.Notes)) (e : HtmlElement)
+pub record IsPage (text : List ℕ) (expected : PageResult) (e : HtmlElement)
     (reported : PageNotes) : Type 0 where
   pub notes : pages.Notes
   pub read : expected ≡ Ok (element_view e, notes)
@@ -53,7 +38,7 @@ pub record IsPage (text : List ℕ) (expected : Reads (ElementView × pages.Note
 
 -- a call reads a page as expected, or fails with the expected fault
 pub record Gives (r : Result (HtmlElement × PageNotes) PageFault) (text : List ℕ)
-    (expected : Reads (ElementView × pages.Notes)) : Type 0 where
+    (expected : PageResult) : Type 0 where
   pub made : IfOk r (λ read. IsPage text expected read.0 read.1)
   pub fault : IfErr r (IsFault text expected)
 

@@ -1,8 +1,9 @@
--- Reading a page as a browser does (HTML Standard 13.2), except that it stops if nodes would be
--- moved or made a second time.
-use Rattle.std.specs.Prelude.{ℕ, false, ◌==◌, List, [], ◌∷◌, if◌then◌else◌, Option, Some, None, Ok, Err}
+-- Reading a page as a browser does (HTML Standard 13.2), except that the page is refused if nodes
+-- would be moved or made a second time.
+use Rattle.std.specs.Prelude.{ℕ, false, ◌==◌, List, [], ◌∷◌, if◌then◌else◌, Option, Some, None, Result, Ok, Err}
 use Rattle.html_dom_tree.specs.Tree.{ElementView}
-use Rattle.html_page_stack.specs.{OpenElements.{root_of}, Pages.{Notes, Reads, ◌next◌, first_page, settled}}
+use Rattle.html_page_stack.specs.{OpenElements.{root_of}, Pages.{Notes, Page, first_page, settled}}
+use Rattle.html_page_stack.specs.declared.fault.PageRefusal.{PageRefusal}
 use Rattle.html_page_stack.specs.declared.fault.PageRefusal.TheVariants as refusal
 use Rattle.html_page_read.specs.PageTokens.{PageReader, Reading, Data, step, finished}
 
@@ -18,24 +19,34 @@ first_reader limit place = record {
   };
 }
 
-abbrev pub run : PageReader → List ℕ → Reads PageReader
-run r [] = Ok r
-run r (c ∷ cs) = (step r c) next (λ q. run q cs)
+abbrev pub run : PageReader → List ℕ → PageReader
+run r [] = r
+run r (c ∷ cs) = run (step r c) cs
 
 -- the reader behind a text, without its byte order mark
-abbrev pub begun : (limit : ℕ) → List ℕ → Reads PageReader
-begun limit [] = Ok (first_reader limit 0)
+abbrev pub begun : (limit : ℕ) → List ℕ → PageReader
+begun limit [] = first_reader limit 0
 begun limit (c ∷ cs) = if c == 0xfeff then run (first_reader limit 3) cs
     else run (first_reader limit 0) (c ∷ cs)
 
--- the element of a page and its errors, or a refusal if there is no element
-abbrev pub root_made : Option ElementView → Reading → Reads (ElementView × Notes)
-root_made None r = Err (refusal.Unsettled, r.place)
-root_made (Some root) r = Ok (root, r.page.notes)
+-- what a page is read as: its element and the errors in it, or the first refusal with the offset of
+-- its place in bytes
+abbrev pub PageResult : Type 0
+PageResult = Result (ElementView × Notes) (PageRefusal × ℕ)
 
-abbrev pub page_made : Reading → Reads (ElementView × Notes)
-page_made r = root_made (root_of (settled r.page).stack) r
+-- the element of a page, whose `html` is too deep where there is none
+abbrev pub root_made : Option ElementView → Page → PageResult
+root_made None p = Err (refusal.TooDeep, p.start)
+root_made (Some root) p = Ok (root, p.notes)
 
--- the element that the text is read as, and the recovered errors
-abbrev pub page_read : (limit : ℕ) → List ℕ → Reads (ElementView × Notes)
-page_read limit text = ((begun limit text) next finished) next page_made
+abbrev pub answered : Option (PageRefusal × ℕ) → Page → PageResult
+answered (Some refused) p = Err refused
+answered None p = root_made (root_of p.stack) p
+
+-- what a page whose tokens are all read is read as
+abbrev pub page_result : Page → PageResult
+page_result p = answered p.refusal (settled p)
+
+-- what a text is read as
+abbrev pub page_read : (limit : ℕ) → List ℕ → PageResult
+page_read limit text = page_result (finished (begun limit text)).page

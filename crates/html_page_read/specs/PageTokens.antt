@@ -1,7 +1,6 @@
--- The tokens of a page, read from left to right (HTML Standard 13.2.5): all states but those of
--- U+0000, which is refused, and of PLAINTEXT.
+-- The tokens of a page, read from left to right (HTML Standard 13.2.5): all states but PLAINTEXT.
 use Rattle.std.specs.{Char.{len_utf8, to_ascii_lowercase}, List.{list_all, starts_with}}
-use Rattle.std.specs.Prelude.{ℕ, zero, suc, ◌+◌, min, Bool, true, false, not, ◌&&◌, ◌||◌, ◌==◌, nat_lt, nat_le, List, [], ◌∷◌, ◌++◌, if◌then◌else◌, codes, bytes_eq, length, Option, Some, None, is_some, Ok, Err}
+use Rattle.std.specs.Prelude.{ℕ, zero, suc, ◌+◌, min, Bool, true, false, not, ◌&&◌, ◌||◌, ◌==◌, nat_lt, nat_le, List, [], ◌∷◌, ◌++◌, if◌then◌else◌, codes, bytes_eq, length, Option, Some, None, is_some}
 use Rattle.html_dom_tree.specs.{Attributes.{has_name}, Tree.{TextPair}}
 use Rattle.html_names_core.specs.{Characters.{is_tag_char}, Names.{attr_fault}}
 use Rattle.html_text.specs.{ClosingTags.{is_tag_end, closing, before_closing}, RawEnds.{ends_in, ends_raw}}
@@ -12,7 +11,7 @@ use Rattle.html_page_tree.specs.PageBodies.{is_space}
 use Rattle.html_page_names.specs.declared.kind.Kind.TheVariants as kind
 use Rattle.html_page_read.specs.PageReferences.{is_letter, continues, Resolved, resolved}
 use Rattle.html_page_tree.specs.PageTrees.{token_read, is_unseen}
-use Rattle.html_page_stack.specs.Pages.{Page, Notes, with_note, StartTag, Token, Char, Start, End, Finish, Reads, ◌next◌}
+use Rattle.html_page_stack.specs.Pages.{Page, Notes, most_attrs, with_note, StartTag, Token, Char, Start, End, Finish, refused}
 use Rattle.html_page_stack.specs.declared.error.PageError.{PageError}
 use Rattle.html_page_stack.specs.declared.error.PageError.TheVariants as error
 use Rattle.html_page_stack.specs.declared.fault.PageRefusal.{PageRefusal}
@@ -70,8 +69,8 @@ pub record PageReader : Type 0 where
   pub state : TokenState
   pub reading : Reading
 
-abbrev pub goes : TokenState → Reading → Reads PageReader
-goes s r = Ok (record { state = s; reading = r })
+abbrev pub goes : TokenState → Reading → PageReader
+goes s r = record { state = s; reading = r }
 
 abbrev pub with_notes : Notes → Reading → Reading
 with_notes notes r = record r { page = record r.page { notes = notes } }
@@ -91,24 +90,24 @@ with_some_note (Some e) place notes = with_note e place notes
 abbrev pub erring_some : Option PageError → Reading → Reading
 erring_some e r = with_notes (with_some_note e r.place r.page.notes) r
 
-abbrev pub stopped : {A : Type 0} → PageRefusal → Reading → Reads A
-stopped refusal r = Err (refusal, r.page.start)
+-- refuses the page for the token, unless it is refused already
+abbrev pub refusing : PageRefusal → Reading → Reading
+refusing refusal r = record r { page = refused refusal r.page }
 
 -- marks that a token begins at the next character
 abbrev pub beginning : Reading → Reading
 beginning r = record r { page = record r.page { start = r.place } }
 
-abbrev pub emitted : Token → Reading → Reads Reading
-emitted token r = (token_read token r.page) next (λ p. Ok (record r { page = p; fresh = false }))
+abbrev pub emitted : Token → Reading → Reading
+emitted token r = record r { page = token_read token r.page; fresh = false }
 
 -- emits a character, but drops a line feed right behind a start tag that drops it
-abbrev pub char_emitted : ℕ → Reading → Reads Reading
-char_emitted c r = if r.fresh && c == 10 then Ok (record r { fresh = false })
-    else emitted (Char c) r
+abbrev pub char_emitted : ℕ → Reading → Reading
+char_emitted c r = if r.fresh && c == 10 then record r { fresh = false } else emitted (Char c) r
 
-abbrev pub chars_emitted : List ℕ → Reading → Reads Reading
-chars_emitted [] r = Ok r
-chars_emitted (c ∷ cs) r = (char_emitted c r) next chars_emitted cs
+abbrev pub chars_emitted : List ℕ → Reading → Reading
+chars_emitted [] r = r
+chars_emitted (c ∷ cs) r = chars_emitted cs (char_emitted c r)
 
 -- the state behind a start tag, which depends on whether it opens an element of text alone
 abbrev pub behind_start : List OpenElement → TokenState
@@ -120,84 +119,82 @@ behind_start_tag drops_feed r = record {
   reading = record r { fresh = drops_feed && is_at (of kind.DropsFeed) r.page.stack };
 }
 
-abbrev pub start_emitted : StartTag → Reading → Reads PageReader
-start_emitted tag r = (emitted (Start tag) r) next (λ q.
-    Ok (behind_start_tag (of kind.DropsFeed tag.name) q))
+abbrev pub start_emitted : StartTag → Reading → PageReader
+start_emitted tag r = behind_start_tag (of kind.DropsFeed tag.name) (emitted (Start tag) r)
 
-abbrev pub end_emitted : TagDraft → (closed : Bool) → Reading → Reads PageReader
-end_emitted tag closed r = (emitted (End tag.name)
+abbrev pub end_emitted : TagDraft → (closed : Bool) → Reading → PageReader
+end_emitted tag closed r = goes Data (emitted (End tag.name)
     (erring_if closed error.EndTagWithTrailingSolidus
-    (erring_if (not (length tag.attrs == 0)) error.EndTagWithAttributes r))) next goes Data
+    (erring_if (not (length tag.attrs == 0)) error.EndTagWithAttributes r)))
 
 -- a name of an element: one or more letters, digits and `-`
 abbrev pub is_name : List ℕ → Bool
 is_name name = not (length name == 0) && list_all is_tag_char name
 
--- emits a complete tag
-abbrev pub tag_emitted : (closed : Bool) → TagDraft → Reading → Reads PageReader
-tag_emitted closed tag r = if not (is_name tag.name) then stopped refusal.UnknownName r
+-- emits a complete tag; the page is refused for a name that no element can have
+abbrev pub tag_emitted : (closed : Bool) → TagDraft → Reading → PageReader
+tag_emitted closed tag r = if not (is_name tag.name) then goes Data (refusing refusal.UnknownName r)
     else (if tag.is_end then end_emitted tag closed r
     else start_emitted (record { name = tag.name; attrs = tag.attrs; closed = closed }) r)
 
--- the greatest number of attributes of a tag
-abbrev pub most_attrs : ℕ
-most_attrs = 256
+-- a tag that is being read, and the progress in its page
+abbrev pub TagReading : Type 0
+TagReading = TagDraft × Reading
 
 -- adds a complete attribute to the tag; of two with one name the first counts
-abbrev pub attr_added : (attr value : List ℕ) → TagDraft → Reading → Reads (TagDraft × Reading)
-attr_added attr value tag r = if is_some (attr_fault attr) then stopped refusal.UnknownName r
-    else (if has_name tag.attrs attr
-    then Ok (tag, erring error.DuplicateAttribute r)
-    else (if nat_le most_attrs (length tag.attrs) then stopped refusal.TooManyAttributes r
-    else Ok (record tag { attrs = tag.attrs ++ (attr, value) ∷ [] }, r)))
+abbrev pub attr_added : (attr value : List ℕ) → TagDraft → Reading → TagReading
+attr_added attr value tag r = if is_some (attr_fault attr) then (tag, refusing refusal.UnknownName r)
+    else (if has_name tag.attrs attr then (tag, erring error.DuplicateAttribute r)
+    else (if nat_le most_attrs (length tag.attrs) then (tag, refusing refusal.TooManyAttributes r)
+    else (record tag { attrs = tag.attrs ++ (attr, value) ∷ [] }, r)))
 
 abbrev pub with_attr : (attr value : List ℕ) → TagDraft → Reading →
-    (TagDraft → Reading → Reads PageReader) → Reads PageReader
+    (TagDraft → Reading → PageReader) → PageReader
 with_attr attr value tag r then_goes =
-    (attr_added attr value tag r) next (λ added. then_goes added.0 added.1)
+    let added = attr_added attr value tag r in then_goes added.0 added.1
 
-abbrev pub data_read : ℕ → Reading → Reads PageReader
+abbrev pub data_read : ℕ → Reading → PageReader
 data_read c r = if c == 60 then goes TagOpen (beginning r)
     else (if c == 38 then goes (Reference [] Data) (beginning r)
-    else (char_emitted c (beginning r)) next goes Data)
+    else goes Data (char_emitted c (beginning r)))
 
-abbrev pub bogus_read : ℕ → Reading → Reads PageReader
+abbrev pub bogus_read : ℕ → Reading → PageReader
 bogus_read c r = if c == 62 then goes Data (record r { fresh = false }) else goes BogusComment r
 
-abbrev pub tag_open_read : ℕ → Reading → Reads PageReader
+abbrev pub tag_open_read : ℕ → Reading → PageReader
 tag_open_read c r = if is_letter c
     then goes (TagName (record { is_end = false; name = to_ascii_lowercase c ∷ []; attrs = [] })) r
     else (if c == 47 then goes EndTagOpen r
     else (if c == 33 then goes (Markup []) r
     else (if c == 63 then bogus_read c (erring error.UnexpectedQuestionMarkInsteadOfTagName r)
-    else (char_emitted 60 (erring error.InvalidFirstCharacterOfTagName r)) next data_read c)))
+    else data_read c (char_emitted 60 (erring error.InvalidFirstCharacterOfTagName r)))))
 
-abbrev pub end_tag_open_read : ℕ → Reading → Reads PageReader
+abbrev pub end_tag_open_read : ℕ → Reading → PageReader
 end_tag_open_read c r = if is_letter c
     then goes (TagName (record { is_end = true; name = to_ascii_lowercase c ∷ []; attrs = [] })) r
     else (if c == 62 then goes Data (erring error.MissingEndTagName r)
     else bogus_read c (erring error.InvalidFirstCharacterOfTagName r))
 
-abbrev pub tag_name_read : TagDraft → ℕ → Reading → Reads PageReader
+abbrev pub tag_name_read : TagDraft → ℕ → Reading → PageReader
 tag_name_read tag c r = if is_space c then goes (BeforeAttr tag) r
     else (if c == 47 then goes (SelfClosing tag) r
     else (if c == 62 then tag_emitted false tag r
     else goes (TagName (record tag { name = tag.name ++ to_ascii_lowercase c ∷ [] })) r))
 
-abbrev pub before_attr_read : TagDraft → ℕ → Reading → Reads PageReader
+abbrev pub before_attr_read : TagDraft → ℕ → Reading → PageReader
 before_attr_read tag c r = if is_space c then goes (BeforeAttr tag) r
     else (if c == 47 then goes (SelfClosing tag) r
     else (if c == 62 then tag_emitted false tag r
     else goes (AttrName tag (to_ascii_lowercase c ∷ [])) r))
 
-abbrev pub attr_name_read : TagDraft → (attr : List ℕ) → ℕ → Reading → Reads PageReader
+abbrev pub attr_name_read : TagDraft → (attr : List ℕ) → ℕ → Reading → PageReader
 attr_name_read tag attr c r = if is_space c then goes (AfterAttrName tag attr) r
     else (if c == 61 then goes (BeforeValue tag attr) r
     else (if c == 47 then with_attr attr [] tag r (λ t. goes (SelfClosing t))
     else (if c == 62 then with_attr attr [] tag r (tag_emitted false)
     else goes (AttrName tag (attr ++ to_ascii_lowercase c ∷ [])) r)))
 
-abbrev pub after_attr_name_read : TagDraft → (attr : List ℕ) → ℕ → Reading → Reads PageReader
+abbrev pub after_attr_name_read : TagDraft → (attr : List ℕ) → ℕ → Reading → PageReader
 after_attr_name_read tag attr c r = if is_space c then goes (AfterAttrName tag attr) r
     else (if c == 61 then goes (BeforeValue tag attr) r
     else with_attr attr [] tag r (λ t. before_attr_read t c))
@@ -206,7 +203,7 @@ after_attr_name_read tag attr c r = if is_space c then goes (AfterAttrName tag a
 abbrev pub looks_quoted : ℕ → Bool
 looks_quoted c = (c == 34) || (c == 39) || (c == 60) || (c == 61) || (c == 96)
 
-abbrev pub unquoted_read : TagDraft → (attr value : List ℕ) → ℕ → Reading → Reads PageReader
+abbrev pub unquoted_read : TagDraft → (attr value : List ℕ) → ℕ → Reading → PageReader
 unquoted_read tag attr value c r = if is_space c
     then with_attr attr value tag r (λ t. goes (BeforeAttr t))
     else (if c == 62 then with_attr attr value tag r (tag_emitted false)
@@ -215,24 +212,24 @@ unquoted_read tag attr value c r = if is_space c
     (erring_if (looks_quoted c) error.UnexpectedCharacterInUnquotedAttributeValue r)))
 
 abbrev pub value_read : TagDraft → (attr value : List ℕ) (quote : ℕ) → ℕ → Reading →
-    Reads PageReader
+    PageReader
 value_read tag attr value quote c r = if quote == 0 then unquoted_read tag attr value c r
     else (if c == quote then with_attr attr value tag r (λ t. goes (AfterValue t))
     else (if c == 38 then goes (Reference [] (Value tag attr value quote)) r
     else goes (Value tag attr (value ++ c ∷ []) quote) r))
 
-abbrev pub before_value_read : TagDraft → (attr : List ℕ) → ℕ → Reading → Reads PageReader
+abbrev pub before_value_read : TagDraft → (attr : List ℕ) → ℕ → Reading → PageReader
 before_value_read tag attr c r = if is_space c then goes (BeforeValue tag attr) r
     else (if (c == 34) || (c == 39) then goes (Value tag attr [] c) r
     else (if c == 62
     then with_attr attr [] tag (erring error.MissingAttributeValue r) (tag_emitted false)
     else unquoted_read tag attr [] c r))
 
-abbrev pub after_value_read : TagDraft → ℕ → Reading → Reads PageReader
+abbrev pub after_value_read : TagDraft → ℕ → Reading → PageReader
 after_value_read tag c r = before_attr_read tag c (erring_if
     (not (is_space c || (c == 47) || (c == 62))) error.MissingWhitespaceBetweenAttributes r)
 
-abbrev pub self_closing_read : TagDraft → ℕ → Reading → Reads PageReader
+abbrev pub self_closing_read : TagDraft → ℕ → Reading → PageReader
 self_closing_read tag c r = if c == 62 then tag_emitted true tag r
     else before_attr_read tag c (erring error.UnexpectedSolidusInTag r)
 
@@ -246,11 +243,11 @@ begins_markup since = begins since (codes "--") || begins (lowered since) (codes
     || begins since (codes "[CDATA[")
 
 -- reads `<![CDATA[` as a comment, unless it stands in SVG or MathML
-abbrev pub cdata_begun : Reading → Reads PageReader
+abbrev pub cdata_begun : Reading → PageReader
 cdata_begun r = if is_in_foreign r.page.stack then goes (Cdata 0) r
     else goes BogusComment (erring error.CdataInHtmlContent r)
 
-abbrev pub markup_read : (since : List ℕ) → ℕ → Reading → Reads PageReader
+abbrev pub markup_read : (since : List ℕ) → ℕ → Reading → PageReader
 markup_read since c r = let now = since ++ c ∷ [] in
     if bytes_eq now (codes "--") then goes (Comment comment.Start) r
     else (if bytes_eq (lowered now) (codes "doctype") then goes (Doctype []) r
@@ -291,11 +288,11 @@ comment_error comment.LessBangDashes c = if c == 62 then None else Some error.Ne
 comment_error comment.EndBang c = if c == 62 then Some error.IncorrectlyClosedComment else None
 comment_error part c = None
 
-abbrev pub part_read : Option CommentPart → Reading → Reads PageReader
+abbrev pub part_read : Option CommentPart → Reading → PageReader
 part_read None r = goes Data (record r { fresh = false })
 part_read (Some part) r = goes (Comment part) r
 
-abbrev pub comment_read : CommentPart → ℕ → Reading → Reads PageReader
+abbrev pub comment_read : CommentPart → ℕ → Reading → PageReader
 comment_read part c r = part_read (next_part part c) (erring_some (comment_error part c) r)
 
 -- reads a document type, which counts only before all other tokens
@@ -304,19 +301,19 @@ doctype_taken inner r = if is_unseen r.page.tables
     then record r { page = record r.page { tables = table_rule inner }; fresh = false }
     else erring error.MisplacedDocumentType (record r { fresh = false })
 
-abbrev pub doctype_read : (since : List ℕ) → ℕ → Reading → Reads PageReader
+abbrev pub doctype_read : (since : List ℕ) → ℕ → Reading → PageReader
 doctype_read since c r = if c == 62 then goes Data (doctype_taken since r)
     else goes (Doctype (since ++ c ∷ [])) r
 
-abbrev pub brackets_emitted : ℕ → Reading → Reads Reading
-brackets_emitted zero r = Ok r
-brackets_emitted (suc n) r = (char_emitted 93 r) next brackets_emitted n
+abbrev pub brackets_emitted : ℕ → Reading → Reading
+brackets_emitted zero r = r
+brackets_emitted (suc n) r = brackets_emitted n (char_emitted 93 r)
 
-abbrev pub cdata_read : (brackets : ℕ) → ℕ → Reading → Reads PageReader
+abbrev pub cdata_read : (brackets : ℕ) → ℕ → Reading → PageReader
 cdata_read brackets c r = if c == 93 then (if brackets == 2
-    then (char_emitted c r) next goes (Cdata 2) else goes (Cdata (brackets + 1)) r)
+    then goes (Cdata 2) (char_emitted c r) else goes (Cdata (brackets + 1)) r)
     else (if c == 62 && brackets == 2 then goes Data r
-    else ((brackets_emitted brackets r) next char_emitted c) next goes (Cdata 0))
+    else goes (Cdata 0) (char_emitted c (brackets_emitted brackets r)))
 
 -- the depth of a script in comments behind a text and one more character (13.2.5.18 to 13.2.5.31):
 -- 1 after `<!--`, and 2 after `<script` in it
@@ -330,9 +327,9 @@ abbrev pub depth_behind : (depth : ℕ) → Page → ℕ → ℕ
 depth_behind depth p c = if is_at (of kind.Script) p.stack then script_depth depth p.text c else 0
 
 -- reads a character of the text in an element of text alone
-abbrev pub raw_char_read : (depth run : ℕ) → ℕ → Reading → Reads PageReader
-raw_char_read depth run c r = (char_emitted c r)
-    next goes (Raw (depth_behind depth r.page c) (min (run + 1) 255))
+abbrev pub raw_char_read : (depth run : ℕ) → ℕ → Reading → PageReader
+raw_char_read depth run c r =
+    goes (Raw (depth_behind depth r.page c) (min (run + 1) 255)) (char_emitted c r)
 
 -- whether a closing tag of that name may end here: no reference stands for any of it, and no script
 -- in a comment is open
@@ -349,33 +346,33 @@ ended_of (Some name) depth run text c =
 abbrev pub ended_name : List OpenElement → (depth run : ℕ) (text : List ℕ) → ℕ → Option (List ℕ)
 ended_name stack depth run text c = ended_of (current_name stack) depth run text c
 
-abbrev pub raw_text_read : (depth run : ℕ) → ℕ → Reading → Reads PageReader
+abbrev pub raw_text_read : (depth run : ℕ) → ℕ → Reading → PageReader
 raw_text_read depth run c r = if c == 38 && is_at (of kind.EscapableRaw) r.page.stack
     then goes (Reference [] (Raw depth run)) r else raw_char_read depth run c r
 
-abbrev pub raw_end_read : (depth run : ℕ) → Option (List ℕ) → ℕ → Reading → Reads PageReader
+abbrev pub raw_end_read : (depth run : ℕ) → Option (List ℕ) → ℕ → Reading → PageReader
 raw_end_read depth run None c r = raw_text_read depth run c r
 raw_end_read depth run (Some name) c r =
     tag_name_read (record { is_end = true; name = name; attrs = [] }) c
     (record r { page = record r.page { text = before_closing name r.page.text } })
 
-abbrev pub raw_read : (depth run : ℕ) → ℕ → Reading → Reads PageReader
+abbrev pub raw_read : (depth run : ℕ) → ℕ → Reading → PageReader
 raw_read depth run c r =
     raw_end_read depth run (ended_name r.page.stack depth run r.page.text c) c r
 
 -- appends the characters of a reference where it stands
-abbrev pub reference_read : List ℕ → TokenState → Reading → Reads PageReader
+abbrev pub reference_read : List ℕ → TokenState → Reading → PageReader
 reference_read cs (Value tag attr value quote) r = goes (Value tag attr (value ++ cs) quote) r
-reference_read cs (Raw depth run) r = (chars_emitted cs r) next goes (Raw depth 0)
-reference_read cs s r = (chars_emitted cs r) next goes Data
+reference_read cs (Raw depth run) r = goes (Raw depth 0) (chars_emitted cs r)
+reference_read cs s r = goes Data (chars_emitted cs r)
 
 -- reads a character in a state to which a reference leads back
-abbrev pub text_read_in : TokenState → ℕ → Reading → Reads PageReader
+abbrev pub text_read_in : TokenState → ℕ → Reading → PageReader
 text_read_in (Value tag attr value quote) c r = value_read tag attr value quote c r
 text_read_in (Raw depth run) c r = raw_read depth run c r
 text_read_in s c r = data_read c r
 
-abbrev pub text_read : ℕ → PageReader → Reads PageReader
+abbrev pub text_read : ℕ → PageReader → PageReader
 text_read c q = text_read_in q.state c q.reading
 
 abbrev pub in_value : TokenState → Bool
@@ -386,15 +383,16 @@ in_value s = false
 abbrev pub reference_erring : Resolved → Reading → Reading
 reference_erring found r = erring_some found.error (erring_some found.missing r)
 
-abbrev pub resolved_read : Resolved → TokenState → ℕ → Reading → Reads PageReader
-resolved_read found s c r = (reference_read found.chars s (reference_erring found r))
-    next (λ q. if found.takes_end then Ok q else text_read c q)
+abbrev pub resolved_read : Resolved → TokenState → ℕ → Reading → PageReader
+resolved_read found s c r =
+    let q = reference_read found.chars s (reference_erring found r) in
+    if found.takes_end then q else text_read c q
 
-abbrev pub reference_state_read : (since : List ℕ) → TokenState → ℕ → Reading → Reads PageReader
+abbrev pub reference_state_read : (since : List ℕ) → TokenState → ℕ → Reading → PageReader
 reference_state_read since s c r = if continues since c then goes (Reference (since ++ c ∷ []) s) r
     else resolved_read (resolved (in_value s) since (Some c)) s c r
 
-abbrev pub moved : TokenState → ℕ → Reading → Reads PageReader
+abbrev pub moved : TokenState → ℕ → Reading → PageReader
 moved Data c r = data_read c r
 moved TagOpen c r = tag_open_read c r
 moved EndTagOpen c r = end_tag_open_read c r
@@ -418,39 +416,51 @@ abbrev pub past_char : ℕ → (place : ℕ) → PageReader → PageReader
 past_char c place q =
     record q { reading = record q.reading { place = place + len_utf8 c; after_return = c == 13 } }
 
+-- whether U+0000 is kept in the state, for the rules of the tree; elsewhere it is read as U+FFFD
+abbrev pub keeps_null : TokenState → Bool
+keeps_null Data = true
+keeps_null TagOpen = true
+keeps_null (Cdata brackets) = true
+keeps_null (Reference since Data) = true
+keeps_null s = false
+
+-- the character that is read for one: CR stands for a line feed (13.2.3.5)
+abbrev pub read_as : TokenState → ℕ → ℕ
+read_as s c = if c == 13 then 10 else (if c == 0 && not (keeps_null s) then 0xfffd else c)
+
 -- reads a character; a line feed behind a carriage return is part of it (13.2.3.5)
-abbrev pub step : PageReader → ℕ → Reads PageReader
-step q c = if c == 0 then Err (refusal.NullCharacter, q.reading.place)
-    else (if c == 10 && q.reading.after_return then Ok (record q {
+abbrev pub step : PageReader → ℕ → PageReader
+step q c = if c == 10 && q.reading.after_return
+    then record q {
       reading = record q.reading {
         place = q.reading.place + 1;
         after_return = false;
       };
-    })
-    else (moved q.state (if c == 13 then 10 else c) q.reading) next (λ p. Ok (past_char c q.reading.place p)))
+    }
+    else past_char c q.reading.place (moved q.state (read_as q.state c)
+    (erring_if (c == 0) error.UnexpectedNullCharacter q.reading))
 
 -- emits the characters of a reference at the end of the text
-abbrev pub end_chars_emitted : Resolved → Reading → Reads Reading
+abbrev pub end_chars_emitted : Resolved → Reading → Reading
 end_chars_emitted found r = chars_emitted found.chars (reference_erring found r)
 
-abbrev pub left_over_reference : (since : List ℕ) → TokenState → Reading → Reads Reading
-left_over_reference since (Value tag attr value quote) r = Ok (erring error.EofInTag r)
+abbrev pub left_over_reference : (since : List ℕ) → TokenState → Reading → Reading
+left_over_reference since (Value tag attr value quote) r = erring error.EofInTag r
 left_over_reference since s r = end_chars_emitted (resolved false since None) r
 
-abbrev pub left_over : TokenState → Reading → Reads Reading
-left_over Data r = Ok (beginning r)
+abbrev pub left_over : TokenState → Reading → Reading
+left_over Data r = beginning r
 left_over TagOpen r = char_emitted 60 (erring error.EofBeforeTagName r)
-left_over EndTagOpen r =
-    (char_emitted 60 (erring error.EofBeforeTagName r)) next char_emitted 47
-left_over (Markup since) r = Ok (erring error.IncorrectlyOpenedComment r)
-left_over BogusComment r = Ok r
-left_over (Comment part) r = Ok (erring error.EofInComment r)
-left_over (Doctype since) r = Ok (doctype_taken since (erring error.EofInDoctype r))
+left_over EndTagOpen r = char_emitted 47 (char_emitted 60 (erring error.EofBeforeTagName r))
+left_over (Markup since) r = erring error.IncorrectlyOpenedComment r
+left_over BogusComment r = r
+left_over (Comment part) r = erring error.EofInComment r
+left_over (Doctype since) r = doctype_taken since (erring error.EofInDoctype r)
 left_over (Cdata brackets) r = brackets_emitted brackets (erring error.EofInCdata r)
 left_over (Raw depth run) r =
-    Ok (erring_if (not (depth == 0)) error.EofInScriptHtmlCommentLikeText r)
+    erring_if (not (depth == 0)) error.EofInScriptHtmlCommentLikeText r
 left_over (Reference since s) r = left_over_reference since s r
-left_over s r = Ok (erring error.EofInTag r)
+left_over s r = erring error.EofInTag r
 
-abbrev pub finished : PageReader → Reads Reading
-finished q = (left_over q.state q.reading) next emitted Finish
+abbrev pub finished : PageReader → Reading
+finished q = emitted Finish (left_over q.state q.reading)

@@ -1,10 +1,10 @@
 -- Names of tags and of attributes, and end tags, that are read at once.
-use Rattle.std.specs.Prelude.{◌≡◌, ℕ, ◌+◌, Bool, true, false, List, [], ◌∷◌, ◌++◌, Ok, Some}
+use Rattle.std.specs.Prelude.{◌≡◌, ℕ, ◌+◌, Bool, true, false, List, [], ◌∷◌, ◌++◌, Some}
 use Rattle.html_names_core.specs.Characters.{all}
 use Rattle.html_text.specs.Fronts.{BeginsWith, is_name_char}
 use Rattle.html_page_read.specs.{Fronts.{begins_small}, PageStretches.{behind_chars, in_data}}
 use Rattle.html_page_read.specs.PageTokens.{PageReader, Reading, TokenState, TagName, TagOpen, EndTagOpen}
-use Rattle.html_page_stack.specs.{OpenElements.{current_name}, Pages.{Reads, ◌next◌, closed}}
+use Rattle.html_page_stack.specs.{OpenElements.{current_name}, Pages.{closed}}
 use Rattle.html_page_tree.specs.OwnEnds.{takes_own_end}
 
 -- the state after `<` or `</`
@@ -29,10 +29,10 @@ pub record EndsOwn (r : Reading) (text rest : List ℕ) : Type 0 where
   pub begins : BeginsWith (name ++ 62 ∷ []) text rest
 
 -- the reader behind so many more characters, with which the current node's end tag closes it
-abbrev pub behind_own_end : (length : ℕ) → Reading → Reads PageReader
-behind_own_end length r = (closed true r.page) next (λ p. Ok (in_data (record {
-  page = p;
+abbrev pub behind_own_end : (length : ℕ) → Reading → PageReader
+behind_own_end length r = in_data (record {
+  page = closed true r.page;
   place = r.place + length;
   fresh = false;
   after_return = false;
-})))
+})

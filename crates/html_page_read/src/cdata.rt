@@ -1,12 +1,11 @@
 //! The content of `<![CDATA[` (HTML Standard 13.2.5.69 to 13.2.5.71).
 
-ghost use Rattle.std.specs.Prelude.{◌≡◌};
-ghost use Rattle.html_page_read.specs.Endings.{Moves};
+ghost use Rattle.std.specs.Prelude.{◌≡◌, OnOk};
 ghost use Rattle.html_page_read.specs.PageTokens as tokens;
 ghost use Rattle.html_page_read.specs.PageReaderViews.{bracket_count, reader_of, reading_of};
 
 use crate::reader::{Brackets, Reader, State};
-use html_page_stack::Halt;
+use std::alloc::AllocError;
 
 impl Reader {
     fn stay_in_cdata(&mut self, brackets: Brackets)
@@ -19,10 +18,11 @@ impl Reader {
         self.state = State::Cdata;
     }
 
-    fn bracket(&mut self, c: char) -> Result<(), Halt>
+    fn bracket(&mut self, c: char) -> Result<(), AllocError>
         requires { c ≡ 93 }
-        ensures { Moves result (tokens.cdata_read (bracket_count self.old.brackets) c
-            (reading_of self.old.reading)) (reader_of self.new) }
+        ensures { OnOk result (reader_of self.new
+            ≡ tokens.cdata_read (bracket_count self.old.brackets) c (reading_of
+            self.old.reading)) }
     {
         match self.brackets {
             Brackets::None => self.stay_in_cdata(Brackets::One),
@@ -35,9 +35,10 @@ impl Reader {
         Ok(())
     }
 
-    pub(crate) fn cdata(&mut self, c: char) -> Result<(), Halt>
-        ensures { Moves result (tokens.cdata_read (bracket_count self.old.brackets) c
-            (reading_of self.old.reading)) (reader_of self.new) }
+    pub(crate) fn cdata(&mut self, c: char) -> Result<(), AllocError>
+        ensures { OnOk result (reader_of self.new
+            ≡ tokens.cdata_read (bracket_count self.old.brackets) c (reading_of
+            self.old.reading)) }
     {
         if c == ']' {
             return self.bracket(c);

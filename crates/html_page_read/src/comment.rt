@@ -1,12 +1,12 @@
 //! Comments (HTML Standard 13.2.5.43 to 13.2.5.52).
 
-ghost use Rattle.std.specs.Prelude.{◌≡◌};
-ghost use Rattle.html_page_read.specs.Endings.{Moves};
+ghost use Rattle.std.specs.Prelude.{◌≡◌, OnOk};
 ghost use Rattle.html_page_read.specs.PageTokens as tokens;
 ghost use Rattle.html_page_read.specs.PageReaderViews.{reader_of, reading_of};
 
 use crate::reader::{Reader, State};
-use html_page_stack::{Halt, PageError};
+use html_page_stack::PageError;
+use std::alloc::AllocError;
 
 /// The reader's state in a comment (HTML Standard 13.2.5.43 to 13.2.5.52).
 #[derive(Clone, Copy, Debug, PartialEq, Eq)]
@@ -70,9 +70,9 @@ fn error_of(part: CommentPart, c: char) -> Option<PageError>
 }
 
 impl Reader {
-    pub(crate) fn comment(&mut self, c: char) -> Result<(), Halt>
-        ensures { Moves result (tokens.comment_read self.old.part c (reading_of self.old.reading))
-            (reader_of self.new) }
+    pub(crate) fn comment(&mut self, c: char) -> Result<(), AllocError>
+        ensures { OnOk result (reader_of self.new
+            ≡ tokens.comment_read self.old.part c (reading_of self.old.reading)) }
     {
         self.reading.note_some(error_of(self.part, c))?;
         match next_part(self.part, c) {

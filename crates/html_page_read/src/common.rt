@@ -1,19 +1,18 @@
 //! Stretches of common characters, which make up most texts, read at once.
 
-ghost use Rattle.std.specs.Prelude.{◌≡◌, ◌+◌, ◌++◌, ◌<◌, ◌^◌, false, true, IfErr, IfOk, OnOk, chars, length};
+ghost use Rattle.std.specs.Prelude.{◌≡◌, ◌+◌, ◌++◌, ◌<◌, ◌^◌, false, true, IfOk, OnOk, chars, length};
 ghost use Rattle.html_dom_tree.specs.Views.{text_view};
 ghost use Rattle.html_names_core.specs.Characters.{all};
 ghost use Rattle.html_text.specs.Fronts.{is_common};
 ghost use Rattle.html_page_read.specs.PageReaderViews.{draft_of, reader_of, reading_of};
 ghost use Rattle.html_page_read.specs.PageStretches.{behind_chars, behind_stretch, in_quotes, IsInQuotes, ReadsFront, TakesCommon};
-ghost use Rattle.html_page_stack.specs.declared.fault.Halt.TheVariants.{OutOfMemory};
 
 use crate::reader::{Reader, State};
 use crate::reading::Reading;
 use html_dom_tree::text;
-use html_page_stack::Halt;
 use html_page_tree::takes_text;
 use html_text::cut_common;
+use std::alloc::AllocError;
 
 impl Reading {
     /// Skips so many bytes, none of them a carriage return.
@@ -29,12 +28,11 @@ impl Reading {
     }
 
     /// Appends a stretch of common characters to the current node.
-    fn add_stretch(&mut self, front: &str) -> Result<(), Halt>
+    fn add_stretch(&mut self, front: &str) -> Result<(), AllocError>
         requires common { all is_common front.now ≡ true }
         requires room { self.old.place + length front.now < 2 ^ 64 }
-        ensures added { OnOk result
+        ensures { OnOk result
             (reading_of self.new ≡ behind_stretch front.now (reading_of self.old)) }
-        ensures halted { IfErr result (λ e. e ≡ OutOfMemory) }
     {
         if front.is_empty() {
             return Ok(());
@@ -64,14 +62,13 @@ impl Reader {
     }
 
     /// Appends a stretch of common characters to the value.
-    fn add_value(&mut self, front: &str) -> Result<(), Halt>
+    fn add_value(&mut self, front: &str) -> Result<(), AllocError>
         requires quoted { IsInQuotes self.old }
         requires common { all is_common front.now ≡ true }
         requires room { self.old.reading.place + length front.now < 2 ^ 64 }
-        ensures added { OnOk result (reader_of self.new ≡ in_quotes (draft_of self.old.draft)
+        ensures { OnOk result (reader_of self.new ≡ in_quotes (draft_of self.old.draft)
             (text_view self.old.draft.attr) (text_view self.old.draft.value ++ front.now)
             (behind_chars front.now (reading_of self.old.reading))) }
-        ensures halted { IfErr result (λ e. e ≡ OutOfMemory) }
     {
         if front.is_empty() {
             return Ok(());
@@ -83,12 +80,11 @@ impl Reader {
 
     /// Reads the leading common characters of a text, each of which is only appended to the current
     /// node, and returns the rest.
-    fn read_stretch<'a>(&mut self, text: &'a str) -> Result<&'a str, Halt>
+    fn read_stretch<'a>(&mut self, text: &'a str) -> Result<&'a str, AllocError>
         requires taken { TakesCommon (reader_of self.old) }
         requires room { self.old.reading.place + length text.now < 2 ^ 64 }
-        ensures read { IfOk result (λ rest.
+        ensures { IfOk result (λ rest.
             ReadsFront (reader_of self.old) (reader_of self.new) text.now rest.now) }
-        ensures halted { IfErr result (λ e. e ≡ OutOfMemory) }
     {
         let (front, rest) = cut_common(text);
         self.reading.add_stretch(front)?;
@@ -97,12 +93,11 @@ impl Reader {
 
     /// Reads the leading common characters of a text in a value in double quotes, and returns the
     /// rest.
-    fn read_value<'a>(&mut self, text: &'a str) -> Result<&'a str, Halt>
+    fn read_value<'a>(&mut self, text: &'a str) -> Result<&'a str, AllocError>
         requires quoted { IsInQuotes self.old }
         requires room { self.old.reading.place + length text.now < 2 ^ 64 }
-        ensures read { IfOk result (λ rest.
+        ensures { IfOk result (λ rest.
             ReadsFront (reader_of self.old) (reader_of self.new) text.now rest.now) }
-        ensures halted { IfErr result (λ e. e ≡ OutOfMemory) }
     {
         let (front, rest) = cut_common(text);
         self.add_value(front)?;
@@ -111,11 +106,10 @@ impl Reader {
 
     /// Reads the leading common characters of a text all at once, if each is only appended to the
     /// current node or to a value, and returns the rest.
-    pub(crate) fn read_common<'a>(&mut self, text: &'a str) -> Result<&'a str, Halt>
+    pub(crate) fn read_common<'a>(&mut self, text: &'a str) -> Result<&'a str, AllocError>
         requires { self.old.reading.place + length text.now < 2 ^ 64 }
-        ensures read { IfOk result (λ rest.
+        ensures { IfOk result (λ rest.
             ReadsFront (reader_of self.old) (reader_of self.new) text.now rest.now) }
-        ensures halted { IfErr result (λ e. e ≡ OutOfMemory) }
     {
         if self.takes_common() {
             self.read_stretch(text)

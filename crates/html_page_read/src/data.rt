@@ -1,14 +1,14 @@
 //! Text, and the beginnings of tags (HTML Standard 13.2.5.1, 13.2.5.6, 13.2.5.7, 13.2.5.41).
 
-ghost use Rattle.std.specs.Prelude.{◌≡◌, []};
-ghost use Rattle.html_page_read.specs.Endings.{Moves};
+ghost use Rattle.std.specs.Prelude.{◌≡◌, OnOk, []};
 ghost use Rattle.html_page_read.specs.PageTokens as tokens;
 ghost use Rattle.html_page_read.specs.PageReaderViews.{holder_at, reader_of, reading_of};
 
 use crate::reader::{Holder, Reader, State};
 use crate::reference::is_letter;
 use html_dom_tree::text;
-use html_page_stack::{Halt, PageError};
+use html_page_stack::PageError;
+use std::alloc::AllocError;
 
 impl Reader {
     pub(crate) fn begin_reference(&mut self, holder: Holder)
@@ -22,9 +22,8 @@ impl Reader {
         self.state = State::Reference;
     }
 
-    pub(crate) fn data(&mut self, c: char) -> Result<(), Halt>
-        ensures { Moves result (tokens.data_read c (reading_of self.old.reading))
-            (reader_of self.new) }
+    pub(crate) fn data(&mut self, c: char) -> Result<(), AllocError>
+        ensures { OnOk result (reader_of self.new ≡ tokens.data_read c (reading_of self.old.reading)) }
     {
         self.reading.page.start = self.reading.place;
         match c {
@@ -38,9 +37,8 @@ impl Reader {
         Ok(())
     }
 
-    pub(crate) fn bogus_comment(&mut self, c: char) -> Result<(), Halt>
-        ensures { Moves result (tokens.bogus_read c (reading_of self.old.reading))
-            (reader_of self.new) }
+    pub(crate) fn bogus_comment(&mut self, c: char) -> Result<(), AllocError>
+        ensures { OnOk result (reader_of self.new ≡ tokens.bogus_read c (reading_of self.old.reading)) }
     {
         if c == '>' {
             self.reading.fresh = false;
@@ -51,9 +49,9 @@ impl Reader {
         Ok(())
     }
 
-    pub(crate) fn tag_open(&mut self, c: char) -> Result<(), Halt>
-        ensures { Moves result (tokens.tag_open_read c (reading_of self.old.reading))
-            (reader_of self.new) }
+    pub(crate) fn tag_open(&mut self, c: char) -> Result<(), AllocError>
+        ensures { OnOk result (reader_of self.new
+            ≡ tokens.tag_open_read c (reading_of self.old.reading)) }
     {
         if is_letter(c) {
             self.draft.begin(self.alloc, false, c)?;
@@ -81,9 +79,9 @@ impl Reader {
         Ok(())
     }
 
-    pub(crate) fn end_tag_open(&mut self, c: char) -> Result<(), Halt>
-        ensures { Moves result (tokens.end_tag_open_read c (reading_of self.old.reading))
-            (reader_of self.new) }
+    pub(crate) fn end_tag_open(&mut self, c: char) -> Result<(), AllocError>
+        ensures { OnOk result (reader_of self.new
+            ≡ tokens.end_tag_open_read c (reading_of self.old.reading)) }
     {
         if is_letter(c) {
             self.draft.begin(self.alloc, true, c)?;

@@ -4,7 +4,6 @@ ghost use Rattle.std.specs.{Char.{to_ascii_lowercase}, List.{list_all}};
 ghost use Rattle.std.specs.Prelude.{◌≡◌, ◌++◌, ◌∷◌, [], IfOk, MatchOption, OnOk, bytes_eq, chars, false, true, is_some, None};
 ghost use Rattle.html_dom_tree.specs.{Attributes.{has_name}, Views.{attrs_view, text_view}};
 ghost use Rattle.html_names_core.specs.{Characters.{is_tag_char}, Names.{attr_fault}};
-ghost use Rattle.html_page_read.specs.Endings.{Adds};
 ghost use Rattle.html_page_read.specs.PageTokens as tokens;
 ghost use Rattle.html_page_read.specs.{PageReaderViews.{draft_of, reading_of}, PageTokens.{is_name}};
 
@@ -12,7 +11,7 @@ use crate::reading::Reading;
 use html_dom_tree::{HtmlAttrs, text};
 use html_names_core::charsets::is_valid_in_tag_name;
 use html_names_core::{HtmlAttr, HtmlTag, NameFault};
-use html_page_stack::{Halt, PageError, PageRefusal};
+use html_page_stack::{PageError, PageRefusal};
 use std::alloc::{AllocError, Global};
 
 /// The greatest number of attributes of a tag.
@@ -141,20 +140,26 @@ impl Draft {
     }
 
     /// Adds the attribute to the tag. Of two with one name the first counts.
-    pub(crate) fn end_attr(&mut self, alloc: Global, reading: &mut Reading) -> Result<(), Halt>
-        ensures { Adds result (tokens.attr_added (text_view self.old.attr)
-            (text_view self.old.value) (draft_of self.old) (reading_of reading.old))
-            (draft_of self.new, reading_of reading.new) }
+    pub(crate) fn end_attr(
+        &mut self,
+        alloc: Global,
+        reading: &mut Reading,
+    ) -> Result<(), AllocError>
+        ensures { OnOk result ((draft_of self.new, reading_of reading.new)
+            ≡ tokens.attr_added (text_view self.old.attr) (text_view self.old.value) (draft_of
+            self.old) (reading_of reading.old)) }
     {
         let Some(attr) = attr_named(alloc, self.attr.as_str())? else {
-            return Err(reading.refusal(PageRefusal::UnknownName));
+            reading.page.refuse(PageRefusal::UnknownName);
+            return Ok(());
         };
         if self.attrs.get(&attr).is_some() {
             reading.note(PageError::DuplicateAttribute)?;
             return Ok(());
         }
         if MOST_ATTRS <= self.attrs.0.len() {
-            return Err(reading.refusal(PageRefusal::TooManyAttributes));
+            reading.page.refuse(PageRefusal::TooManyAttributes);
+            return Ok(());
         }
         let value = text::take(alloc, &mut self.value);
         self.push_attr(attr, value)?;
@@ -162,9 +167,14 @@ impl Draft {
     }
 
     /// Adds the attribute to the tag, without a value.
-    pub(crate) fn end_bare_attr(&mut self, alloc: Global, reading: &mut Reading) -> Result<(), Halt>
-        ensures { Adds result (tokens.attr_added (text_view self.old.attr) [] (draft_of self.old)
-            (reading_of reading.old)) (draft_of self.new, reading_of reading.new) }
+    pub(crate) fn end_bare_attr(
+        &mut self,
+        alloc: Global,
+        reading: &mut Reading,
+    ) -> Result<(), AllocError>
+        ensures { OnOk result ((draft_of self.new, reading_of reading.new)
+            ≡ tokens.attr_added (text_view self.old.attr) [] (draft_of self.old) (reading_of
+            reading.old)) }
     {
         text::empty(&mut self.value);
         self.end_attr(alloc, reading)

@@ -1,22 +1,22 @@
 //! References in a text or a value, and what is left at the end of the text.
 
-ghost use Rattle.std.specs.Prelude.{◌≡◌, chars};
+ghost use Rattle.std.specs.Prelude.{◌≡◌, OnOk, chars};
 ghost use Rattle.html_dom_tree.specs.Views.{text_view};
-ghost use Rattle.html_page_read.specs.Endings.{Emits, Moves};
 ghost use Rattle.html_page_read.specs.PageTokens as tokens;
 ghost use Rattle.html_page_read.specs.PageReaderViews.{holder_at, reader_of, reading_of, resolved_of, state_at};
 
 use crate::reader::{Depth, Holder, Reader, State};
 use crate::reference::{Resolved, continues, resolve};
 use html_dom_tree::text::add_text;
-use html_page_stack::{Halt, PageError};
+use html_page_stack::PageError;
+use std::alloc::AllocError;
 
 impl Reader {
     /// Appends the characters of a reference where it stands.
-    fn add_reference(&mut self, text: &str) -> Result<(), Halt>
-        ensures { Moves result (tokens.reference_read (chars text.now)
-            (holder_at self.old.holder self.old) (reading_of self.old.reading))
-            (reader_of self.new) }
+    fn add_reference(&mut self, text: &str) -> Result<(), AllocError>
+        ensures { OnOk result (reader_of self.new
+            ≡ tokens.reference_read (chars text.now) (holder_at self.old.holder self.old)
+            (reading_of self.old.reading)) }
     {
         match self.holder {
             Holder::Value => {
@@ -37,8 +37,8 @@ impl Reader {
     }
 
     /// Reads a character after a reference.
-    fn behind_reference(&mut self, c: char) -> Result<(), Halt>
-        ensures { Moves result (tokens.text_read c (reader_of self.old)) (reader_of self.new) }
+    fn behind_reference(&mut self, c: char) -> Result<(), AllocError>
+        ensures { OnOk result (reader_of self.new ≡ tokens.text_read c (reader_of self.old)) }
     {
         match self.state {
             State::Value => self.value(c),
@@ -47,10 +47,10 @@ impl Reader {
         }
     }
 
-    fn take_reference(&mut self, found: Resolved, c: char) -> Result<(), Halt>
-        ensures { Moves result (tokens.resolved_read (resolved_of found)
-            (holder_at self.old.holder self.old) c (reading_of self.old.reading))
-            (reader_of self.new) }
+    fn take_reference(&mut self, found: Resolved, c: char) -> Result<(), AllocError>
+        ensures { OnOk result (reader_of self.new
+            ≡ tokens.resolved_read (resolved_of found) (holder_at self.old.holder self.old) c
+            (reading_of self.old.reading)) }
     {
         self.reading.note_some(found.missing)?;
         self.reading.note_some(found.error)?;
@@ -61,10 +61,10 @@ impl Reader {
         self.behind_reference(c)
     }
 
-    pub(crate) fn reference(&mut self, c: char) -> Result<(), Halt>
-        ensures { Moves result (tokens.reference_state_read (text_view self.old.since.text)
-            (holder_at self.old.holder self.old) c (reading_of self.old.reading))
-            (reader_of self.new) }
+    pub(crate) fn reference(&mut self, c: char) -> Result<(), AllocError>
+        ensures { OnOk result (reader_of self.new
+            ≡ tokens.reference_state_read (text_view self.old.since.text) (holder_at
+            self.old.holder self.old) c (reading_of self.old.reading)) }
     {
         if continues(self.since.as_str(), c) {
             self.since.push(c)?;
@@ -76,10 +76,10 @@ impl Reader {
         self.take_reference(found, c)
     }
 
-    fn leave_reference(&mut self) -> Result<(), Halt>
-        ensures { Emits result (tokens.left_over_reference (text_view self.old.since.text)
-            (holder_at self.old.holder self.old) (reading_of self.old.reading))
-            (reading_of self.new.reading) }
+    fn leave_reference(&mut self) -> Result<(), AllocError>
+        ensures { OnOk result (reading_of self.new.reading
+            ≡ tokens.left_over_reference (text_view self.old.since.text) (holder_at
+            self.old.holder self.old) (reading_of self.old.reading)) }
     {
         if matches!(self.holder, Holder::Value) {
             self.reading.note(PageError::EofInTag)?;
@@ -92,9 +92,9 @@ impl Reader {
     }
 
     /// Handles what is left at the end of the text.
-    pub(crate) fn leave(&mut self) -> Result<(), Halt>
-        ensures { Emits result (tokens.left_over (state_at self.old.state self.old)
-            (reading_of self.old.reading)) (reading_of self.new.reading) }
+    pub(crate) fn leave(&mut self) -> Result<(), AllocError>
+        ensures { OnOk result (reading_of self.new.reading
+            ≡ tokens.left_over (state_at self.old.state self.old) (reading_of self.old.reading)) }
     {
         let reading = &mut self.reading;
         match self.state {

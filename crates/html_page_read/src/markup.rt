@@ -3,7 +3,7 @@
 ghost use Rattle.std.specs.{Char.{to_ascii_lowercase}, Prelude.{◌≡◌, ◌∷◌, ◌++◌, [], OnOk, IsTrue, bytes_eq, chars, codes, map}};
 ghost use Rattle.html_dom_tree.specs.Views.{text_view};
 ghost use Rattle.html_names_core.specs.Names.{is_ascii};
-ghost use Rattle.html_page_read.specs.{Endings.{Moves}, PageTokens.{begins}};
+ghost use Rattle.html_page_read.specs.PageTokens.{begins};
 ghost use Rattle.html_page_read.specs.PageTokens as tokens;
 ghost use Rattle.html_page_read.specs.PageReaderViews.{reader_of, reading_of};
 ghost use Rattle.html_page_names.specs.ForeignNames.{lowered};
@@ -12,7 +12,7 @@ use crate::comment::CommentPart;
 use crate::doctype::table_rule;
 use crate::reader::{Brackets, Reader, State};
 use html_dom_tree::text;
-use html_page_stack::{Halt, PageError, TableRule};
+use html_page_stack::{PageError, TableRule};
 use html_text::begins;
 use std::alloc::AllocError;
 
@@ -50,9 +50,8 @@ fn begins_markup(text: &str) -> bool
 
 impl Reader {
     /// Reads `<![CDATA[` as a comment, unless it stands in SVG or MathML.
-    fn begin_cdata(&mut self) -> Result<(), Halt>
-        ensures { Moves result (tokens.cdata_begun (reading_of self.old.reading))
-            (reader_of self.new) }
+    fn begin_cdata(&mut self) -> Result<(), AllocError>
+        ensures { OnOk result (reader_of self.new ≡ tokens.cdata_begun (reading_of self.old.reading)) }
     {
         if self.reading.page.stack.is_in_foreign() {
             self.brackets = Brackets::None;
@@ -64,9 +63,9 @@ impl Reader {
         Ok(())
     }
 
-    pub(crate) fn markup(&mut self, c: char) -> Result<(), Halt>
-        ensures { Moves result (tokens.markup_read (text_view self.old.inner) c
-            (reading_of self.old.reading)) (reader_of self.new) }
+    pub(crate) fn markup(&mut self, c: char) -> Result<(), AllocError>
+        ensures { OnOk result (reader_of self.new
+            ≡ tokens.markup_read (text_view self.old.inner) c (reading_of self.old.reading)) }
     {
         text::add(&mut self.inner, c)?;
         let text = self.inner.as_str();
@@ -100,13 +99,13 @@ impl Reader {
         if !matches!(self.reading.page.tables, TableRule::Unseen) {
             return self.reading.note(PageError::MisplacedDocumentType);
         }
-        self.reading.page.tables = table_rule(self.alloc, self.inner.as_str())?;
+        self.reading.page.tables = table_rule(self.inner.as_str());
         Ok(())
     }
 
-    pub(crate) fn doctype(&mut self, c: char) -> Result<(), Halt>
-        ensures { Moves result (tokens.doctype_read (text_view self.old.inner) c
-            (reading_of self.old.reading)) (reader_of self.new) }
+    pub(crate) fn doctype(&mut self, c: char) -> Result<(), AllocError>
+        ensures { OnOk result (reader_of self.new
+            ≡ tokens.doctype_read (text_view self.old.inner) c (reading_of self.old.reading)) }
     {
         if c == '>' {
             self.take_doctype()?;

@@ -1,10 +1,9 @@
 //! Elements of text alone (HTML Standard 13.2.5.2 to 13.2.5.31).
 
-ghost use Rattle.std.specs.Prelude.{◌≡◌, MatchOption, None, chars, length};
+ghost use Rattle.std.specs.Prelude.{◌≡◌, OnOk, MatchOption, None, chars, length};
 ghost use Rattle.html_dom_tree.specs.Views.{text_view};
 ghost use Rattle.html_names_core.specs.Characters.{IsOf, is_tag_char};
 ghost use Rattle.html_text.specs.ClosingTags.{closing};
-ghost use Rattle.html_page_read.specs.Endings.{Moves};
 ghost use Rattle.html_page_read.specs.PageTokens as tokens;
 ghost use Rattle.html_page_read.specs.{PageRawEnds.{IsRawEnd}, PageReaderViews.{depth_of, reader_of, reading_of}};
 ghost use Rattle.html_page_stack.specs.PageViews.{page_of, stack_of};
@@ -12,8 +11,9 @@ ghost use Rattle.html_page_stack.specs.PageViews.{page_of, stack_of};
 use crate::reader::{Depth, Holder, Reader, State};
 use html_names_core::HtmlTag;
 use html_page_names::Kind;
-use html_page_stack::{Halt, Page};
+use html_page_stack::Page;
 use html_text::{end_of, ends_in, is_tag_end};
+use std::alloc::AllocError;
 
 /// Returns the number of characters of a closing tag with that name, without its last.
 fn closing_length(name: &str) -> usize
@@ -78,9 +78,10 @@ fn raw_end(page: &Page, depth: Depth, run: u8, c: char) -> Option<(&HtmlTag, usi
 
 impl Reader {
     /// Reads a character of such an element's text.
-    fn raw_char(&mut self, c: char) -> Result<(), Halt>
-        ensures { Moves result (tokens.raw_char_read (depth_of self.old.depth) self.old.run c
-            (reading_of self.old.reading)) (reader_of self.new) }
+    fn raw_char(&mut self, c: char) -> Result<(), AllocError>
+        ensures { OnOk result (reader_of self.new
+            ≡ tokens.raw_char_read (depth_of self.old.depth) self.old.run c (reading_of
+            self.old.reading)) }
     {
         let depth = self.depth.behind_page(&self.reading.page, c);
         self.reading.emit_char(c)?;
@@ -90,9 +91,10 @@ impl Reader {
         Ok(())
     }
 
-    fn raw_text(&mut self, c: char) -> Result<(), Halt>
-        ensures { Moves result (tokens.raw_text_read (depth_of self.old.depth) self.old.run c
-            (reading_of self.old.reading)) (reader_of self.new) }
+    fn raw_text(&mut self, c: char) -> Result<(), AllocError>
+        ensures { OnOk result (reader_of self.new
+            ≡ tokens.raw_text_read (depth_of self.old.depth) self.old.run c (reading_of
+            self.old.reading)) }
     {
         if c == '&' && self.reading.page.stack.is_at(Kind::EscapableRaw) {
             self.begin_reference(Holder::Raw);
@@ -101,9 +103,10 @@ impl Reader {
         self.raw_char(c)
     }
 
-    pub(crate) fn raw(&mut self, c: char) -> Result<(), Halt>
-        ensures { Moves result (tokens.raw_read (depth_of self.old.depth) self.old.run c
-            (reading_of self.old.reading)) (reader_of self.new) }
+    pub(crate) fn raw(&mut self, c: char) -> Result<(), AllocError>
+        ensures { OnOk result (reader_of self.new
+            ≡ tokens.raw_read (depth_of self.old.depth) self.old.run c (reading_of
+            self.old.reading)) }
     {
         match raw_end(&self.reading.page, self.depth, self.run, c) {
             None => self.raw_text(c),

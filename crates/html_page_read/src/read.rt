@@ -1,18 +1,17 @@
 //! Reading a page as browsers do, from a text or bytes to its element and the errors in it.
 
-ghost use Rattle.std.specs.Prelude.{◌≡◌, ◌≤◌, ◌<◌, ◌+◌, ◌^◌, OnOk, IfOk, IfErr, chars, length};
-ghost use Rattle.html_page_read.specs.{Endings.{Moves}, PageAnswers.{ArePlaced, Begins, Gives, GivesBytes, ReadsText, fault_of, placed}};
+ghost use Rattle.std.specs.Prelude.{◌≡◌, ◌≤◌, ◌<◌, ◌+◌, ◌^◌, OnOk, IfOk, chars, length};
+ghost use Rattle.html_page_read.specs.PageAnswers.{ArePlaced, Gives, GivesBytes, fault_at, placed};
 ghost use Rattle.html_page_read.specs.PageReading as pages;
-ghost use Rattle.html_page_read.specs.PageReaderViews.{reader_of, reading_of};
-ghost use Rattle.html_page_stack.specs.PageViews.{notes_of};
+ghost use Rattle.html_page_read.specs.PageReaderViews.{reader_of};
+ghost use Rattle.html_page_stack.specs.PageViews.{notes_of, page_of};
 
 use crate::fault::{PageFault, PageNote, PageNotes};
 use crate::place::place_at;
 use crate::reader::Reader;
-use crate::reading::Reading;
 use html_dom_tree::HtmlElement;
 use html_dom_tree::text::split_first;
-use html_page_stack::{Halt, Notes, PageError, PageRefusal};
+use html_page_stack::{Notes, Page, PageError, PageRefusal};
 use std::alloc::{AllocError, Global};
 use std::str;
 
@@ -22,8 +21,7 @@ const BYTE_ORDER_MARK: char = '\u{feff}';
 ///
 /// Reads as HTML Standard 13.2 says, with scripting disabled, and recovers from the errors that
 /// browsers recover from. Comments and document types leave nothing in the element. Refuses a page
-/// if a browser would move nodes of it, make them a second time, or change a complete element;
-/// [`PageRefusal`] lists the cases.
+/// if a browser would move nodes of it or make them a second time; [`PageRefusal`] lists the cases.
 ///
 /// The span of an element is the offset in bytes of the `<` of its start tag, or of the tag or the
 /// character that implied it; [`Places`](crate::Places) maps it to a line and a column. A text has
@@ -33,8 +31,8 @@ const BYTE_ORDER_MARK: char = '\u{feff}';
 ///
 /// # Errors
 ///
-/// [`PageFault::Refused`] with the first place from which on the page is not read: that of the `<`
-/// of the tag, or of the character.
+/// [`PageFault::Refused`] with the first place for which the page is refused: that of the `<` of the
+/// tag, or of the character. What follows is read all the same, but changes nothing of that.
 ///
 /// Takes time linear in the length of the text, except that a tag that looks for an open element,
 /// such as an end tag, visits those inside it, or all if there is none. Beside the element,
@@ -66,13 +64,9 @@ pub fn read_page(
     requires low_limit { limit ≤ 10000 }
     ensures { Gives result (chars text.now) (pages.page_read limit (chars text.now)) }
 {
-    match read_text(alloc, text, limit) {
-        Ok((root, notes)) => {
-            let notes = notes_at(alloc, text, notes)?;
-            Ok((root, notes))
-        }
-        Err(halt) => Err(fault_of(text, halt)),
-    }
+    let mut reader = reader_behind(alloc, text, limit)?;
+    reader.finish()?;
+    answer(alloc, text, reader.reading.page)
 }
 
 /// Reads a page from elsewhere, in bytes, and returns its element and the errors in it.
@@ -103,17 +97,13 @@ pub fn read_page_bytes(
     }
 }
 
-/// Returns the fault for a text that is not read.
-fn fault_of(text: &str, halt: Halt) -> PageFault
-    ensures { result ≡ fault_of (chars text.now) halt }
+/// Returns the fault of a refusal.
+fn fault_at(text: &str, refused: (PageRefusal, usize)) -> PageFault
+    ensures { result ≡ fault_at (chars text.now) refused }
 {
-    match halt {
-        Halt::OutOfMemory => PageFault::OutOfMemory,
-        Halt::Refused { refusal, place } => {
-            let place = place_at(text, place);
-            PageFault::Refused { refusal, place }
-        }
-    }
+    let (refusal, place) = refused;
+    let place = place_at(text, place);
+    PageFault::Refused { refusal, place }
 }
 
 /// Returns an error with its place in the text.
@@ -139,10 +129,10 @@ fn notes_at(alloc: Global, text: &str, notes: Notes) -> Result<PageNotes, AllocE
     Ok(PageNotes { count, first })
 }
 
-fn run(reader: &mut Reader, text: &str) -> Result<(), Halt>
+fn run(reader: &mut Reader, text: &str) -> Result<(), AllocError>
     requires { reader.old.reading.place + length text.now < 2 ^ 64 }
-    ensures { Moves result (pages.run (reader_of reader.old) (chars text.now))
-        (reader_of reader.new) }
+    ensures { OnOk result (reader_of reader.new
+        ≡ pages.run (reader_of reader.old) (chars text.now)) }
 {
     let mut rest = text;
     loop {
@@ -157,9 +147,10 @@ fn run(reader: &mut Reader, text: &str) -> Result<(), Halt>
 }
 
 /// Returns a reader that has read a text, which starts at that offset in bytes.
-fn read_from(alloc: Global, text: &str, limit: usize, place: usize) -> Result<Reader, Halt>
+fn read_from(alloc: Global, text: &str, limit: usize, place: usize) -> Result<Reader, AllocError>
     requires { place + length text.now < 2 ^ 64 }
-    ensures { Begins result (pages.run (pages.first_reader limit place) (chars text.now)) }
+    ensures { IfOk result (λ reader. reader_of reader
+        ≡ pages.run (pages.first_reader limit place) (chars text.now)) }
 {
     let mut reader = Reader::new(alloc, limit, place);
     run(&mut reader, text)?;
@@ -167,8 +158,8 @@ fn read_from(alloc: Global, text: &str, limit: usize, place: usize) -> Result<Re
 }
 
 /// Returns a reader that has read a text, and dropped its byte order mark.
-fn reader_behind(alloc: Global, text: &str, limit: usize) -> Result<Reader, Halt>
-    ensures { Begins result (pages.begun limit (chars text.now)) }
+fn reader_behind(alloc: Global, text: &str, limit: usize) -> Result<Reader, AllocError>
+    ensures { IfOk result (λ reader. reader_of reader ≡ pages.begun limit (chars text.now)) }
 {
     let Some((first, rest)) = split_first(text) else {
         return Ok(Reader::new(alloc, limit, 0));
@@ -180,26 +171,17 @@ fn reader_behind(alloc: Global, text: &str, limit: usize) -> Result<Reader, Halt
     }
 }
 
-/// Returns the element of a page that is read, and the errors recovered from.
-fn page_made(reading: Reading) -> Result<(HtmlElement, Notes), Halt>
-    ensures { ReadsText result (pages.page_made (reading_of reading)) }
+/// Returns what a page that was read to its end is read as.
+fn answer(alloc: Global, text: &str, page: Page) -> Result<(HtmlElement, PageNotes), PageFault>
+    ensures { Gives result (chars text.now) (pages.page_result (page_of page)) }
 {
-    let place = reading.place;
-    let (root, notes) = reading.page.finish()?;
-    match root {
-        Some(root) => Ok((root, notes)),
-        None => {
-            let refusal = PageRefusal::Unsettled;
-            Err(Halt::Refused { refusal, place })
-        }
+    if let Some(refused) = page.refusal {
+        return Err(fault_at(text, refused));
     }
-}
-
-/// Returns the element that the text is read as, and the errors recovered from.
-fn read_text(alloc: Global, text: &str, limit: usize) -> Result<(HtmlElement, Notes), Halt>
-    ensures { ReadsText result (pages.page_read limit (chars text.now)) }
-{
-    let mut reader = reader_behind(alloc, text, limit)?;
-    reader.finish()?;
-    page_made(reader.reading)
+    let start = page.start;
+    let (root, notes) = page.finish()?;
+    match root {
+        Some(root) => Ok((root, notes_at(alloc, text, notes)?)),
+        None => Err(fault_at(text, (PageRefusal::TooDeep, start))),
+    }
 }

@@ -1,7 +1,7 @@
 //! A reader of pages that takes one character after the other (HTML Standard 13.2.5).
 
 ghost use Rattle.std.specs.{Char.{len_utf8}, Prelude.{◌≡◌, ◌+◌, ◌<◌, ◌^◌, OnOk}};
-ghost use Rattle.html_page_read.specs.{Endings.{Emits, Moves}, PageReading.{first_reader}};
+ghost use Rattle.html_page_read.specs.PageReading.{first_reader};
 ghost use Rattle.html_page_read.specs.PageTokens as tokens;
 ghost use Rattle.html_page_read.specs.PageReaderViews.{reader_of, reading_of, state_at};
 
@@ -10,8 +10,8 @@ use crate::draft::Draft;
 use crate::names::Names;
 use crate::reading::Reading;
 use crate::since::Since;
-use html_page_stack::{Halt, Page, PageRefusal, Token};
-use std::alloc::Global;
+use html_page_stack::{Page, PageError, Token};
+use std::alloc::{AllocError, Global};
 
 /// The state of a reader.
 #[derive(Clone, Copy)]
@@ -132,9 +132,9 @@ impl Reader {
         }
     }
 
-    fn move_by(&mut self, c: char) -> Result<(), Halt>
-        ensures { Moves result (tokens.moved (state_at self.old.state self.old) c
-            (reading_of self.old.reading)) (reader_of self.new) }
+    fn move_by(&mut self, c: char) -> Result<(), AllocError>
+        ensures { OnOk result (reader_of self.new
+            ≡ tokens.moved (state_at self.old.state self.old) c (reading_of self.old.reading)) }
     {
         match self.state {
             State::Data => self.data(c),
@@ -158,32 +158,53 @@ impl Reader {
         }
     }
 
+    /// Returns whether U+0000 is kept in the state, for the rules of the tree.
+    fn keeps_null(&self) -> bool
+        ensures { result ≡ tokens.keeps_null (state_at self.now.state self.now) }
+    {
+        match self.state {
+            State::Data | State::TagOpen | State::Cdata => true,
+            State::Reference => matches!(self.holder, Holder::Data),
+            _ => false,
+        }
+    }
+
+    /// Returns the character that is read for one: a line feed for a carriage return, and U+FFFD
+    /// for U+0000 where it is not kept.
+    fn read_as(&self, c: char) -> char
+        ensures { result ≡ tokens.read_as (state_at self.now.state self.now) c }
+    {
+        match c {
+            '\r' => '\n',
+            '\0' if !self.keeps_null() => '\u{fffd}',
+            _ => c,
+        }
+    }
+
     /// Reads a character. A line feed after a carriage return is part of it (HTML Standard
     /// 13.2.3.5).
-    pub(crate) fn step(&mut self, c: char) -> Result<(), Halt>
+    pub(crate) fn step(&mut self, c: char) -> Result<(), AllocError>
         requires { self.old.reading.place + len_utf8 c < 2 ^ 64 }
-        ensures moves { Moves result (tokens.step (reader_of self.old) c) (reader_of self.new) }
+        ensures moves { OnOk result (reader_of self.new ≡ tokens.step (reader_of self.old) c) }
         ensures place { OnOk result (self.new.reading.place ≡ self.old.reading.place + len_utf8 c) }
     {
         let place = self.reading.place;
-        if c == '\0' {
-            let refusal = PageRefusal::NullCharacter;
-            return Err(Halt::Refused { refusal, place });
-        }
         if c == '\n' && self.reading.after_return {
             self.reading.place = place + 1;
             self.reading.after_return = false;
             return Ok(());
         }
-        self.move_by(if c == '\r' { '\n' } else { c })?;
+        let c_read = self.read_as(c);
+        self.reading
+            .note_if(c == '\0', PageError::UnexpectedNullCharacter)?;
+        self.move_by(c_read)?;
         self.reading.place = place + c.len_utf8();
         self.reading.after_return = c == '\r';
         Ok(())
     }
 
-    pub(crate) fn finish(&mut self) -> Result<(), Halt>
-        ensures { Emits result (tokens.finished (reader_of self.old))
-            (reading_of self.new.reading) }
+    pub(crate) fn finish(&mut self) -> Result<(), AllocError>
+        ensures { OnOk result (reading_of self.new.reading ≡ tokens.finished (reader_of self.old)) }
     {
         self.leave()?;
         self.reading.emit(Token::Finish)

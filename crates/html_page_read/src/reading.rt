@@ -1,13 +1,12 @@
 //! The progress in a page: the tree so far, and what tokens do to it.
 
 ghost use Rattle.std.specs.Prelude.{◌≡◌, OnOk, chars};
-ghost use Rattle.html_page_read.specs.Endings.{Emits};
 ghost use Rattle.html_page_read.specs.PageTokens as tokens;
 ghost use Rattle.html_page_read.specs.PageReaderViews.{reading_of, bracket_count};
 ghost use Rattle.html_page_stack.specs.PageViews.{token_of};
 
 use crate::reader::Brackets;
-use html_page_stack::{Halt, Page, PageError, PageRefusal, Token};
+use html_page_stack::{Page, PageError, Token};
 use html_page_tree::{read_token, takes_text};
 use std::alloc::AllocError;
 
@@ -48,17 +47,9 @@ impl Reading {
         }
     }
 
-    /// Returns the refusal of the page at the token.
-    pub(crate) fn refusal(&self, refusal: PageRefusal) -> Halt
-        ensures { result ≡ Halt.Refused refusal self.now.page.start }
-    {
-        let place = self.page.start;
-        Halt::Refused { refusal, place }
-    }
-
-    pub(crate) fn emit(&mut self, token: Token) -> Result<(), Halt>
-        ensures { Emits result (tokens.emitted (token_of token) (reading_of self.old))
-            (reading_of self.new) }
+    pub(crate) fn emit(&mut self, token: Token) -> Result<(), AllocError>
+        ensures { OnOk result (reading_of self.new
+            ≡ tokens.emitted (token_of token) (reading_of self.old)) }
     {
         read_token(&mut self.page, token)?;
         self.fresh = false;
@@ -67,15 +58,14 @@ impl Reading {
 
     /// Emits a character. Drops a line feed right after a start tag that drops it.
     #[tactic(auto, using(html_page_tree::proofs::TakenTexts::text_taken))]
-    pub(crate) fn emit_char(&mut self, c: char) -> Result<(), Halt>
-        ensures { Emits result (tokens.char_emitted c (reading_of self.old))
-            (reading_of self.new) }
+    pub(crate) fn emit_char(&mut self, c: char) -> Result<(), AllocError>
+        ensures { OnOk result (reading_of self.new ≡ tokens.char_emitted c (reading_of self.old)) }
     {
         if self.fresh && c == '\n' {
             self.fresh = false;
             return Ok(());
         }
-        if takes_text(&self.page) {
+        if c != '\0' && takes_text(&self.page) {
             self.page.add_char(c)?;
             self.fresh = false;
             return Ok(());
@@ -83,9 +73,9 @@ impl Reading {
         self.emit(Token::Char(c))
     }
 
-    pub(crate) fn emit_text(&mut self, text: &str) -> Result<(), Halt>
-        ensures { Emits result (tokens.chars_emitted (chars text.now) (reading_of self.old))
-            (reading_of self.new) }
+    pub(crate) fn emit_text(&mut self, text: &str) -> Result<(), AllocError>
+        ensures { OnOk result (reading_of self.new
+            ≡ tokens.chars_emitted (chars text.now) (reading_of self.old)) }
     {
         for c in text.chars() {
             self.emit_char(c)?;
@@ -93,9 +83,9 @@ impl Reading {
         Ok(())
     }
 
-    pub(crate) fn emit_brackets(&mut self, brackets: Brackets) -> Result<(), Halt>
-        ensures { Emits result (tokens.brackets_emitted (bracket_count brackets)
-            (reading_of self.old)) (reading_of self.new) }
+    pub(crate) fn emit_brackets(&mut self, brackets: Brackets) -> Result<(), AllocError>
+        ensures { OnOk result (reading_of self.new
+            ≡ tokens.brackets_emitted (bracket_count brackets) (reading_of self.old)) }
     {
         match brackets {
             Brackets::None => Ok(()),

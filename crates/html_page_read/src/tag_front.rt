@@ -1,17 +1,15 @@
 //! Names of tags and of attributes, and end tags, read at once.
 
-ghost use Rattle.std.specs.Prelude.{◌≡◌, ◌+◌, ◌<◌, ◌^◌, [], false, true, Ok, IfErr, IfOk, IfSome, OnOk, chars, length};
+ghost use Rattle.std.specs.Prelude.{◌≡◌, ◌+◌, ◌<◌, ◌^◌, [], false, true, IfOk, IfSome, OnOk, chars, length};
 ghost use Rattle.html_names_core.specs.Characters.{all};
 ghost use Rattle.html_text.specs.Fronts.{is_name_char};
 ghost use Rattle.html_page_read.specs.{Fronts.{begins_small}, PageReaderViews.{draft_of, reader_of, reading_of}};
 ghost use Rattle.html_page_read.specs.{PageStretches.{in_quotes, ReadsFront}, TagFronts.{EndsOwn, behind_own_end, in_name, tag_open}};
 ghost use Rattle.html_page_read.specs.declared.reader.State.TheVariants as state;
-ghost use Rattle.html_page_stack.specs.declared.fault.Halt.TheVariants.{OutOfMemory};
 
 use crate::front::{begins_small, strip};
 use crate::reader::{Reader, State};
 use html_dom_tree::text;
-use html_page_stack::Halt;
 use html_page_tree::takes_own_end;
 use html_text::cut_name;
 use std::alloc::AllocError;
@@ -31,12 +29,11 @@ impl Reader {
     }
 
     /// Reads the lowercase name of a tag at the front of a text, if any, and returns the rest.
-    fn read_name<'a>(&mut self, text: &'a str, is_end: bool) -> Result<&'a str, Halt>
+    fn read_name<'a>(&mut self, text: &'a str, is_end: bool) -> Result<&'a str, AllocError>
         requires open { (reader_of self.old).state ≡ tag_open is_end }
         requires room { self.old.reading.place + length text.now < 2 ^ 64 }
-        ensures read { IfOk result (λ rest.
+        ensures { IfOk result (λ rest.
             ReadsFront (reader_of self.old) (reader_of self.new) text.now rest.now) }
-        ensures halted { IfErr result (λ e. e ≡ OutOfMemory) }
     {
         let (name, rest) = cut_name(text);
         if !begins_small(name) {
@@ -65,11 +62,10 @@ impl Reader {
     }
 
     /// Closes the current node after so many more bytes, with which its own end tag ends.
-    fn close_own(&mut self, length: usize) -> Result<(), Halt>
+    fn close_own(&mut self, length: usize) -> Result<(), AllocError>
         requires { self.old.reading.place + length < 2 ^ 64 }
-        ensures closed { OnOk result (behind_own_end length (reading_of self.old.reading)
-            ≡ Ok (reader_of self.new)) }
-        ensures halted { IfErr result (λ e. e ≡ OutOfMemory) }
+        ensures { OnOk result (reader_of self.new
+            ≡ behind_own_end length (reading_of self.old.reading)) }
     {
         self.reading.page.close(true)?;
         self.reading.place += length;
@@ -81,12 +77,11 @@ impl Reader {
 
     /// Reads an end tag after `</` that only closes the current node, or the name of another, and
     /// returns the rest.
-    fn read_end<'a>(&mut self, text: &'a str) -> Result<&'a str, Halt>
+    fn read_end<'a>(&mut self, text: &'a str) -> Result<&'a str, AllocError>
         requires open { (reader_of self.old).state ≡ tag_open true }
         requires room { self.old.reading.place + length text.now < 2 ^ 64 }
-        ensures read { IfOk result (λ rest.
+        ensures { IfOk result (λ rest.
             ReadsFront (reader_of self.old) (reader_of self.new) text.now rest.now) }
-        ensures halted { IfErr result (λ e. e ≡ OutOfMemory) }
     {
         match self.past_own_end(text) {
             Some(rest) => {
@@ -118,12 +113,11 @@ impl Reader {
 
     /// Reads the name of an attribute and the `="` after it at the beginning of a text, if its
     /// letters are lowercase, and returns the rest.
-    fn read_attr<'a>(&mut self, text: &'a str) -> Result<&'a str, Halt>
+    fn read_attr<'a>(&mut self, text: &'a str) -> Result<&'a str, AllocError>
         requires before { self.old.state ≡ state.BeforeAttr }
         requires room { self.old.reading.place + length text.now < 2 ^ 64 }
-        ensures read { IfOk result (λ rest.
+        ensures { IfOk result (λ rest.
             ReadsFront (reader_of self.old) (reader_of self.new) text.now rest.now) }
-        ensures halted { IfErr result (λ e. e ≡ OutOfMemory) }
     {
         let (attr, behind) = cut_name(text);
         if attr.is_empty() {
@@ -137,11 +131,10 @@ impl Reader {
     }
 
     /// Reads a part of a tag at the front of a text, if it is read at once, and returns the rest.
-    fn read_tag_front<'a>(&mut self, text: &'a str) -> Result<&'a str, Halt>
+    fn read_tag_front<'a>(&mut self, text: &'a str) -> Result<&'a str, AllocError>
         requires { self.old.reading.place + length text.now < 2 ^ 64 }
-        ensures read { IfOk result (λ rest.
+        ensures { IfOk result (λ rest.
             ReadsFront (reader_of self.old) (reader_of self.new) text.now rest.now) }
-        ensures halted { IfErr result (λ e. e ≡ OutOfMemory) }
     {
         match self.state {
             State::TagOpen => self.read_name(text, false),
@@ -152,11 +145,10 @@ impl Reader {
     }
 
     /// Reads the beginning of a text, if it can be read at once, and returns the rest.
-    pub(crate) fn read_front<'a>(&mut self, text: &'a str) -> Result<&'a str, Halt>
+    pub(crate) fn read_front<'a>(&mut self, text: &'a str) -> Result<&'a str, AllocError>
         requires { self.old.reading.place + length text.now < 2 ^ 64 }
-        ensures read { IfOk result (λ rest.
+        ensures { IfOk result (λ rest.
             ReadsFront (reader_of self.old) (reader_of self.new) text.now rest.now) }
-        ensures halted { IfErr result (λ e. e ≡ OutOfMemory) }
     {
         let rest = self.read_tag_front(text)?;
         self.read_common(rest)

@@ -1,16 +1,16 @@
 //! Tags and the names of their attributes (HTML Standard 13.2.5.8, 13.2.5.32 to 13.2.5.34, 13.2.5.40).
 
-ghost use Rattle.std.specs.Prelude.{◌≡◌};
+ghost use Rattle.std.specs.Prelude.{◌≡◌, OnOk};
 ghost use Rattle.html_dom_tree.specs.Views.{attrs_view, text_view};
-ghost use Rattle.html_page_read.specs.Endings.{Moves};
 ghost use Rattle.html_page_read.specs.PageTokens as tokens;
 ghost use Rattle.html_page_read.specs.PageReaderViews.{draft_of, reader_of, reading_of};
 
 use crate::reader::{Depth, Reader, State};
 use html_dom_tree::{HtmlAttrs, text};
 use html_page_names::Kind;
-use html_page_stack::{Halt, PageError, PageRefusal, StartTag, TagName, Token};
+use html_page_stack::{PageError, PageRefusal, StartTag, TagName, Token};
 use html_page_tree::is_space;
+use std::alloc::AllocError;
 use std::mem;
 
 impl Reader {
@@ -31,12 +31,14 @@ impl Reader {
         }
     }
 
-    fn emit_start(&mut self, name: TagName, closed: bool) -> Result<(), Halt>
-        ensures { Moves result (tokens.start_emitted (record {
-          name = name.tag;
-          attrs = attrs_view self.old.draft.attrs;
-          closed = closed;
-        }) (reading_of self.old.reading)) (reader_of self.new) }
+    fn emit_start(&mut self, name: TagName, closed: bool) -> Result<(), AllocError>
+        ensures { OnOk result (reader_of self.new
+            ≡ tokens.start_emitted (record {
+              name = name.tag;
+              attrs = attrs_view
+                  self.old.draft.attrs;
+              closed = closed;
+            }) (reading_of self.old.reading)) }
     {
         let drops_feed = name.is(Kind::DropsFeed);
         let attrs = mem::replace(&mut self.draft.attrs, HtmlAttrs::new(self.alloc));
@@ -49,9 +51,10 @@ impl Reader {
         Ok(())
     }
 
-    fn emit_end(&mut self, name: TagName, closed: bool) -> Result<(), Halt>
-        ensures { Moves result (tokens.end_emitted (record (draft_of self.old.draft) { name = name.tag })
-            closed (reading_of self.old.reading)) (reader_of self.new) }
+    fn emit_end(&mut self, name: TagName, closed: bool) -> Result<(), AllocError>
+        ensures { OnOk result (reader_of self.new
+            ≡ tokens.end_emitted (record (draft_of self.old.draft) { name = name.tag }) closed
+            (reading_of self.old.reading)) }
     {
         let is_error = !self.draft.attrs.0.is_empty();
         self.reading
@@ -64,12 +67,14 @@ impl Reader {
     }
 
     /// Emits a complete tag.
-    pub(crate) fn end_tag(&mut self, closed: bool) -> Result<(), Halt>
-        ensures { Moves result (tokens.tag_emitted closed (draft_of self.old.draft)
-            (reading_of self.old.reading)) (reader_of self.new) }
+    pub(crate) fn end_tag(&mut self, closed: bool) -> Result<(), AllocError>
+        ensures { OnOk result (reader_of self.new
+            ≡ tokens.tag_emitted closed (draft_of self.old.draft) (reading_of self.old.reading)) }
     {
         let Some(name) = self.names.named(self.alloc, self.draft.name.as_str())? else {
-            return Err(self.reading.refusal(PageRefusal::UnknownName));
+            self.reading.page.refuse(PageRefusal::UnknownName);
+            self.state = State::Data;
+            return Ok(());
         };
         if self.draft.is_end {
             self.emit_end(name, closed)
@@ -78,9 +83,9 @@ impl Reader {
         }
     }
 
-    pub(crate) fn tag_name(&mut self, c: char) -> Result<(), Halt>
-        ensures { Moves result (tokens.tag_name_read (draft_of self.old.draft) c
-            (reading_of self.old.reading)) (reader_of self.new) }
+    pub(crate) fn tag_name(&mut self, c: char) -> Result<(), AllocError>
+        ensures { OnOk result (reader_of self.new
+            ≡ tokens.tag_name_read (draft_of self.old.draft) c (reading_of self.old.reading)) }
     {
         if is_space(c) {
             self.state = State::BeforeAttr;
@@ -97,9 +102,9 @@ impl Reader {
         Ok(())
     }
 
-    pub(crate) fn before_attr(&mut self, c: char) -> Result<(), Halt>
-        ensures { Moves result (tokens.before_attr_read (draft_of self.old.draft) c
-            (reading_of self.old.reading)) (reader_of self.new) }
+    pub(crate) fn before_attr(&mut self, c: char) -> Result<(), AllocError>
+        ensures { OnOk result (reader_of self.new
+            ≡ tokens.before_attr_read (draft_of self.old.draft) c (reading_of self.old.reading)) }
     {
         if is_space(c) {
             self.state = State::BeforeAttr;
@@ -116,10 +121,10 @@ impl Reader {
         Ok(())
     }
 
-    pub(crate) fn attr_name(&mut self, c: char) -> Result<(), Halt>
-        ensures { Moves result (tokens.attr_name_read (draft_of self.old.draft)
-            (text_view self.old.draft.attr) c (reading_of self.old.reading))
-            (reader_of self.new) }
+    pub(crate) fn attr_name(&mut self, c: char) -> Result<(), AllocError>
+        ensures { OnOk result (reader_of self.new
+            ≡ tokens.attr_name_read (draft_of self.old.draft) (text_view self.old.draft.attr) c
+            (reading_of self.old.reading)) }
     {
         if is_space(c) {
             self.state = State::AfterAttrName;
@@ -143,10 +148,10 @@ impl Reader {
         Ok(())
     }
 
-    pub(crate) fn after_attr_name(&mut self, c: char) -> Result<(), Halt>
-        ensures { Moves result (tokens.after_attr_name_read (draft_of self.old.draft)
-            (text_view self.old.draft.attr) c (reading_of self.old.reading))
-            (reader_of self.new) }
+    pub(crate) fn after_attr_name(&mut self, c: char) -> Result<(), AllocError>
+        ensures { OnOk result (reader_of self.new
+            ≡ tokens.after_attr_name_read (draft_of self.old.draft) (text_view
+            self.old.draft.attr) c (reading_of self.old.reading)) }
     {
         if is_space(c) {
             self.state = State::AfterAttrName;
@@ -160,9 +165,9 @@ impl Reader {
         self.before_attr(c)
     }
 
-    pub(crate) fn self_closing(&mut self, c: char) -> Result<(), Halt>
-        ensures { Moves result (tokens.self_closing_read (draft_of self.old.draft) c
-            (reading_of self.old.reading)) (reader_of self.new) }
+    pub(crate) fn self_closing(&mut self, c: char) -> Result<(), AllocError>
+        ensures { OnOk result (reader_of self.new
+            ≡ tokens.self_closing_read (draft_of self.old.draft) c (reading_of self.old.reading)) }
     {
         if c == '>' {
             return self.end_tag(true);

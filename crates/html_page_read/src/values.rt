@@ -1,15 +1,15 @@
 //! The values of attributes (HTML Standard 13.2.5.35 to 13.2.5.39).
 
-ghost use Rattle.std.specs.Prelude.{◌≡◌};
+ghost use Rattle.std.specs.Prelude.{◌≡◌, OnOk};
 ghost use Rattle.html_dom_tree.specs.Views.{text_view};
-ghost use Rattle.html_page_read.specs.Endings.{Moves};
 ghost use Rattle.html_page_read.specs.PageTokens as tokens;
 ghost use Rattle.html_page_read.specs.PageReaderViews.{draft_of, reader_of, reading_of};
 
 use crate::reader::{Holder, Reader, State};
 use html_dom_tree::text;
-use html_page_stack::{Halt, PageError};
+use html_page_stack::PageError;
 use html_page_tree::is_space;
+use std::alloc::AllocError;
 
 /// Returns whether the character makes a value without quotes look as if quotes were missing.
 fn looks_quoted(c: char) -> bool
@@ -19,10 +19,10 @@ fn looks_quoted(c: char) -> bool
 }
 
 impl Reader {
-    pub(crate) fn before_value(&mut self, c: char) -> Result<(), Halt>
-        ensures { Moves result (tokens.before_value_read (draft_of self.old.draft)
-            (text_view self.old.draft.attr) c (reading_of self.old.reading))
-            (reader_of self.new) }
+    pub(crate) fn before_value(&mut self, c: char) -> Result<(), AllocError>
+        ensures { OnOk result (reader_of self.new
+            ≡ tokens.before_value_read (draft_of self.old.draft) (text_view self.old.draft.attr)
+            c (reading_of self.old.reading)) }
     {
         if is_space(c) {
             self.state = State::BeforeValue;
@@ -45,10 +45,10 @@ impl Reader {
     }
 
     /// Reads a character of a value without quotes.
-    fn unquoted(&mut self, c: char) -> Result<(), Halt>
-        ensures { Moves result (tokens.unquoted_read (draft_of self.old.draft)
-            (text_view self.old.draft.attr) (text_view self.old.draft.value) c
-            (reading_of self.old.reading)) (reader_of self.new) }
+    fn unquoted(&mut self, c: char) -> Result<(), AllocError>
+        ensures { OnOk result (reader_of self.new
+            ≡ tokens.unquoted_read (draft_of self.old.draft) (text_view self.old.draft.attr)
+            (text_view self.old.draft.value) c (reading_of self.old.reading)) }
     {
         self.draft.quote = '\0';
         if is_space(c) {
@@ -72,10 +72,11 @@ impl Reader {
         Ok(())
     }
 
-    pub(crate) fn value(&mut self, c: char) -> Result<(), Halt>
-        ensures { Moves result (tokens.value_read (draft_of self.old.draft)
-            (text_view self.old.draft.attr) (text_view self.old.draft.value)
-            self.old.draft.quote c (reading_of self.old.reading)) (reader_of self.new) }
+    pub(crate) fn value(&mut self, c: char) -> Result<(), AllocError>
+        ensures { OnOk result (reader_of self.new
+            ≡ tokens.value_read (draft_of self.old.draft) (text_view self.old.draft.attr)
+            (text_view self.old.draft.value) self.old.draft.quote c (reading_of
+            self.old.reading)) }
     {
         if self.draft.quote == '\0' {
             return self.unquoted(c);
@@ -94,9 +95,9 @@ impl Reader {
         Ok(())
     }
 
-    pub(crate) fn after_value(&mut self, c: char) -> Result<(), Halt>
-        ensures { Moves result (tokens.after_value_read (draft_of self.old.draft) c
-            (reading_of self.old.reading)) (reader_of self.new) }
+    pub(crate) fn after_value(&mut self, c: char) -> Result<(), AllocError>
+        ensures { OnOk result (reader_of self.new
+            ≡ tokens.after_value_read (draft_of self.old.draft) c (reading_of self.old.reading)) }
     {
         let is_error = !(is_space(c) || c == '/' || c == '>');
         self.reading

@@ -1,9 +1,10 @@
 -- Elements with one child more: whether some child is an element, and texts that are not empty.
-use Rattle.std.proofs.Common.{◌≡◌, ℕ, true, false, List, [], ◌∷◌, refl, sym, ap, ◌∙◌, eqb, length, chars}
+use Rattle.std.proofs.Common.{◌≡◌, ◌<◌, arith, ℕ, true, false, List, [], ◌∷◌, refl, sym, ap, ◌∙◌, eqb, get_or, length, set, chars}
 use Rattle.std.{proofs.lemmas.Bool.{false≢true}, proofs.lemmas.Str.{encodes-chars}, specs.Str.{IsUtf8}}
 use lib.Utf8.{encodes}
-use Rattle.html_dom_tree.specs.Tree.{Head, tag_node, text_node, element_node, frame_node, NodesView, none, node, with_last}
-use Rattle.html_page_stack.specs.OpenElements.{OpenElement, has_elements, with_text}
+use Rattle.html_dom_tree.specs.Tree.{Head, tag_node, text_node, element_node, frame_node, NodeView, NodesView, none, node, with_last}
+use Rattle.html_dom_tree.specs.{Views.{node_view, nodes_view}, declared.node.HtmlNode.{HtmlNode}}
+use Rattle.html_page_stack.specs.OpenElements.{OpenElement, has_elements, with_head_child, with_inner_child, with_text}
 
 pub text_counts : (ns : NodesView) (text : List ℕ) (span : ℕ) →
     has_elements (with_last ns (text_node text span)) ≡ has_elements ns
@@ -20,6 +21,22 @@ element_counts (node (tag_node t) ns) h children = element_counts ns h children
 element_counts (node (text_node s n) ns) h children = element_counts ns h children
 element_counts (node (element_node g kids) ns) h children = refl
 element_counts (node (frame_node f) ns) h children = element_counts ns h children
+
+pub head_counts : (ns : NodesView) (child : NodeView) →
+    has_elements (with_head_child child ns) ≡ has_elements ns
+head_counts none child = refl
+head_counts (node (tag_node t) ns) child = refl
+head_counts (node (text_node s n) ns) child = refl
+head_counts (node (element_node g kids) ns) child = refl
+head_counts (node (frame_node f) ns) child = refl
+
+-- where the first node is the one with a child more
+pub first_changed : (ns : List HtmlNode) (old : HtmlNode) → 0 < length ns → old ≡ get_or ns 0 old →
+    (child : NodeView) (new : HtmlNode) → node_view new ≡ with_inner_child child (node_view old) →
+    nodes_view (set ns 0 new) ≡ with_head_child child (nodes_view ns)
+first_changed [] old some is child new e = absurd (omega arith)
+first_changed (n ∷ ns) old some is child new e = ap (λ v. node v (nodes_view ns))
+    (e ∙ ap (λ m. with_inner_child child (node_view m)) is)
 
 text_by : (cs bs : List ℕ) (o : OpenElement) → encodes cs ≡ bs → eqb (length bs) 0 ≡ false →
     with_text cs o ≡ record o { children = with_last o.children (text_node cs o.head.span) }

@@ -4,7 +4,9 @@ use Rattle.std.proofs.{Math.Bridge.{no_suc-le-zero}, Math.Dec.{eqb-suc-zero}, le
 use Rattle.std.specs.Prelude.{unwrap_or}
 use Rattle.html_page_stack.proofs.Stacks.{last_first}
 use Rattle.html_page_stack.specs.Contexts.{AreKnown, brought_mode, context, context_of, contexts, own_mode, root_mode, some_or}
-use Rattle.html_page_stack.specs.{ElementViews.{element_of, list_of}, OpenElements.{OpenElement, html_mode, mode, with_text}}
+use Rattle.html_page_stack.specs.{ElementViews.{element_of, list_of}, OpenElements.{OpenElement, completed, html_mode, mode, placed, placed_in, with_text}}
+use Rattle.html_page_stack.specs.declared.modes.Destination.{Destination}
+use Rattle.html_page_stack.specs.declared.modes.Destination.TheVariants as to
 use Rattle.html_page_stack.specs.declared.{context.Context.{Context}, element.PageElement.{PageElement}, modes.Mode.{Mode}}
 
 inner_mode : (own m : Option Mode) (n : Mode) →
@@ -43,6 +45,15 @@ pub text_keeps : (t : List ℕ) (o : OpenElement) (os : List OpenElement) →
 text_keeps [] o os = refl
 text_keeps (c ∷ cs) o os = refl
 
+placed_keeps : (d : Destination) (o p : OpenElement) (os : List OpenElement) →
+    context (placed_in d (completed o) p ∷ os) ≡ context (p ∷ os)
+placed_keeps to.Parent o p os = refl
+placed_keeps to.Head o p os = refl
+
+pub child_keeps : (o p : OpenElement) (os : List OpenElement) →
+    context (placed o p ∷ os) ≡ context (p ∷ os)
+child_keeps o p os = placed_keeps o.destination o p os
+
 contexts_last : (es : List PageElement) (e : PageElement) →
     reverse (map context_of (es ++ e ∷ [])) ≡ e.context ∷ reverse (map context_of es)
 contexts_last es e = ap reverse (map-append context_of es (e ∷ []))
@@ -68,3 +79,10 @@ head_of c (d ∷ ds) = d
 pub last_known : (es : List PageElement) (e : PageElement) → AreKnown (es ++ e ∷ []) →
     e.context ≡ context (element_of e ∷ list_of es)
 last_known es e known = ap (head_of e.context) (both es e known)
+
+abbrev tail_of : List Context → List Context
+tail_of [] = []
+tail_of (c ∷ cs) = cs
+
+pub rest_known : (es : List PageElement) (e : PageElement) → AreKnown (es ++ e ∷ []) → AreKnown es
+rest_known es e known = ap tail_of (both es e known)

@@ -1,4 +1,5 @@
 pub mod Children
 pub mod Closing
 pub mod Contexts
+pub mod Merging
 pub mod Stacks

@@ -7,7 +7,7 @@ use Rattle.std.proofs.Math.Bool.{Bool-discrete}
 use Rattle.html_names_core.specs.Equal.{discrete_by, option_discrete}
 use Rattle.html_page_names.specs.PageNames.{of}
 use Rattle.html_page_names.specs.declared.kind.Kind.TheVariants as kind
-use Rattle.html_page_stack.specs.{ElementViews.{list_of}, OpenElements.{OpenElement, html_mode, in_scope, is_html, named_mode}}
+use Rattle.html_page_stack.specs.{ElementViews.{element_of, list_of}, OpenElements.{OpenElement, html_mode, in_scope, is_html, named_mode}}
 use Rattle.html_page_stack.specs.declared.{context.Context.{Context}, element.PageElement.{PageElement}, modes.Mode.{Mode}}
 use Rattle.html_page_stack.specs.declared.modes.Mode.TheVariants.{BeforeHtml, BeforeHead, InHead, InHeadNoscript, AfterHead, InBody, InText, InTable, InCaption, InColumns, InSection, InRow, InCell}
 use Rattle.html_page_stack.specs.declared.modes.Scope.TheVariants.{Button}
@@ -41,6 +41,14 @@ contexts (o ∷ os) = context (o ∷ os) ∷ contexts os
 
 abbrev pub context_of : PageElement → Context
 context_of e = e.context
+
+-- an element without its attributes, on which no fact depends
+abbrev pub bare : OpenElement → OpenElement
+bare o = record o { head = record o.head { attrs = [] } }
+
+-- what of an element facts are, or depend on
+abbrev pub known_part : PageElement → Context × OpenElement
+known_part e = (e.context, bare (element_of e))
 
 -- each element has the facts about it; the innermost is the last
 abbrev pub AreKnown : List PageElement → Type 0

@@ -4,8 +4,12 @@ use Rattle.html_dom_tree.specs.Views.{element_view}
 use Rattle.html_page_stack.specs.{OpenElements.{OpenElement}, declared.element.PageElement.{PageElement}}
 
 abbrev pub element_of : PageElement → OpenElement
-element_of e = let v = element_view e.element in
-    record { head = v.0; space = e.space; children = v.1 }
+element_of e = let v = element_view e.element in record {
+  head = v.0;
+  space = e.space;
+  destination = e.destination;
+  children = v.1;
+}
 
 -- the open elements, innermost first
 abbrev pub list_of : List PageElement → List OpenElement

@@ -1,10 +1,13 @@
 -- The open elements, innermost first, what is in scope, and the insertion mode, which follows from
 -- them (HTML Standard 13.2.4).
-use Rattle.std.specs.Prelude.{ℕ, Bool, true, false, not, ◌&&◌, ◌||◌, ◌==◌, List, [], ◌∷◌, length, if◌then◌else◌, bytes_eq, Option, Some, None, unwrap_or}
-use Rattle.html_dom_tree.specs.Tree.{Head, NodeView, tag_node, text_node, element_node, frame_node, NodesView, none, node, ElementView, with_last}
-use Rattle.html_page_names.specs.{ForeignNames.{lowered}, PageNames.{of}}
+use Rattle.std.specs.List.{list_any}
+use Rattle.std.specs.Prelude.{ℕ, zero, suc, Bool, true, false, not, ◌&&◌, ◌||◌, ◌==◌, List, [], ◌∷◌, length, if◌then◌else◌, bytes_eq, Option, Some, None, unwrap_or}
+use Rattle.html_dom_tree.specs.Attributes.{union}
+use Rattle.html_dom_tree.specs.Tree.{TextPair, Head, NodeView, tag_node, text_node, element_node, frame_node, NodesView, none, node, ElementView, with_last}
+use Rattle.html_page_names.specs.{ForeignNames.{is_encoding, is_html_encoding, lowered}, PageNames.{of}}
 use Rattle.html_page_names.specs.declared.kind.Kind.TheVariants as kind
-use Rattle.html_page_stack.specs.declared.modes.{Mode.{Mode}, Scope.{Scope}, Space.{Space}}
+use Rattle.html_page_stack.specs.declared.modes.{Destination.{Destination}, Mode.{Mode}, Scope.{Scope}, Space.{Space}}
+use Rattle.html_page_stack.specs.declared.modes.Destination.TheVariants as to
 use Rattle.html_page_stack.specs.declared.modes.Mode.TheVariants.{BeforeHtml, BeforeHead, InHead, InHeadNoscript, AfterHead, InBody, InText, InTable, InCaption, InColumns, InSection, InRow, InCell}
 use Rattle.html_page_stack.specs.declared.modes.Scope.TheVariants.{General, ListItem, Button, Table}
 use Rattle.html_page_stack.specs.declared.modes.Space.TheVariants.{Html, Svg, MathMl}
@@ -13,6 +16,8 @@ use Rattle.html_page_stack.specs.declared.modes.Space.TheVariants.{Html, Svg, Ma
 pub record OpenElement : Type 0 where
   pub head : Head
   pub space : Space
+  -- where it stands once it is complete
+  pub destination : Destination
   pub children : NodesView
 
 abbrev pub is_html : Space → Bool
@@ -59,6 +64,25 @@ abbrev pub is_foreign_bound : Space → (name : List ℕ) → Bool
 is_foreign_bound Html name = false
 is_foreign_bound Svg name = of kind.SvgHtml name
 is_foreign_bound MathMl name = of kind.MathText name || of kind.AnnotationXml name
+
+-- whether the attribute makes an `annotation-xml` hold HTML
+abbrev pub says_html : TextPair → Bool
+says_html a = is_encoding a.0 && is_html_encoding (lowered a.1)
+
+-- whether its content is read as HTML: an element of HTML, or an HTML integration point (13.2.4.2)
+abbrev pub holds_html_in : Space → OpenElement → Bool
+holds_html_in Html o = true
+holds_html_in Svg o = of kind.SvgHtml o.head.name
+holds_html_in MathMl o = of kind.AnnotationXml o.head.name && list_any says_html o.head.attrs
+
+-- whether it is a MathML text integration point
+abbrev pub holds_text_in : Space → OpenElement → Bool
+holds_text_in MathMl o = of kind.MathText o.head.name
+holds_text_in space o = false
+
+-- whether start tags in it are read as HTML, but for few
+abbrev pub holds_tags : OpenElement → Bool
+holds_tags o = holds_html_in o.space o || holds_text_in o.space o
 
 abbrev pub bounds_general : OpenElement → Bool
 bounds_general o = is_of (of kind.BoundsScope) o || is_foreign_bound o.space o.head.name
@@ -141,16 +165,53 @@ completed o = element_node o.head o.children
 abbrev pub with_last_child : NodeView → OpenElement → OpenElement
 with_last_child child o = record o { children = with_last o.children child }
 
+-- a node with one child more, if it is an element
+abbrev pub with_inner_child : NodeView → NodeView → NodeView
+with_inner_child child (element_node h kids) = element_node h (with_last kids child)
+with_inner_child child n = n
+
+-- appends a child to the head, which is the first child of `html`
+abbrev pub with_head_child : NodeView → NodesView → NodesView
+with_head_child child none = none
+with_head_child child (node n ns) = node (with_inner_child child n) ns
+
+-- a complete element at its destination in the element around it
+abbrev pub placed_in : Destination → NodeView → OpenElement → OpenElement
+placed_in to.Parent child o = with_last_child child o
+placed_in to.Head child o = record o { children = with_head_child child o.children }
+
+abbrev pub placed : OpenElement → OpenElement → OpenElement
+placed o p = placed_in o.destination (completed o) p
+
 -- completes the current node, unless it is the root
 abbrev pub without_current : List OpenElement → List OpenElement
 without_current [] = []
 without_current (o ∷ []) = o ∷ []
-without_current (o ∷ p ∷ ps) = with_last_child (completed o) p ∷ ps
+without_current (o ∷ p ∷ ps) = placed o p ∷ ps
 
 -- the root, with all open elements complete
 abbrev pub all_completed : OpenElement → List OpenElement → ElementView
 all_completed o [] = (o.head, o.children)
-all_completed o (p ∷ ps) = all_completed (with_last_child (completed o) p) ps
+all_completed o (p ∷ ps) = all_completed (placed o p) ps
+
+-- an element, with those of the attributes that it lacks
+abbrev pub with_attrs : (others : List TextPair) → OpenElement → OpenElement
+with_attrs others o = record o { head = record o.head { attrs = union o.head.attrs others } }
+
+-- of elements that stand outermost first, the one at that index gets those of the attributes that it
+-- lacks, if it is one of HTML whose name passes the test
+abbrev pub with_attrs_at : (index : ℕ) (test : List ℕ → Bool) (others : List TextPair) →
+    List OpenElement → List OpenElement
+with_attrs_at index test others [] = []
+with_attrs_at zero test others (o ∷ os) =
+    (if is_of test o then with_attrs others o else o) ∷ os
+with_attrs_at (suc index) test others (o ∷ os) = o ∷ with_attrs_at index test others os
+
+-- the number of the attributes of that element
+abbrev pub attr_count_at : (index : ℕ) (test : List ℕ → Bool) → List OpenElement → ℕ
+attr_count_at index test [] = 0
+attr_count_at zero test (o ∷ os) = if is_of test o then length o.head.attrs else 0
+attr_count_at (suc index) test (o ∷ os) = attr_count_at index test os
 
 abbrev pub root_of : List OpenElement → Option ElementView
 root_of [] = None

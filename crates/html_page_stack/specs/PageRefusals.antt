@@ -6,17 +6,12 @@ use Rattle.html_page_stack.specs.declared.fault.PageRefusal.TheVariants as refus
 
 abbrev pub refusal_number : PageRefusal → ℕ
 refusal_number refusal.TooDeep = 8
-refusal_number refusal.NullCharacter = 26
 refusal_number refusal.UnknownName = 27
 refusal_number refusal.TooManyAttributes = 28
 refusal_number refusal.Reconstruction = 29
 refusal_number refusal.AdoptionAgency = 30
 refusal_number refusal.OpenAnchorRemoved = 31
 refusal_number refusal.FosterParenting = 32
-refusal_number refusal.MergedAttributes = 33
-refusal_number refusal.HeadReopened = 34
 refusal_number refusal.UnreadElement = 35
 refusal_number refusal.CrossedElement = 36
-refusal_number refusal.HtmlInForeign = 37
-refusal_number refusal.DocumentType = 38
 refusal_number refusal.Unsettled = 39

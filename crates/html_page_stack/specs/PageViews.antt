@@ -4,7 +4,7 @@ use Rattle.html_dom_tree.specs.Views.{attrs_view, text_view}
 use Rattle.html_page_names.specs.PageNames.{is, of}
 pub use Rattle.html_page_stack.specs.ElementViews.{element_of, list_of}
 use Rattle.html_page_stack.specs.OpenElements as elements
-use Rattle.html_page_stack.specs.OpenElements.{OpenElement, bounds, bounds_item, is_html, is_of, is_special, is_foreign_of}
+use Rattle.html_page_stack.specs.OpenElements.{OpenElement, bounds, bounds_item, holds_tags, is_html, is_of, is_special, is_foreign_of}
 use Rattle.html_page_stack.specs.Pages as pages
 use Rattle.html_page_names.specs.declared.kind.Kind.TheVariants as kind
 use Rattle.html_page_stack.specs.declared.{notes.Notes.{Notes}, page.Page.{Page}, search.Bound.{Bound}}
@@ -33,6 +33,7 @@ page_of p = record {
   limit = p.limit;
   start = p.start;
   notes = notes_of p.notes;
+  refusal = p.refusal;
 }
 
 abbrev pub start_of : StartTag → pages.StartTag
@@ -52,6 +53,7 @@ target_test target.Nothing = pages.no_name
 abbrev pub goal_test : Goal → OpenElement → Bool
 goal_test (goal.Of t) = is_of (target_test t)
 goal_test (goal.Foreign tag) = is_foreign_of tag.now
+goal_test goal.HoldsTags = holds_tags
 
 abbrev pub while_test : While → List OpenElement → Bool
 while_test (while.Above g) = λ os. not (elements.at (goal_test g) os)

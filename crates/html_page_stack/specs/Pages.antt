@@ -1,15 +1,16 @@
 -- The state of a page that is being read, and the steps that its tokens take: they open and close
 -- elements (HTML Standard 13.2.4 and 13.2.6).
-use Rattle.std.specs.Prelude.{ℕ, zero, suc, ◌+◌, min, Bool, true, false, not, ◌&&◌, ◌||◌, nat_lt, nat_le, List, [], ◌∷◌, ◌++◌, length, if◌then◌else◌, bytes_eq, Option, Some, None, Result, Ok, Err}
+use Rattle.std.specs.Prelude.{ℕ, zero, suc, ◌+◌, min, Bool, true, false, not, ◌&&◌, ◌||◌, nat_lt, nat_le, List, [], ◌∷◌, ◌++◌, length, reverse, if◌then◌else◌, bytes_eq, Option, Some, None}
 use Rattle.html_dom_tree.specs.Tree.{TextPair, Head, none}
-use Rattle.html_page_stack.specs.OpenElements.{OpenElement, at, is_of, is_at, in_scope, with_last_text, without_current}
+use Rattle.html_page_stack.specs.OpenElements.{OpenElement, at, attr_count_at, with_attrs_at, is_of, is_at, in_scope, with_last_text, without_current}
 use Rattle.html_page_names.specs.PageNames.{of}
 use Rattle.html_page_names.specs.declared.kind.Kind.TheVariants as kind
 use Rattle.html_page_stack.specs.declared.error.PageError.{PageError}
 use Rattle.html_page_stack.specs.declared.error.PageError.TheVariants as error
 use Rattle.html_page_stack.specs.declared.fault.PageRefusal.{PageRefusal}
 use Rattle.html_page_stack.specs.declared.fault.PageRefusal.TheVariants as refusal
-use Rattle.html_page_stack.specs.declared.modes.{Scope.{Scope}, Space.{Space}, TableRule.{TableRule}, Space.TheVariants.{Html}}
+use Rattle.html_page_stack.specs.declared.modes.{Destination.{Destination}, Destination.TheVariants.{Parent}, Scope.{Scope}}
+use Rattle.html_page_stack.specs.declared.modes.{Space.{Space}, TableRule.{TableRule}, Space.TheVariants.{Html}}
 use Rattle.html_page_stack.specs.declared.modes.TableRule.TheVariants as rule
 
 -- the errors that the reader recovered from: their number (at most that of 32 bits), and the first
@@ -38,6 +39,8 @@ pub record Page : Type 0 where
   -- the offset of the token in bytes
   pub start : ℕ
   pub notes : Notes
+  -- the first reason why the page is refused, with the offset of its place in bytes
+  pub refusal : Option (PageRefusal × ℕ)
 
 -- a page of which nothing is read
 abbrev pub first_page : (limit : ℕ) → Page
@@ -49,6 +52,7 @@ first_page limit = record {
   limit = limit;
   start = 0;
   notes = record { count = 0; first = [] };
+  refusal = None;
 }
 
 pub record StartTag : Type 0 where
@@ -64,17 +68,21 @@ pub data Token : Type 0 where
   -- the end of the page
   Finish : Token
 
--- the result of a token, or the refusal of the page, with the offset of its place in bytes
-abbrev pub Reads : Type 0 → Type 0
-Reads A = Result A (PageRefusal × ℕ)
+abbrev pub first_of : {A : Type 0} → Option A → A → Option A
+first_of None a = Some a
+first_of (Some first) a = Some first
 
-infixl 20 ◌next◌
-abbrev pub ◌next◌ : {A B : Type 0} → Reads A → (A → Reads B) → Reads B
-(Ok a) next f = f a
-(Err e) next f = Err e
+-- refuses the page for what stands at that place, unless it is refused already; what follows is read
+-- all the same
+abbrev pub refused_at : PageRefusal → (place : ℕ) → Page → Page
+refused_at r place p = record p { refusal = first_of p.refusal (r, place) }
 
-abbrev pub refused : {A : Type 0} → PageRefusal → Page → Reads A
-refused r p = Err (r, p.start)
+-- refuses the page for the token
+abbrev pub refused : PageRefusal → Page → Page
+refused r p = refused_at r p.start p
+
+abbrev pub refused_if : Bool → PageRefusal → Page → Page
+refused_if is_refused r p = if is_refused then refused r p else p
 
 -- records an error at the token
 abbrev pub noted : PageError → Page → Page
@@ -111,14 +119,42 @@ page_head name attrs start = record {
   pre_span = false;
 }
 
--- opens an element, unless it is too deep (13.2.6.1)
-abbrev pub opened_in : Space → (name : List ℕ) → List TextPair → Page → Reads Page
-opened_in space name attrs p = if nat_le p.limit (length p.stack) then refused refusal.TooDeep p
-    else Ok (with_element
-    (record { head = page_head name attrs p.start; space = space; children = none }) (settled p))
+-- the element that a tag makes, without children
+abbrev pub made : Destination → Space → (name : List ℕ) → List TextPair → (start : ℕ) → OpenElement
+made destination space name attrs start = record {
+  head = page_head name attrs start;
+  space = space;
+  destination = destination;
+  children = none;
+}
 
-abbrev pub opened : (name : List ℕ) → List TextPair → Page → Reads Page
+-- whether an element in the current node would be too deep
+abbrev pub is_full : Page → Bool
+is_full p = nat_le p.limit (length p.stack)
+
+-- opens an element, unless it is too deep (13.2.6.1)
+abbrev pub opened_to : Destination → Space → (name : List ℕ) → List TextPair → Page → Page
+opened_to destination space name attrs p = if is_full p then refused refusal.TooDeep p
+    else with_element (made destination space name attrs p.start) (settled p)
+
+abbrev pub opened_in : Space → (name : List ℕ) → List TextPair → Page → Page
+opened_in = opened_to Parent
+
+abbrev pub opened : (name : List ℕ) → List TextPair → Page → Page
 opened = opened_in Html
+
+-- the greatest number of attributes of an element
+abbrev pub most_attrs : ℕ
+most_attrs = 256
+
+-- gives the attributes of another tag to the element of HTML at that index, outermost first, if its
+-- name passes the test, but for those that it has; refuses the page if both have more than one
+-- element may have
+abbrev pub merged : (index : ℕ) (test : List ℕ → Bool) (others : List TextPair) → Page → Page
+merged index test others p =
+    if nat_lt most_attrs (attr_count_at index test (reverse p.stack) + length others)
+    then refused refusal.TooManyAttributes p
+    else record p { stack = reverse (with_attrs_at index test others (reverse p.stack)) }
 
 -- the formatting elements that were lost outside the nearest element that hides them
 abbrev pub behind_marker : List (Option (List ℕ)) → List (Option (List ℕ))
@@ -135,46 +171,56 @@ lost_with own (o ∷ os) lost = if is_of (of kind.Marker) o then behind_marker l
     else (if is_of (of kind.Formatting) o && not own then Some o.head.name ∷ lost else lost)
 
 -- closes the current node, whose text is already a child of it
-abbrev pub settled_closed : (own : Bool) → Page → Reads Page
-settled_closed own p = if is_at (of kind.Whole) p.stack && not own
-    then refused refusal.CrossedElement p
-    else Ok (record p { stack = without_current p.stack; lost = lost_with own p.stack p.lost })
+abbrev pub settled_closed : (own : Bool) → Page → Page
+settled_closed own p =
+    record (refused_if (is_at (of kind.Whole) p.stack && not own) refusal.CrossedElement p) {
+      stack = without_current p.stack;
+      lost = lost_with own p.stack p.lost;
+    }
 
-abbrev pub closed : (own : Bool) → Page → Reads Page
+abbrev pub closed : (own : Bool) → Page → Page
 closed own p = settled_closed own (settled p)
 
+-- appends an element without children, unless it is too deep
+abbrev pub added_to : Destination → Space → (name : List ℕ) → List TextPair → Page → Page
+added_to destination space name attrs p = if is_full p then refused refusal.TooDeep p
+    else closed true (with_element (made destination space name attrs p.start) (settled p))
+
 -- closes the current node while the condition holds, at most so many times
-abbrev pub closed_while : (goes_on : List OpenElement → Bool) → (at_most : ℕ) → Page → Reads Page
-closed_while goes_on zero p = Ok p
-closed_while goes_on (suc n) p = if goes_on p.stack then (closed false p) next closed_while goes_on n
-    else Ok p
+abbrev pub closed_while : (goes_on : List OpenElement → Bool) → (at_most : ℕ) → Page → Page
+closed_while goes_on zero p = p
+closed_while goes_on (suc n) p =
+    if goes_on p.stack then closed_while goes_on n (closed false p) else p
 
 -- closes the nearest element that is a goal, with everything in it
-abbrev pub closed_to_goal : (goal : OpenElement → Bool) → Page → Reads Page
-closed_to_goal goal p =
-    (closed_while (λ os. not (at goal os)) (length p.stack) p) next closed true
+abbrev pub closed_to_goal : (goal : OpenElement → Bool) → Page → Page
+closed_to_goal goal p = closed true (closed_while (λ os. not (at goal os)) (length p.stack) p)
 
-abbrev pub closed_to : (test : List ℕ → Bool) → Page → Reads Page
+abbrev pub closed_to : (test : List ℕ → Bool) → Page → Page
 closed_to test = closed_to_goal (is_of test)
 
 -- closes elements whose end tag is implied, except those with these names (13.2.6.3)
-abbrev pub implied_closed : (but : List ℕ → Bool) → Page → Reads Page
+abbrev pub implied_closed : (but : List ℕ → Bool) → Page → Page
 implied_closed but p =
     closed_while (is_at (λ n. of kind.Implied n && not (but n))) (length p.stack) p
 
 abbrev pub no_name : List ℕ → Bool
 no_name name = false
 
--- closes elements whose end tag is implied, and then the nearest element of HTML whose name passes
--- `test`; records an error unless the current node is then the named one
-abbrev pub closed_over : (named test but : List ℕ → Bool) → Page → Reads Page
-closed_over named test but p = (implied_closed but p) next (λ q. closed_to test
-    (noted_if (not (is_at named q.stack)) error.EndTagOverOpenElements q))
+-- closes the nearest element of HTML whose name passes `test`; records an error unless the current
+-- node is the named one
+abbrev pub closed_named : (named test : List ℕ → Bool) → Page → Page
+closed_named named test p =
+    closed_to test (noted_if (not (is_at named p.stack)) error.EndTagOverOpenElements p)
+
+-- closes elements whose end tag is implied, and then such an element
+abbrev pub closed_over : (named test but : List ℕ → Bool) → Page → Page
+closed_over named test but p = closed_named named test (implied_closed but p)
 
 -- closes such an element by its end tag, or records an error if it is not in scope
-abbrev pub closed_in : Scope → (named test but : List ℕ → Bool) → Page → Reads Page
+abbrev pub closed_in : Scope → (named test but : List ℕ → Bool) → Page → Page
 closed_in scope named test but p = if in_scope scope test p.stack then closed_over named test but p
-    else Ok (noted error.EndTagWithoutStart p)
+    else noted error.EndTagWithoutStart p
 
 -- whether a tag of another name closed a formatting element of that name, and no element hides it
 abbrev pub is_lost : (name : List ℕ) → List (Option (List ℕ)) → Bool
@@ -192,20 +238,21 @@ loses_some [] = false
 loses_some (None ∷ ls) = false
 loses_some (Some name ∷ ls) = true
 
--- refuses a page in which a formatting element would be made again here (13.2.4.3)
-abbrev pub reconstructed : Page → Reads Page
-reconstructed p = if loses_some p.lost then refused refusal.Reconstruction p else Ok p
+-- what is lost, without the formatting elements that no element hides
+abbrev pub forgotten : List (Option (List ℕ)) → List (Option (List ℕ))
+forgotten [] = []
+forgotten (None ∷ ls) = None ∷ ls
+forgotten (Some name ∷ ls) = forgotten ls
+
+-- refuses a page in which formatting elements would be made again here (13.2.4.3), and forgets them
+abbrev pub reconstructed : Page → Page
+reconstructed p = if loses_some p.lost
+    then refused refusal.Reconstruction (record p { lost = forgotten p.lost }) else p
 
 -- the result of a mode's rules for a token: they take it, or process it again
 pub data Turn : Type 0 where
   Taken : Page → Turn
   Again : Page → Token → Turn
 
-abbrev pub taken : Reads Page → Reads Turn
-taken r = r next (λ p. Ok (Taken p))
-
-abbrev pub again : Reads Page → Token → Reads Turn
-again r token = r next (λ p. Ok (Again p token))
-
-abbrev pub taken_with : PageError → Page → Reads Turn
-taken_with e p = Ok (Taken (noted e p))
+abbrev pub taken_with : PageError → Page → Turn
+taken_with e p = Taken (noted e p)

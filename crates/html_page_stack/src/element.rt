@@ -1,17 +1,18 @@
 //! An open element of a page.
 
-ghost use Rattle.std.specs.Prelude.{◌≡◌, IfOk};
-ghost use Rattle.html_dom_tree.specs.{Tree.{with_node}, Views.{element_view, node_view}};
+ghost use Rattle.std.specs.{List.{list_any}, Prelude.{◌≡◌, IfOk, OnOk}};
+ghost use Rattle.html_dom_tree.specs.{Tree.{with_node}, Views.{attrs_view, element_view, node_view, nodes_view}};
 ghost use Rattle.html_page_names.specs.Kinds.{IsKindsOf};
-ghost use Rattle.html_page_stack.specs.OpenCounts.{has_child_elements};
+ghost use Rattle.html_page_stack.specs.{OpenCounts.{has_child_elements}, OpenElements.{says_html, with_head_child, with_inner_child}};
 
 use crate::context::Context;
-use crate::modes::Space;
+use crate::modes::{Destination, Space};
 use crate::search::Target;
 use html_dom_tree::{HtmlAttrs, HtmlElement, HtmlNode, Span};
 use html_names_core::HtmlTag;
-use html_page_names::{Kind, Kinds, is_same_lowered};
+use html_page_names::{Kind, Kinds, is_encoding, is_html_encoding, is_same_lowered};
 use std::alloc::{AllocError, Global};
+use std::mem;
 
 /// The number of nodes from which a list is long.
 const LONG_LIST: usize = 1024;
@@ -34,6 +35,49 @@ fn with_node(mut element: HtmlElement, node: HtmlNode) -> Result<HtmlElement, Al
     Ok(element)
 }
 
+#[tactic(auto, using(html_dom_tree::proofs::Nodes::with_last_view))]
+fn add_child(element: &mut HtmlElement, child: HtmlNode) -> Result<(), AllocError>
+    ensures { OnOk result (element_view element.new
+        ≡ with_node (node_view child) (element_view element.old)) }
+{
+    element.children.push(child)?;
+    Ok(())
+}
+
+/// Appends a child to the node, if it is an element.
+fn add_to_node(parent: &mut HtmlNode, child: HtmlNode) -> Result<(), AllocError>
+    ensures { OnOk result (node_view parent.new
+        ≡ with_inner_child (node_view child) (node_view parent.old)) }
+{
+    match parent {
+        HtmlNode::Element(element) => add_child(element, child),
+        _ => Ok(()),
+    }
+}
+
+/// Appends a child to the first of the nodes, which is the head.
+fn add_to_head(nodes: &mut [HtmlNode], child: HtmlNode) -> Result<(), AllocError>
+    ensures { OnOk result (nodes_view nodes.new
+        ≡ with_head_child (node_view child) (nodes_view nodes.old)) }
+{
+    if let Some(head) = nodes.first_mut() {
+        add_to_node(head, child)?;
+    }
+    Ok(())
+}
+
+/// Returns whether the attributes say that an `annotation-xml` holds HTML.
+fn says_html(attrs: &HtmlAttrs) -> bool
+    ensures { result ≡ list_any says_html (attrs_view attrs.now) }
+{
+    for attr in &attrs.0 {
+        if is_encoding(&attr.0) && is_html_encoding(attr.1.as_str()) {
+            return true;
+        }
+    }
+    false
+}
+
 /// An open element of a page, with its children so far.
 #[derive(Drop)]
 pub struct PageElement {
@@ -41,6 +85,7 @@ pub struct PageElement {
     pub element: HtmlElement,
     /// Its namespace.
     pub space: Space,
+    pub(crate) destination: Destination,
     pub(crate) kinds: Kinds,
     /// Whether any of its children is an element.
     pub(crate) has_elements: bool,
@@ -52,14 +97,16 @@ pub struct PageElement {
 
 impl PageElement {
     ghost use Rattle.std.specs.Prelude.{bytes_eq};
-    ghost use Rattle.html_dom_tree.specs.{Tree.{none}, Views.{attrs_view, text_view}};
+    ghost use Rattle.html_dom_tree.specs.Views.{text_view};
     ghost use Rattle.html_page_names.specs.PageNames.{of};
-    ghost use Rattle.html_page_stack.specs.OpenElements.{completed, is_html, is_of, with_last_child, with_text, is_foreign_of};
-    ghost use Rattle.html_page_stack.specs.{PageViews.{element_of, target_test}, Pages.{page_head}};
+    ghost use Rattle.html_page_stack.specs.OpenElements.{holds_html_in, holds_tags, holds_text_in, is_foreign_of, is_html, is_of, placed, placed_in, with_attrs, with_text};
+    ghost use Rattle.html_dom_tree.specs.declared.node.HtmlNode.TheVariants.{Element};
+    ghost use Rattle.html_page_stack.specs.{Contexts.{known_part}, PageViews.{element_of, target_test}, Pages.{made}};
 
     /// Creates an element without children, whose token starts at that offset in bytes.
     pub(crate) fn new(
         alloc: Global,
+        destination: Destination,
         space: Space,
         tag: HtmlTag,
         kinds: Kinds,
@@ -67,17 +114,14 @@ impl PageElement {
         start: usize,
     ) -> PageElement
         requires { IsKindsOf tag kinds }
-        ensures { element_of result ≡ record {
-          head = page_head tag (attrs_view attrs) start;
-          space = space;
-          children = none;
-        } }
+        ensures { element_of result ≡ made destination space tag (attrs_view attrs) start }
     {
         let mut element = HtmlElement::new(alloc, tag).spanned(Span(start as u64));
         element.attrs = attrs;
         PageElement {
             element,
             space,
+            destination,
             kinds,
             has_elements: false,
             context: Context::OUTSIDE,
@@ -130,6 +174,43 @@ impl PageElement {
         !self.is_html() && is_same_lowered(self.element.tag.resolve(), tag.resolve())
     }
 
+    /// Returns whether its content is read as HTML: that of an element of HTML, or of an HTML
+    /// integration point (HTML Standard 13.2.4.2).
+    pub fn holds_html(&self) -> bool
+        ensures { let e = element_of self.now in result ≡ holds_html_in e.space e }
+    {
+        match self.space {
+            Space::Html => true,
+            Space::Svg => self.has_kind(Kind::SvgHtml),
+            Space::MathMl => self.has_kind(Kind::AnnotationXml) && says_html(&self.element.attrs),
+        }
+    }
+
+    /// Returns whether it is a MathML text integration point.
+    pub fn holds_text(&self) -> bool
+        ensures { let e = element_of self.now in result ≡ holds_text_in e.space e }
+    {
+        matches!(self.space, Space::MathMl) && self.has_kind(Kind::MathText)
+    }
+
+    /// Returns whether start tags in it are read as HTML, but for few.
+    pub fn holds_tags(&self) -> bool
+        ensures { result ≡ holds_tags (element_of self.now) }
+    {
+        self.holds_html() || self.holds_text()
+    }
+
+    /// Gives it those of the attributes that it lacks.
+    pub(crate) fn merge(&mut self, alloc: Global, others: HtmlAttrs) -> Result<(), AllocError>
+        ensures merged { OnOk result
+            (element_of self.new ≡ with_attrs (attrs_view others) (element_of self.old)) }
+        ensures known { known_part self.new ≡ known_part self.old }
+    {
+        let attrs = mem::replace(&mut self.element.attrs, HtmlAttrs::new(alloc));
+        self.element.attrs = attrs.fold(others)?;
+        Ok(())
+    }
+
     /// Appends a text with the span of the element, unless the text is empty.
     #[tactic(auto, using(crate::proofs::Children::text_counts))]
     pub(crate) fn with_text(self, text: String) -> Result<PageElement, AllocError>
@@ -143,6 +224,7 @@ impl PageElement {
         let PageElement {
             element,
             space,
+            destination,
             kinds,
             has_elements,
             context,
@@ -152,6 +234,7 @@ impl PageElement {
         Ok(PageElement {
             element,
             space,
+            destination,
             kinds,
             has_elements,
             context,
@@ -159,25 +242,64 @@ impl PageElement {
     }
 
     #[tactic(auto, using(crate::proofs::Children::element_counts))]
-    pub(crate) fn with_child(self, child: PageElement) -> Result<PageElement, AllocError>
+    fn with_last_child(self, child: HtmlElement) -> Result<PageElement, AllocError>
         ensures grown { IfOk result (λ grown. element_of grown
-            ≡ with_last_child (completed (element_of child)) (element_of self)) }
+            ≡ placed_in Destination.Parent (node_view (Element child)) (element_of self)) }
         ensures context { IfOk result (λ grown. grown.context ≡ self.context) }
     {
         let PageElement {
             element,
             space,
+            destination,
             kinds,
             context,
             ..
         } = self;
-        let element = with_node(element, HtmlNode::from(child.element))?;
+        let element = with_node(element, HtmlNode::from(child))?;
         Ok(PageElement {
             element,
             space,
+            destination,
             kinds,
             has_elements: true,
             context,
         })
+    }
+
+    #[tactic(auto, using(crate::proofs::Children::head_counts))]
+    fn with_head_child(self, child: HtmlElement) -> Result<PageElement, AllocError>
+        ensures grown { IfOk result (λ grown. element_of grown
+            ≡ placed_in Destination.Head (node_view (Element child)) (element_of self)) }
+        ensures context { IfOk result (λ grown. grown.context ≡ self.context) }
+    {
+        let PageElement {
+            mut element,
+            space,
+            destination,
+            kinds,
+            has_elements,
+            context,
+        } = self;
+        add_to_head(&mut element.children, HtmlNode::from(child))?;
+        Ok(PageElement {
+            element,
+            space,
+            destination,
+            kinds,
+            has_elements,
+            context,
+        })
+    }
+
+    /// Puts a complete element to its destination in this one.
+    pub(crate) fn with_child(self, child: PageElement) -> Result<PageElement, AllocError>
+        ensures grown { IfOk result (λ grown. element_of grown
+            ≡ placed (element_of child) (element_of self)) }
+        ensures context { IfOk result (λ grown. grown.context ≡ self.context) }
+    {
+        match child.destination {
+            Destination::Parent => self.with_last_child(child.element),
+            Destination::Head => self.with_head_child(child.element),
+        }
     }
 }

@@ -1,13 +1,17 @@
 //! Open elements, the innermost last.
 
-ghost use Rattle.std.specs.Prelude.{◌≡◌};
-ghost use Rattle.html_page_stack.specs.{Contexts.{own_mode, root_mode}, OpenElements.{at, html_mode, named_mode, reaches}};
+ghost use Rattle.std.specs.Prelude.{◌≡◌, OnOk, map};
+ghost use Rattle.html_dom_tree.specs.Views.{attrs_view};
+ghost use Rattle.html_page_names.specs.PageNames.{of};
+ghost use Rattle.html_page_stack.specs.{Contexts.{known_part, own_mode, root_mode}, OpenElements.{at, attr_count_at, html_mode, named_mode, reaches, with_attrs_at}};
 ghost use Rattle.html_page_stack.specs.PageViews.{bound_test, element_of, goal_test, list_of};
 
 use crate::element::PageElement;
 use crate::modes::Mode;
 use crate::search::{Bound, Goal, Target};
+use html_dom_tree::HtmlAttrs;
 use html_page_names::Kind;
+use std::alloc::{AllocError, Global};
 
 /// Returns whether a search from the last element on reaches the goal before the bound.
 pub(crate) fn reaches(elements: &[PageElement], goal: Goal<'_>, bound: Bound) -> bool
@@ -34,6 +38,45 @@ pub(crate) fn at(elements: &[PageElement], goal: Goal<'_>) -> bool
         None => false,
         Some(element) => goal.is(element),
     }
+}
+
+/// Returns the number of the attributes of the element at that index, if it is one of HTML of the
+/// kind.
+pub(crate) fn attr_count_at(elements: &[PageElement], index: usize, kind: Kind) -> usize
+    ensures { result ≡ attr_count_at index (of kind) (map element_of elements.now) }
+{
+    if elements.len() <= index {
+        return 0;
+    }
+    let element = &elements[index];
+    if element.is(kind) {
+        element.element.attrs.0.len()
+    } else {
+        0
+    }
+}
+
+/// Gives the element at that index those of the attributes that it lacks, if it is one of HTML of
+/// the kind.
+pub(crate) fn merge_at(
+    elements: &mut [PageElement],
+    alloc: Global,
+    index: usize,
+    kind: Kind,
+    others: HtmlAttrs,
+) -> Result<(), AllocError>
+    ensures merged { OnOk result (map element_of elements.new
+        ≡ with_attrs_at index (of kind) (attrs_view others) (map element_of elements.old)) }
+    ensures known { map known_part elements.new ≡ map known_part elements.old }
+{
+    if elements.len() <= index {
+        return Ok(());
+    }
+    let element = &mut elements[index];
+    if element.is(kind) {
+        element.merge(alloc, others)?;
+    }
+    Ok(())
 }
 
 /// Returns the mode that an element of HTML sets, given those around it.

@@ -59,6 +59,8 @@ pub enum PageError {
     SurrogateCharacterReference,
     #[error("unexpected-character-in-unquoted-attribute-value")]
     UnexpectedCharacterInUnquotedAttributeValue,
+    #[error("unexpected-null-character")]
+    UnexpectedNullCharacter,
     #[error("unexpected-question-mark-instead-of-tag-name")]
     UnexpectedQuestionMarkInsteadOfTagName,
     #[error("unexpected-solidus-in-tag")]
@@ -86,9 +88,18 @@ pub enum PageError {
     /// A start tag whose element can't stand there.
     #[error("a start tag that is ignored")]
     IgnoredStartTag,
-    /// A second `html`, `head` or `body`.
+    /// A second `html`, `head` or `body`, without attributes that count.
     #[error("a second html, head or body")]
     SecondStartTag,
+    /// An element of the head behind it, which is put into it.
+    #[error("an element of the head behind it")]
+    HeadReopened,
+    /// A tag that can't stand in `svg` or `math`, and closes them.
+    #[error("an element of HTML in svg or math")]
+    HtmlInForeign,
+    /// A second `html` or `body` with attributes, which the first gets if it lacks them.
+    #[error("attributes of a second html or body")]
+    MergedAttributes,
     /// An element is closed because another of its kind begins, such as an `a` in an `a`.
     #[error("an element within another of its kind")]
     NestedElement,

@@ -17,9 +17,9 @@ mod token;
 
 pub use element::PageElement;
 pub use error::PageError;
-pub use fault::{Halt, PageRefusal};
+pub use fault::PageRefusal;
 pub use lost::Lost;
-pub use modes::{Mode, Scope, Space, TableRule};
+pub use modes::{Destination, Mode, Scope, Space, TableRule};
 pub use notes::Notes;
 pub use page::Page;
 pub use search::{Bound, Goal, Target, While};

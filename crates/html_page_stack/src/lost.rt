@@ -1,7 +1,7 @@
 //! The formatting elements that a tag of another name closed.
 
 ghost use Rattle.std.specs.Prelude.{◌≡◌, ◌∷◌, [], OnOk, Some, None, reverse};
-ghost use Rattle.html_page_stack.specs.{LostNames.{IsLookup}, Pages.{behind_marker, is_lost, loses_some, without_lost}};
+ghost use Rattle.html_page_stack.specs.{LostNames.{IsLookup}, Pages.{behind_marker, forgotten, is_lost, loses_some, without_lost}};
 
 use html_names_core::HtmlTag;
 use std::alloc::{AllocError, Global};
@@ -63,6 +63,15 @@ impl Lost {
             if name.is_none() {
                 return;
             }
+        }
+    }
+
+    /// Removes those after the last element that hides others.
+    pub(crate) fn forget_all(&mut self)
+        ensures { reverse self.new.names.items ≡ forgotten (reverse self.old.names.items) }
+    {
+        while let Some(Some(_)) = self.names.last() {
+            let _ = self.names.pop();
         }
     }
 

@@ -8,6 +8,15 @@ pub enum Space {
     MathMl,
 }
 
+/// Where an element stands once it is complete.
+#[derive(Clone, Copy, Debug, PartialEq, Eq)]
+pub enum Destination {
+    /// In the open element around it.
+    Parent,
+    /// In the head, which is complete already.
+    Head,
+}
+
 /// The bounds of the elements that an end tag may close (HTML Standard 13.2.4.2).
 #[derive(Clone, Copy, Debug, PartialEq, Eq)]
 pub enum Scope {
@@ -42,5 +51,4 @@ pub enum TableRule {
     Unseen,
     ClosesP,
     KeepsP,
-    Unknown,
 }

@@ -1,18 +1,19 @@
 //! A page that is being read, and the steps that its tokens take.
 
-ghost use Rattle.std.specs.Prelude.{◌≡◌, chars, length};
+ghost use Rattle.std.specs.Prelude.{◌≡◌, ◌+◌, OnOk, chars, length, nat_lt};
 ghost use Rattle.html_dom_tree.specs.Views.{attrs_view};
 ghost use Rattle.html_page_names.specs.{Kinds.{IsKindsOf}, PageNames.{of}};
 ghost use Rattle.html_page_names.specs.declared.kind.Kind.TheVariants as kind;
-ghost use Rattle.html_page_stack.specs.{Endings.{Changes, Finishes, Steps}, OpenElements.{in_scope}};
+ghost use Rattle.html_page_stack.specs.{Endings.{Finishes}, OpenElements.{in_scope}};
 ghost use Rattle.html_page_stack.specs.PageViews.{element_of, goal_test, page_of, target_test, while_test};
 ghost use Rattle.html_page_stack.specs.Pages as pages;
+ghost use Rattle.html_page_stack.specs.Pages.{most_attrs};
 
 use crate::element::PageElement;
 use crate::error::PageError;
-use crate::fault::{Halt, PageRefusal};
+use crate::fault::PageRefusal;
 use crate::lost::Lost;
-use crate::modes::{Scope, Space, TableRule};
+use crate::modes::{Destination, Scope, Space, TableRule};
 use crate::notes::Notes;
 use crate::search::{Bound, Goal, Target, While};
 use crate::stack::Stack;
@@ -20,6 +21,16 @@ use html_dom_tree::{HtmlAttrs, HtmlElement, text};
 use html_names_core::HtmlTag;
 use html_page_names::{Kind, Kinds};
 use std::alloc::{AllocError, Global};
+
+/// The greatest number of attributes of an element.
+pub const MOST_ATTRS: usize = 256;
+
+/// Returns whether so many attributes and so many more are too many.
+fn is_over(count: usize, more: usize) -> bool
+    ensures { result ≡ nat_lt most_attrs (count + more) }
+{
+    MOST_ATTRS < count || MOST_ATTRS - count < more
+}
 
 /// A page that is being read.
 #[derive(Drop)]
@@ -39,6 +50,8 @@ pub struct Page {
     pub start: usize,
     /// The errors from which the reader recovered.
     pub notes: Notes,
+    /// The first reason why the page is refused, with the offset of its place in the text, in bytes.
+    pub refusal: Option<(PageRefusal, usize)>,
 }
 
 impl Page {
@@ -56,20 +69,40 @@ impl Page {
             limit,
             start: 0,
             notes: Notes::new(alloc),
+            refusal: None,
         }
     }
 
-    /// Returns the refusal of the page at the token.
-    pub fn refusal(&self, refusal: PageRefusal) -> Halt
-        ensures { result ≡ Halt.Refused refusal self.now.start }
+    /// Refuses the page for what stands at that offset in the text, in bytes, unless it is refused
+    /// already.
+    pub fn refuse_at(&mut self, refusal: PageRefusal, place: usize)
+        ensures { page_of self.new ≡ pages.refused_at refusal place (page_of self.old) }
+    {
+        if self.refusal.is_none() {
+            self.refusal = Some((refusal, place));
+        }
+    }
+
+    /// Refuses the page for the token, unless it is refused already.
+    pub fn refuse(&mut self, refusal: PageRefusal)
+        ensures { page_of self.new ≡ pages.refused refusal (page_of self.old) }
     {
         let place = self.start;
-        Halt::Refused { refusal, place }
+        self.refuse_at(refusal, place);
+    }
+
+    /// Refuses the page for the token, if it has to be refused and is not yet.
+    pub fn refuse_if(&mut self, is_refused: bool, refusal: PageRefusal)
+        ensures { page_of self.new ≡ pages.refused_if is_refused refusal (page_of self.old) }
+    {
+        if is_refused {
+            self.refuse(refusal);
+        }
     }
 
     /// Records an error at the token.
-    pub fn note(&mut self, error: PageError) -> Result<(), Halt>
-        ensures { Changes result (pages.noted error (page_of self.old)) (page_of self.new) }
+    pub fn note(&mut self, error: PageError) -> Result<(), AllocError>
+        ensures { OnOk result (page_of self.new ≡ pages.noted error (page_of self.old)) }
     {
         let place = self.start;
         self.notes.add(error, place)?;
@@ -77,33 +110,31 @@ impl Page {
     }
 
     /// Records an error at the token, if there is one.
-    pub fn note_if(&mut self, is_error: bool, error: PageError) -> Result<(), Halt>
-        ensures { Changes result (pages.noted_if is_error error (page_of self.old))
-            (page_of self.new) }
+    pub fn note_if(&mut self, is_error: bool, error: PageError) -> Result<(), AllocError>
+        ensures { OnOk result (page_of self.new ≡ pages.noted_if is_error error (page_of self.old)) }
     {
         if is_error { self.note(error) } else { Ok(()) }
     }
 
     /// Appends a character to the current node.
-    pub fn add_char(&mut self, c: char) -> Result<(), Halt>
-        ensures { Changes result (pages.with_char c (page_of self.old)) (page_of self.new) }
+    pub fn add_char(&mut self, c: char) -> Result<(), AllocError>
+        ensures { OnOk result (page_of self.new ≡ pages.with_char c (page_of self.old)) }
     {
         text::add(&mut self.text, c)?;
         Ok(())
     }
 
     /// Appends a text to the current node.
-    pub fn add_text(&mut self, text: &str) -> Result<(), Halt>
-        ensures { Changes result (pages.with_chars (chars text.now) (page_of self.old))
-            (page_of self.new) }
+    pub fn add_text(&mut self, text: &str) -> Result<(), AllocError>
+        ensures { OnOk result (page_of self.new ≡ pages.with_chars (chars text.now) (page_of self.old)) }
     {
         text::add_text(&mut self.text, text)?;
         Ok(())
     }
 
     /// Makes the text a child of the current node.
-    pub(crate) fn settle(&mut self) -> Result<(), Halt>
-        ensures { Changes result (pages.settled (page_of self.old)) (page_of self.new) }
+    pub(crate) fn settle(&mut self) -> Result<(), AllocError>
+        ensures { OnOk result (page_of self.new ≡ pages.settled (page_of self.old)) }
     {
         if self.text.as_str().is_empty() {
             return Ok(());
@@ -113,9 +144,8 @@ impl Page {
         Ok(())
     }
 
-    fn push(&mut self, element: PageElement) -> Result<(), Halt>
-        ensures { Changes result (pages.with_element (element_of element) (page_of self.old))
-            (page_of self.new) }
+    fn push(&mut self, element: PageElement) -> Result<(), AllocError>
+        ensures { OnOk result (page_of self.new ≡ pages.with_element (element_of element) (page_of self.old)) }
     {
         if element.is(Kind::Marker) {
             self.lost.push_marker()?;
@@ -124,30 +154,97 @@ impl Page {
         Ok(())
     }
 
-    /// Opens an element, unless it would be too deep (HTML Standard 13.2.6.1).
-    pub fn open_in(
+    /// Opens an element that is not too deep.
+    fn open_here(
         &mut self,
+        destination: Destination,
         space: Space,
         tag: HtmlTag,
         kinds: Kinds,
         attrs: HtmlAttrs,
-    ) -> Result<(), Halt>
+    ) -> Result<(), AllocError>
         requires { IsKindsOf tag kinds }
-        ensures { Steps result (pages.opened_in space tag (attrs_view attrs) (page_of self.old))
-            (page_of self.new) }
+        ensures { OnOk result (page_of self.new ≡ (let p = page_of self.old in pages.with_element
+            (pages.made destination space tag (attrs_view attrs) p.start) (pages.settled p))) }
     {
-        if self.limit <= self.stack.len() {
-            return Err(self.refusal(PageRefusal::TooDeep));
-        }
         self.settle()?;
-        let element = PageElement::new(self.alloc, space, tag, kinds, attrs, self.start);
-        self.push(element)
+        let start = self.start;
+        self.push(PageElement::new(self.alloc, destination, space, tag, kinds, attrs, start))
+    }
+
+    /// Returns whether an element in the current node would be too deep.
+    fn is_full(&self) -> bool
+        ensures { result ≡ pages.is_full (page_of self.now) }
+    {
+        self.limit <= self.stack.len()
+    }
+
+    /// Opens an element, unless it would be too deep: then the page is refused (HTML Standard
+    /// 13.2.6.1).
+    pub fn open_to(
+        &mut self,
+        destination: Destination,
+        space: Space,
+        tag: HtmlTag,
+        kinds: Kinds,
+        attrs: HtmlAttrs,
+    ) -> Result<(), AllocError>
+        requires { IsKindsOf tag kinds }
+        ensures { OnOk result (page_of self.new
+            ≡ pages.opened_to destination space tag (attrs_view attrs) (page_of self.old)) }
+    {
+        if self.is_full() {
+            self.refuse(PageRefusal::TooDeep);
+            return Ok(());
+        }
+        self.open_here(destination, space, tag, kinds, attrs)
+    }
+
+    /// Appends an element without children, unless it would be too deep: then the page is refused.
+    pub fn add_to(
+        &mut self,
+        destination: Destination,
+        space: Space,
+        tag: HtmlTag,
+        kinds: Kinds,
+        attrs: HtmlAttrs,
+    ) -> Result<(), AllocError>
+        requires { IsKindsOf tag kinds }
+        ensures { OnOk result (page_of self.new
+            ≡ pages.added_to destination space tag (attrs_view attrs) (page_of self.old)) }
+    {
+        if self.is_full() {
+            self.refuse(PageRefusal::TooDeep);
+            return Ok(());
+        }
+        self.open_here(destination, space, tag, kinds, attrs)?;
+        self.close(true)
+    }
+
+    /// Gives the attributes of another tag to the element of HTML at that index, outermost first, if
+    /// it is of the kind, but for those that it has. Refuses the page if both have more than one
+    /// element may have.
+    pub fn merge_at(
+        &mut self,
+        index: usize,
+        kind: Kind,
+        others: HtmlAttrs,
+    ) -> Result<(), AllocError>
+        ensures { OnOk result (page_of self.new
+            ≡ pages.merged index (of kind) (attrs_view others) (page_of self.old)) }
+    {
+        let count = self.stack.attr_count_at(index, kind);
+        if is_over(count, others.0.len()) {
+            self.refuse(PageRefusal::TooManyAttributes);
+            return Ok(());
+        }
+        self.stack.merge_at(self.alloc, index, kind, others)
     }
 
     /// Records what is lost when the current node is closed, by its own end tag or another.
-    fn lose_current(&mut self, own: bool) -> Result<(), Halt>
-        ensures { Changes result (let p = page_of self.old in
-            record p { lost = pages.lost_with own p.stack p.lost }) (page_of self.new) }
+    fn lose_current(&mut self, own: bool) -> Result<(), AllocError>
+        ensures { OnOk result (page_of self.new ≡ (let p = page_of self.old in
+            record p { lost = pages.lost_with own p.stack p.lost })) }
     {
         let Some(element) = self.stack.items.last() else {
             return Ok(());
@@ -162,13 +259,12 @@ impl Page {
     }
 
     /// Closes the current node, by its own end tag or another.
-    pub fn close(&mut self, own: bool) -> Result<(), Halt>
-        ensures { Steps result (pages.closed own (page_of self.old)) (page_of self.new) }
+    pub fn close(&mut self, own: bool) -> Result<(), AllocError>
+        ensures { OnOk result (page_of self.new ≡ pages.closed own (page_of self.old)) }
     {
         self.settle()?;
-        if self.stack.is_at(Kind::Whole) && !own {
-            return Err(self.refusal(PageRefusal::CrossedElement));
-        }
+        let is_crossed = self.stack.is_at(Kind::Whole) && !own;
+        self.refuse_if(is_crossed, PageRefusal::CrossedElement);
         self.lose_current(own)?;
         self.stack.close_current()?;
         Ok(())
@@ -176,10 +272,10 @@ impl Page {
 
     /// Closes the current node as long as the condition holds.
     #[tactic(auto, using(crate::proofs::Closing::while_once, crate::proofs::Closing::while_done))]
-    fn close_while(&mut self, goes_on: While<'_>) -> Result<(), Halt>
+    pub fn close_while(&mut self, goes_on: While<'_>) -> Result<(), AllocError>
         ensures { let p = page_of self.old in
-            Steps result (pages.closed_while (while_test goes_on.entry) (length p.stack) p)
-            (page_of self.new) }
+            OnOk result (page_of self.new
+            ≡ pages.closed_while (while_test goes_on.entry) (length p.stack) p) }
     {
         let most = self.stack.len();
         for count in 0..most {
@@ -192,45 +288,50 @@ impl Page {
     }
 
     /// Closes the nearest element that is the goal, with everything in it.
-    pub fn close_to_goal(&mut self, goal: Goal<'_>) -> Result<(), Halt>
-        ensures { Steps result (pages.closed_to_goal (goal_test goal.entry) (page_of self.old))
-            (page_of self.new) }
+    pub fn close_to_goal(&mut self, goal: Goal<'_>) -> Result<(), AllocError>
+        ensures { OnOk result (page_of self.new ≡ pages.closed_to_goal (goal_test goal.entry) (page_of self.old)) }
     {
         self.close_while(While::Above(goal))?;
         self.close(true)
     }
 
     /// Closes the nearest element of HTML that the target means, with everything in it.
-    pub fn close_to(&mut self, target: Target<'_>) -> Result<(), Halt>
-        ensures { Steps result (pages.closed_to (target_test target.entry) (page_of self.old))
-            (page_of self.new) }
+    pub fn close_to(&mut self, target: Target<'_>) -> Result<(), AllocError>
+        ensures { OnOk result (page_of self.new ≡ pages.closed_to (target_test target.entry) (page_of self.old)) }
     {
         self.close_to_goal(Goal::Of(target))
     }
 
     /// Closes elements whose end tag is implied, except those that `but` means (HTML Standard
     /// 13.2.6.3).
-    pub fn close_implied(&mut self, but: Target<'_>) -> Result<(), Halt>
-        ensures { Steps result (pages.implied_closed (target_test but.entry) (page_of self.old))
-            (page_of self.new) }
+    pub fn close_implied(&mut self, but: Target<'_>) -> Result<(), AllocError>
+        ensures { OnOk result (page_of self.new ≡ pages.implied_closed (target_test but.entry) (page_of self.old)) }
     {
         self.close_while(While::Implied(but))
     }
 
     /// Closes such an element, and records an error unless the current node is the named one.
+    pub fn close_named(&mut self, named: Target<'_>, target: Target<'_>) -> Result<(), AllocError>
+        ensures { OnOk result (page_of self.new ≡ pages.closed_named (target_test named.entry)
+            (target_test target.entry) (page_of self.old)) }
+    {
+        let is_error = !self.stack.is_target(named);
+        self.note_if(is_error, PageError::EndTagOverOpenElements)?;
+        self.close_to(target)
+    }
+
+    /// Closes elements whose end tag is implied, and then such an element.
     pub fn close_over(
         &mut self,
         named: Target<'_>,
         target: Target<'_>,
         but: Target<'_>,
-    ) -> Result<(), Halt>
-        ensures { Steps result (pages.closed_over (target_test named.entry) (target_test target.entry)
-            (target_test but.entry) (page_of self.old)) (page_of self.new) }
+    ) -> Result<(), AllocError>
+        ensures { OnOk result (page_of self.new ≡ pages.closed_over (target_test named.entry)
+            (target_test target.entry) (target_test but.entry) (page_of self.old)) }
     {
         self.close_implied(but)?;
-        let is_error = !self.stack.is_target(named);
-        self.note_if(is_error, PageError::EndTagOverOpenElements)?;
-        self.close_to(target)
+        self.close_named(named, target)
     }
 
     /// Returns whether such an element is in scope.
@@ -254,9 +355,9 @@ impl Page {
         named: Target<'_>,
         target: Target<'_>,
         but: Target<'_>,
-    ) -> Result<(), Halt>
-        ensures { Steps result (pages.closed_in scope (target_test named.entry) (target_test target.entry)
-            (target_test but.entry) (page_of self.old)) (page_of self.new) }
+    ) -> Result<(), AllocError>
+        ensures { OnOk result (page_of self.new ≡ pages.closed_in scope (target_test named.entry) (target_test target.entry)
+            (target_test but.entry) (page_of self.old)) }
     {
         if self.in_scope(scope, target) {
             self.close_over(named, target, but)
@@ -266,17 +367,17 @@ impl Page {
     }
 
     /// Refuses to make formatting elements again (HTML Standard 13.2.4.3), unless none is lost.
-    pub fn reconstruct(&self) -> Result<(), Halt>
-        ensures { Steps result (pages.reconstructed (page_of self.now)) (page_of self.now) }
+    pub fn reconstruct(&mut self)
+        ensures { page_of self.new ≡ pages.reconstructed (page_of self.old) }
     {
         if self.lost.loses_some() {
-            return Err(self.refusal(PageRefusal::Reconstruction));
+            self.lost.forget_all();
+            self.refuse(PageRefusal::Reconstruction);
         }
-        Ok(())
     }
 
     /// Returns the root with all its open elements complete, and the errors recovered from.
-    pub fn finish(mut self) -> Result<(Option<HtmlElement>, Notes), Halt>
+    pub fn finish(mut self) -> Result<(Option<HtmlElement>, Notes), AllocError>
         ensures { Finishes result (page_of self) }
     {
         self.settle()?;

@@ -27,6 +27,8 @@ pub enum Goal<'a> {
     Of(Target<'a>),
     /// An element of SVG or MathML with that name, in lowercase.
     Foreign(&'a HtmlTag),
+    /// An element in which start tags are read as HTML.
+    HoldsTags,
 }
 
 /// The condition under which elements are closed.
@@ -108,6 +110,7 @@ impl Goal<'_> {
         match self {
             Goal::Of(target) => element.is_target(target),
             Goal::Foreign(tag) => element.is_foreign_of(tag),
+            Goal::HoldsTags => element.holds_tags(),
         }
     }
 }

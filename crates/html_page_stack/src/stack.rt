@@ -5,10 +5,10 @@ ghost use Rattle.html_page_stack.specs.Contexts.{AreKnown, contexts_are_set};
 
 use crate::context::Context;
 use crate::element::PageElement;
-use crate::elements::{at, own_mode, reaches, root_mode};
+use crate::elements::{at, attr_count_at, merge_at, own_mode, reaches, root_mode};
 use crate::modes::{Mode, Scope, Space};
 use crate::search::{Bound, Goal, Target, While, bounds};
-use html_dom_tree::HtmlElement;
+use html_dom_tree::{HtmlAttrs, HtmlElement};
 use html_names_core::HtmlTag;
 use html_page_names::Kind;
 use std::alloc::{AllocError, Global};
@@ -22,12 +22,12 @@ pub struct Stack {
 }
 
 impl Stack {
-    ghost use Rattle.std.specs.Prelude.{◌≡◌, ◌∷◌, [], IfOk, OnOk, length, option_map};
-    ghost use Rattle.html_dom_tree.specs.Views.{element_view, text_view};
+    ghost use Rattle.std.specs.Prelude.{◌≡◌, ◌∷◌, [], IfOk, OnOk, length, option_map, reverse};
+    ghost use Rattle.html_dom_tree.specs.Views.{attrs_view, element_view, text_view};
     ghost use Rattle.html_page_names.specs.PageNames.{of};
     ghost use Rattle.html_page_names.specs.declared.kind.Kind.TheVariants as kind;
     ghost use Rattle.html_page_stack.specs.Contexts.{context};
-    ghost use Rattle.html_page_stack.specs.OpenElements.{at, current_name, in_scope, is_at, is_in_foreign, current_space, mode, reaches, root_of, with_last_text, without_current};
+    ghost use Rattle.html_page_stack.specs.OpenElements.{at, attr_count_at, with_attrs_at, current_name, in_scope, is_at, is_in_foreign, current_space, mode, reaches, root_of, with_last_text, without_current};
     ghost use Rattle.html_page_stack.specs.PageViews.{bound_test, element_of, goal_test, stack_of, target_test, while_test};
 
     /// Creates a stack without elements.
@@ -197,6 +197,29 @@ impl Stack {
             None => self.put(child),
             Some(parent) => self.put(parent.with_child(child)?),
         }
+    }
+
+    /// Returns the number of the attributes of the element at that index, if it is one of HTML of
+    /// the kind.
+    pub(crate) fn attr_count_at(&self, index: usize, kind: Kind) -> usize
+        ensures { result ≡ attr_count_at index (of kind) (reverse (stack_of self.now)) }
+    {
+        attr_count_at(&self.items, index, kind)
+    }
+
+    /// Gives the element at that index those of the attributes that it lacks, if it is one of HTML
+    /// of the kind.
+    pub(crate) fn merge_at(
+        &mut self,
+        alloc: Global,
+        index: usize,
+        kind: Kind,
+        others: HtmlAttrs,
+    ) -> Result<(), AllocError>
+        ensures { OnOk result (stack_of self.new ≡ reverse (with_attrs_at index (of kind)
+            (attrs_view others) (reverse (stack_of self.old)))) }
+    {
+        merge_at(&mut self.items, alloc, index, kind, others)
     }
 
     /// Returns the root, with all its open elements complete.

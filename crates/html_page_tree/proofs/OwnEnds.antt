@@ -1,19 +1,20 @@
 -- Where a page takes the end tag of the current node's name, the tag closes it.
-use Rattle.std.proofs.Common.{◌≡◌, arith, ℕ, Bool, true, false, not, ◌&&◌, ◌||◌, List, [], ◌∷◌, inl, inr, refl, sym, ap, subst, ◌∙◌, Ok, Err}
+use Rattle.std.proofs.Common.{◌≡◌, arith, ℕ, Bool, true, false, not, ◌&&◌, ◌||◌, List, [], ◌∷◌, inl, inr, refl, sym, ap, subst, ◌∙◌}
 use Rattle.std.proofs.lemmas.Bool.{and_from, and_parts, and_right, cases_Bool, false≢true, not-true, or_left, or_parts}
 use Rattle.std.proofs.lemmas.{Option.{none-some, same_Some}, Slice.Eq.{bytes_eq-Decides}}
 use Rattle.std.specs.Prelude.{Option, Some, None, codes, if◌then◌else◌}
 use Rattle.html_page_names.specs.PageNames.{is, of}
 use Rattle.html_page_names.specs.declared.kind.Kind.TheVariants as kind
 use Rattle.html_page_stack.specs.OpenElements.{OpenElement, bounds, current_name, in_scope, is_active, is_at, is_html, is_near, is_of, is_special, mode, reaches}
-use Rattle.html_page_stack.specs.Pages.{Page, Reads, Token, End, ◌next◌, closed, closed_in, closed_over, closed_to, implied_closed, is_lost, loses_some, no_name, noted, noted_if, opened, refused, taken, taken_with, without_lost}
+use Rattle.html_page_stack.specs.Pages.{Page, Token, End, Taken, added_to, closed, closed_in, closed_named, closed_over, closed_to, implied_closed, is_lost, loses_some, no_name, noted, noted_if, refused, taken_with, without_lost}
 use Rattle.html_page_stack.specs.declared.error.PageError.TheVariants as error
 use Rattle.html_page_stack.specs.declared.fault.PageRefusal.TheVariants as refusal
+use Rattle.html_page_stack.specs.declared.modes.{Destination.TheVariants.{Parent}, Space.TheVariants.{Html}}
 use Rattle.html_page_stack.specs.declared.modes.{Mode.{Mode}, Scope.{Scope}, Mode.TheVariants.{InBody, InTable, InSection, InRow, InCell}}
 use Rattle.html_page_stack.specs.declared.modes.Scope.TheVariants as scope
 use Rattle.html_page_tree.specs.OwnEnds.{closes_in, closes_in_body, closes_in_cell, is_of_table, takes_own_end}
 use Rattle.html_page_tree.specs.PageBodies.{adopted, element_ended, in_body_end, other_closed, p_closed, p_ended}
-use Rattle.html_page_tree.specs.PageTrees.{behind_turn, by_mode, in_cell, in_foreign, is_unseen, part_closed, processed, token_read, turn}
+use Rattle.html_page_tree.specs.PageTrees.{by_mode, in_cell, current_part_closed, in_foreign, is_unseen, part_closed, processed, token_read, turn}
 
 -- both branches are the same
 pub either : {A : Type 0} (b : Bool) (x y r : A) → (b ≡ true → x ≡ r) → (b ≡ false → y ≡ r) →
@@ -25,11 +26,6 @@ none_lost : (name : List ℕ) (ls : List (Option (List ℕ))) → loses_some ls 
 none_lost name [] h = refl
 none_lost name (None ∷ ls) h = refl
 none_lost name (Some n ∷ ls) h = absurd (false≢true (sym h))
-
-pub taken_behind : (f : Token → Page → Reads Page) (r : Reads Page) →
-    ((taken r) next behind_turn f) ≡ r
-taken_behind f (Ok p) = refl
-taken_behind f (Err e) = refl
 
 -- the current node, an element of HTML
 module _ (p : Page) (o : OpenElement) (os : List OpenElement) (html : is_html o.space ≡ true) where
@@ -46,7 +42,7 @@ module _ (p : Page) (o : OpenElement) (os : List OpenElement) (html : is_html o.
   but_named but h = and_right (of kind.Implied n) (not (but n)) (ap not h)
 
   pub none_implied : (but : List ℕ → Bool) → (of kind.Implied n && not (but n)) ≡ false →
-      implied_closed but q ≡ Ok q
+      implied_closed but q ≡ q
   none_implied but h = rw (html, h) refl
 
   pub closes : (test : List ℕ → Bool) → test n ≡ true → closed_to test q ≡ closed true q
@@ -60,18 +56,21 @@ module _ (p : Page) (o : OpenElement) (os : List OpenElement) (html : is_html o.
       reaches (is_of test) bound q.stack ≡ true
   reached test bound h = or_left (is_of test o) _ (at_name test h)
 
+  pub named_closed : (name test : List ℕ → Bool) → name n ≡ true → test n ≡ true →
+      closed_named name test q ≡ closed true q
+  named_closed name test g h =
+      ap (λ b. closed_to test (noted_if (not b) error.EndTagOverOpenElements q)) (at_name name g)
+      ∙ closes test h
+
   pub over : (name test but : List ℕ → Bool) → name n ≡ true → test n ≡ true →
       (of kind.Implied n && not (but n)) ≡ false → closed_over name test but q ≡ closed true q
   over name test but g h k =
-      ap (λ x. x next (λ r. closed_to test (noted_if (not (is_at name r.stack)) error.EndTagOverOpenElements r)))
-      (none_implied but k)
-      ∙ (ap (λ b. closed_to test (noted_if (not b) error.EndTagOverOpenElements q)) (at_name name g)
-      ∙ closes test h)
+      ap (closed_named name test) (none_implied but k) ∙ named_closed name test g h
 
   pub within : (s : Scope) (test but : List ℕ → Bool) → test n ≡ true →
       (of kind.Implied n && not (but n)) ≡ false → closed_in s (is n) test but q ≡ closed true q
   within s test but h k =
-      ap (λ b. if b then closed_over (is n) test but q else Ok (noted error.EndTagWithoutStart q))
+      ap (λ b. if b then closed_over (is n) test but q else noted error.EndTagWithoutStart q)
       (reached test (bounds s) h)
       ∙ over (is n) test but named h k
 
@@ -79,21 +78,15 @@ module _ (p : Page) (o : OpenElement) (os : List OpenElement) (html : is_html o.
   end_p h =
       let scoped = reached (of kind.P) (bounds scope.Button) h in
       ap (λ b. if b then p_closed q
-      else ((opened (codes "p") [] (noted error.EndTagWithoutStart q)) next closed true)) scoped
-      ∙ (ap (λ b. if b then closed_over (of kind.P) (of kind.P) (of kind.P) q else Ok q) scoped
+      else added_to Parent Html (codes "p") [] (noted error.EndTagWithoutStart q)) scoped
+      ∙ (ap (λ b. if b then closed_over (of kind.P) (of kind.P) (of kind.P) q else q) scoped
       ∙ over (of kind.P) (of kind.P) (of kind.P) h h (but_named (of kind.P) h))
 
   pub end_other : other_closed n q ≡ closed true q
   end_other =
-      ap (λ b. if b then closed_over (is n) (is n) (is n) q else Ok (noted error.EndTagWithoutStart q))
+      ap (λ b. if b then closed_over (is n) (is n) (is n) q else noted error.EndTagWithoutStart q)
       (reached (is n) is_special named)
       ∙ over (is n) (is n) (is n) named named (but_named (is n) named)
-
-  closed_last : closed_to (is n) (noted_if (not (is_at (is n) q.stack)) error.EndTagOverOpenElements q)
-      ≡ closed true q
-  closed_last =
-      ap (λ b. closed_to (is n) (noted_if (not b) error.EndTagOverOpenElements q)) (at_name (is n) named)
-      ∙ closes (is n) named
 
   pub end_formatting : loses_some p.lost ≡ false → adopted n q ≡ closed true q
   end_formatting l = adopted_by (is_lost n q.lost) (is_active (is n) q.stack)
@@ -102,13 +95,13 @@ module _ (p : Page) (o : OpenElement) (os : List OpenElement) (html : is_html o.
       (reached (is n) is_special named) where
         adopted_by : (lost active scoped near : Bool) → lost ≡ false → active ≡ true → scoped ≡ true →
             near ≡ true →
-            (if lost then Ok (noted error.EndTagOfClosedElement (record q { lost = without_lost n q.lost }))
+            (if lost then noted error.EndTagOfClosedElement (record q { lost = without_lost n q.lost })
             else (if not active then other_closed n q
-            else (if not scoped then Ok (noted error.EndTagWithoutStart q)
+            else (if not scoped then noted error.EndTagWithoutStart q
             else (if not near then refused refusal.AdoptionAgency q
-            else closed_to (is n)
-            (noted_if (not (is_at (is n) q.stack)) error.EndTagOverOpenElements q))))) ≡ closed true q
-        adopted_by lost active scoped near a b c d = rw (a, b, c, d) closed_last
+            else closed_named (is n) (is n) q)))) ≡ closed true q
+        adopted_by lost active scoped near a b c d =
+            rw (a, b, c, d) (named_closed (is n) (is n) named named)
 
   end_element : closes_in_body n ≡ true → loses_some p.lost ≡ false →
       element_ended n q ≡ closed true q
@@ -129,32 +122,30 @@ module _ (p : Page) (o : OpenElement) (os : List OpenElement) (html : is_html o.
       (λ h. end_formatting l) (λ f. end_other)))))))
 
   end_in_body : closes_in_body n ≡ true → loses_some p.lost ≡ false →
-      in_body_end n q ≡ taken (closed true q)
+      in_body_end n q ≡ Taken (closed true q)
   end_in_body h l =
       let root : of kind.Root n ≡ false = grind arith in
       let br : of kind.Br n ≡ false = grind arith in
-      rw (root, br) (ap taken (end_element h l))
+      rw (root, br) (ap Taken (end_element h l))
 
-  pub none_implied_at_all : of kind.Implied n ≡ false → implied_closed no_name q ≡ Ok q
+  pub none_implied_at_all : of kind.Implied n ≡ false → implied_closed no_name q ≡ q
   none_implied_at_all h = none_implied no_name (ap (λ b. b && true) h)
 
   part_ended : of kind.Cell n ≡ true → of kind.Implied n ≡ false →
       part_closed (of kind.Cell) q ≡ closed true q
   part_ended cell implied =
-      ap (λ x. x next (λ r. closed_to (of kind.Cell)
-      (noted_if (not (is_at (of kind.Cell) r.stack)) error.CellOverOpenElements r)))
-      (none_implied_at_all implied)
+      ap (current_part_closed (of kind.Cell)) (none_implied_at_all implied)
       ∙ (ap (λ b. closed_to (of kind.Cell) (noted_if (not b) error.CellOverOpenElements q))
       (at_name (of kind.Cell) cell)
       ∙ closes (of kind.Cell) cell)
 
   end_in_cell : closes_in_cell n ≡ true → loses_some p.lost ≡ false →
-      in_cell (End n) q ≡ taken (closed true q)
+      in_cell (End n) q ≡ Taken (closed true q)
   end_in_cell h l = elim (cases_Bool (of kind.Cell n)) [
     | inl cell ↦
         let implied = not-true (of kind.Implied n) (rw cell at h) in
         let scoped = reached (is n) (bounds scope.Table) named in
-        rw (cell, scoped) (ap taken (part_ended cell implied))
+        rw (cell, scoped) (ap Taken (part_ended cell implied))
     | inr other ↦
         let both = and_parts (not (is_of_table n)) (closes_in_body n) (rw other at h) in
         let parts = or_parts (of kind.Section n) _ (not-true _ both.0) in
@@ -168,13 +159,13 @@ module _ (p : Page) (o : OpenElement) (os : List OpenElement) (html : is_html o.
   ]
 
   end_in_mode : (m : Mode) → closes_in m n ≡ true → loses_some p.lost ≡ false →
-      by_mode m (End n) q ≡ taken (closed true q)
+      by_mode m (End n) q ≡ Taken (closed true q)
   end_in_mode InBody h l = end_in_body h l
   end_in_mode InCell h l = end_in_cell h l
   end_in_mode InRow h l = rw h refl
   end_in_mode InSection h l = rw (h, html, named) refl
-  end_in_mode InTable h l = either (of kind.Table n) _ _ (taken (closed true q))
-      (λ k. ap taken (closes (of kind.Table) k)) (λ k. absurd (false≢true (sym k ∙ h)))
+  end_in_mode InTable h l = either (of kind.Table n) _ _ (Taken (closed true q))
+      (λ k. ap Taken (closes (of kind.Table) k)) (λ k. absurd (false≢true (sym k ∙ h)))
   end_in_mode _ h l = absurd (false≢true h)
 
   end_taken : takes_own_end q ≡ true → token_read (End n) q ≡ closed true q
@@ -183,10 +174,10 @@ module _ (p : Page) (o : OpenElement) (os : List OpenElement) (html : is_html o.
       let seen = and_parts (not (is_unseen p.tables)) _ h in
       let kept = and_parts (not (loses_some p.lost)) _ seen.1 in
       let closes_itself = (and_parts (is_html o.space) _ kept.1).1 in
-      let turned : turn (End n) q ≡ taken (closed true q) =
+      let turned : turn (End n) q ≡ Taken (closed true q) =
       ap (λ b. if not b then in_foreign (End n) q else by_mode (mode q.stack) (End n) q) html
       ∙ end_in_mode (mode q.stack) closes_itself (not-true _ kept.0) in
-      rw (seen.0, turned) (taken_behind (processed 7) (closed true q))
+      rw (seen.0, turned) refl
 
 is_html_at : (o : OpenElement) (os : List OpenElement) (p : Page) →
     takes_own_end (record p { stack = o ∷ os }) ≡ true → is_html o.space ≡ true

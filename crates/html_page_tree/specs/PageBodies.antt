@@ -1,16 +1,18 @@
 -- The steps of a token in a body (HTML Standard 13.2.6.4.7), and before it (13.2.6.4.2 to
 -- 13.2.6.4.6).
-use Rattle.std.specs.Prelude.{ℕ, Bool, true, false, not, ◌&&◌, ◌||◌, ◌==◌, List, [], length, if◌then◌else◌, codes, map, Ok}
+use Rattle.std.specs.Prelude.{ℕ, Bool, true, false, not, ◌&&◌, ◌||◌, ◌==◌, List, [], length, if◌then◌else◌, codes, map}
 use Rattle.html_dom_tree.specs.Tree.{TextPair}
 use Rattle.html_page_names.specs.{ForeignNames.{svg_names, svg_attrs, math_attrs, with_capitals}, PageNames.{is, of}}
 use Rattle.html_page_stack.specs.OpenElements.{is_at, has, in_scope, is_near, is_active, has_item}
-use Rattle.html_page_stack.specs.Pages.{Page, StartTag, Token, Char, Start, End, Finish, Reads, ◌next◌, refused, noted, noted_if, with_char, opened, opened_in, closed, closed_to, implied_closed, no_name, closed_over, closed_in, is_lost, without_lost, reconstructed, Turn, Taken, Again, taken, again, taken_with}
+use Rattle.html_page_stack.specs.Pages.{Page, StartTag, Token, Char, Start, End, Finish, merged, refused, refused_if, noted, noted_if, with_char, added_to, opened, opened_in, opened_to, closed, closed_named, closed_to, implied_closed, no_name, closed_over, closed_in, is_lost, without_lost, reconstructed, Turn, Taken, Again, taken_with}
 use Rattle.html_page_stack.specs.declared.error.PageError.TheVariants as error
 use Rattle.html_page_stack.specs.declared.fault.PageRefusal.TheVariants as refusal
 use Rattle.html_page_names.specs.declared.kind.Kind.{Kind}
 use Rattle.html_page_names.specs.declared.kind.Kind.TheVariants as kind
 use Rattle.html_page_stack.specs.declared.modes.Scope.TheVariants as scope
 use Rattle.html_page_stack.specs.declared.modes.{Space.{Space}, TableRule.{TableRule}, Space.TheVariants.{Html, Svg, MathMl}}
+use Rattle.html_page_stack.specs.declared.modes.Destination.{Destination}
+use Rattle.html_page_stack.specs.declared.modes.Destination.TheVariants as to
 use Rattle.html_page_stack.specs.declared.modes.TableRule.TheVariants as rule
 
 -- whether it is a tab, LF, FF, CR or space; a CR comes only from a reference
@@ -18,17 +20,24 @@ abbrev pub is_space : ℕ → Bool
 is_space c = (c == 9) || (c == 10) || (c == 12) || (c == 13) || (c == 32)
 
 -- appends an element without content
-abbrev pub leaf : StartTag → Page → Reads Page
-leaf tag p = (opened tag.name tag.attrs p) next closed true
+abbrev pub leaf : StartTag → Page → Page
+leaf tag p = added_to to.Parent Html tag.name tag.attrs p
 
--- handles a second `html` or `body`, whose attributes would be added to those of the first
-abbrev pub repeated : StartTag → Page → Reads Page
-repeated tag p = if length tag.attrs == 0 then Ok (noted error.SecondStartTag p)
-    else refused refusal.MergedAttributes p
+-- gives the attributes of a second `html` or `body` to the first: `html` is the outermost of the
+-- open elements, and `body` the second, if it is open (13.2.6.4.7)
+abbrev pub merged_again : StartTag → Page → Page
+merged_again tag p = if of kind.Body tag.name then merged 1 (of kind.Body) tag.attrs p
+    else merged 0 (of kind.Html) tag.attrs p
 
-abbrev pub head_element : StartTag → Page → Reads Page
-head_element tag p =
-    if of kind.HeadLeaf tag.name then leaf tag p else opened tag.name tag.attrs p
+-- handles a second `html` or `body`
+abbrev pub repeated : StartTag → Page → Page
+repeated tag p = if length tag.attrs == 0 then noted error.SecondStartTag p
+    else merged_again tag (noted error.MergedAttributes p)
+
+abbrev pub head_element : Destination → StartTag → Page → Page
+head_element destination tag p =
+    if of kind.HeadLeaf tag.name then added_to destination Html tag.name tag.attrs p
+    else opened_to destination Html tag.name tag.attrs p
 
 -- the name of an element of SVG or MathML, with its capitals (13.2.6.5)
 abbrev pub foreign_name : Space → List ℕ → List ℕ
@@ -43,150 +52,151 @@ foreign_attr MathMl attr = with_capitals math_attrs attr
 abbrev pub foreign_attrs : Space → List TextPair → List TextPair
 foreign_attrs space = map (λ a. (foreign_attr space a.0, a.1))
 
-abbrev pub entered : Space → StartTag → Page → Reads Page
-entered space tag p =
-    (opened_in space (foreign_name space tag.name) (foreign_attrs space tag.attrs) p)
-    next (λ q. if tag.closed then closed true q else Ok q)
+abbrev pub entered : Space → StartTag → Page → Page
+entered space tag p = let name = foreign_name space tag.name in
+    let attrs = foreign_attrs space tag.attrs in
+    if tag.closed then added_to to.Parent space name attrs p else opened_in space name attrs p
 
 -- handles any other end tag
-abbrev pub other_closed : (name : List ℕ) → Page → Reads Page
+abbrev pub other_closed : (name : List ℕ) → Page → Page
 other_closed name p = if is_near (is name) p.stack then closed_over (is name) (is name) (is name) p
-    else Ok (noted error.EndTagWithoutStart p)
+    else noted error.EndTagWithoutStart p
 
 -- runs the adoption agency algorithm, as long as nothing moves (13.2.6.4.7)
-abbrev pub adopted : (name : List ℕ) → Page → Reads Page
+abbrev pub adopted : (name : List ℕ) → Page → Page
 adopted name p = if is_lost name p.lost
-    then Ok (noted error.EndTagOfClosedElement (record p { lost = without_lost name p.lost }))
+    then noted error.EndTagOfClosedElement (record p { lost = without_lost name p.lost })
     else (if not (is_active (is name) p.stack) then other_closed name p
     else (if not (in_scope scope.General (is name) p.stack)
-    then Ok (noted error.EndTagWithoutStart p)
+    then noted error.EndTagWithoutStart p
     else (if not (is_near (is name) p.stack) then refused refusal.AdoptionAgency p
-    else closed_to (is name)
-    (noted_if (not (is_at (is name) p.stack)) error.EndTagOverOpenElements p))))
+    else closed_named (is name) (is name) p)))
 
 -- closes an element of that name before the next, and records an error
-abbrev pub nested_closed : (name : List ℕ) → Page → Reads Page
+abbrev pub nested_closed : (name : List ℕ) → Page → Page
 nested_closed name p = if in_scope scope.General (is name) p.stack
-    then (implied_closed no_name (noted error.NestedElement p)) next closed_to (is name) else Ok p
+    then closed_to (is name) (implied_closed no_name (noted error.NestedElement p)) else p
 
-abbrev pub select_closed : Page → Reads Page
+abbrev pub select_closed : Page → Page
 select_closed p = if in_scope scope.General (of kind.Select) p.stack
-    then closed_to (of kind.Select) (noted error.NestedElement p) else Ok p
+    then closed_to (of kind.Select) (noted error.NestedElement p) else p
 
 -- refuses an `a` that is still open, and would be removed
-abbrev pub anchor_left : Page → Reads Page
-anchor_left p = if is_active (of kind.A) p.stack then refused refusal.OpenAnchorRemoved p
-    else Ok p
+abbrev pub anchor_left : Page → Page
+anchor_left p = refused_if (is_active (of kind.A) p.stack) refusal.OpenAnchorRemoved p
 
-abbrev pub anchor_closed : (name : List ℕ) → Page → Reads Page
+abbrev pub anchor_closed : (name : List ℕ) → Page → Page
 anchor_closed name p = if is_active (of kind.A) p.stack || is_lost name p.lost
-    then (adopted name (noted error.NestedElement p)) next anchor_left
-    else Ok p
+    then anchor_left (adopted name (noted error.NestedElement p)) else p
 
-abbrev pub p_closed : Page → Reads Page
+abbrev pub p_closed : Page → Page
 p_closed p = if in_scope scope.Button (of kind.P) p.stack
-    then closed_over (of kind.P) (of kind.P) (of kind.P) p else Ok p
+    then closed_over (of kind.P) (of kind.P) (of kind.P) p else p
 
 -- closes a list item before the next, and a term or a description before the next of either
-abbrev pub item_closed : (kind : Kind) → Page → Reads Page
+abbrev pub item_closed : (kind : Kind) → Page → Page
 item_closed kind p = if has_item (of kind) p.stack
-    then (implied_closed (of kind) p) next closed_to (of kind) else Ok p
+    then closed_to (of kind) (implied_closed (of kind) p) else p
 
-abbrev pub heading_closed : Page → Reads Page
+abbrev pub heading_closed : Page → Page
 heading_closed p = if is_at (of kind.Heading) p.stack
-    then closed false (noted error.NestedElement p) else Ok p
+    then closed false (noted error.NestedElement p) else p
 
 -- closes options before the next, and before a rule
-abbrev pub option_closed : (name : List ℕ) → Page → Reads Page
+abbrev pub option_closed : (name : List ℕ) → Page → Page
 option_closed name p = if in_scope scope.General (of kind.Select) p.stack
     then (if of kind.Option name then implied_closed (of kind.Optgroup) p
     else implied_closed no_name p)
-    else (if not (of kind.Hr name) && is_at (of kind.Option) p.stack then closed false p
-    else Ok p)
+    else (if not (of kind.Hr name) && is_at (of kind.Option) p.stack then closed false p else p)
 
 -- closes parts of a ruby annotation before the next
-abbrev pub ruby_closed : (name : List ℕ) → Page → Reads Page
+abbrev pub ruby_closed : (name : List ℕ) → Page → Page
 ruby_closed name p = if in_scope scope.General (of kind.Ruby) p.stack
     then (if of kind.RubyText name then implied_closed (of kind.Rtc) p
     else implied_closed no_name p)
-    else Ok p
+    else p
 
 -- closes a `p` before a table, except in quirks mode
-abbrev pub p_closed_by_table : TableRule → Page → Reads Page
-p_closed_by_table rule.KeepsP p = Ok p
+abbrev pub p_closed_by_table : TableRule → Page → Page
 p_closed_by_table rule.ClosesP p = p_closed p
-p_closed_by_table rule p = refused refusal.DocumentType p
+p_closed_by_table rule p = p
 
-abbrev pub table_closes : Page → Reads Page
-table_closes p = if in_scope scope.Button (of kind.P) p.stack
-    then p_closed_by_table p.tables p else Ok p
+abbrev pub table_closes : Page → Page
+table_closes p = p_closed_by_table p.tables p
 
 -- closes what the start tag of a block closes before it
-abbrev pub closed_before_block : (name : List ℕ) → Page → Reads Page
+abbrev pub closed_before_block : (name : List ℕ) → Page → Page
 closed_before_block name p =
-    if of kind.ListItem name then (item_closed kind.ListItem p) next p_closed
-    else (if of kind.DescriptionPart name then (item_closed kind.DescriptionPart p) next p_closed
-    else (if of kind.Heading name then (p_closed p) next heading_closed
-    else (if of kind.ClosesP name then p_closed p else Ok p)))
+    if of kind.ListItem name then p_closed (item_closed kind.ListItem p)
+    else (if of kind.DescriptionPart name then p_closed (item_closed kind.DescriptionPart p)
+    else (if of kind.Heading name then heading_closed (p_closed p)
+    else (if of kind.ClosesP name then p_closed p else p)))
 
 -- closes what a start tag closes before its element
-abbrev pub closed_before : (name : List ℕ) → Page → Reads Page
+abbrev pub closed_before : (name : List ℕ) → Page → Page
 closed_before name p = if of kind.A name then anchor_closed name p
     else (if of kind.Button name then nested_closed name p
     else (if of kind.Input name then select_closed p
     else (if of kind.Table name then table_closes p
     else (if of kind.Option name || of kind.Optgroup name then option_closed name p
-    else (if of kind.Hr name then (p_closed p) next option_closed name
+    else (if of kind.Hr name then option_closed name (p_closed p)
     else (if of kind.RubyPart name then ruby_closed name p
     else closed_before_block name p))))))
 
--- handles the formatting elements around an element, before it opens
-abbrev pub formatted : (name : List ℕ) → Page → Reads Page
-formatted name p = if of kind.Unformatted name then Ok p else (reconstructed p) next (λ q.
-    if of kind.Nobr name && in_scope scope.General (is name) q.stack
-    then (adopted name (noted error.NestedElement q)) next reconstructed else Ok q)
+-- closes a `nobr` before the next
+abbrev pub nobr_closed : (name : List ℕ) → Page → Page
+nobr_closed name p = if of kind.Nobr name && in_scope scope.General (is name) p.stack
+    then reconstructed (adopted name (noted error.NestedElement p)) else p
 
-abbrev pub inserted : StartTag → Page → Reads Page
+-- handles the formatting elements around an element, before it opens
+abbrev pub formatted : (name : List ℕ) → Page → Page
+formatted name p =
+    if of kind.Unformatted name then p else nobr_closed name (reconstructed p)
+
+abbrev pub inserted : StartTag → Page → Page
 inserted tag p = if of kind.Leaf tag.name then leaf tag p
     else (if of kind.Svg tag.name then entered Svg tag p
     else (if of kind.Math tag.name then entered MathMl tag p
     else opened tag.name tag.attrs p))
 
-abbrev pub element_begun : StartTag → Page → Reads Page
-element_begun tag p =
-    (closed_before tag.name p) next (λ q. (formatted tag.name q) next inserted tag)
+abbrev pub element_begun : StartTag → Page → Page
+element_begun tag p = inserted tag (formatted tag.name (closed_before tag.name p))
 
 -- whether the start tag is ignored: that of a form in a form
 abbrev pub is_nested : (name : List ℕ) → Page → Bool
 is_nested name p = of kind.Form name && has (is name) p.stack
 
-abbrev pub in_body_start : StartTag → Page → Reads Turn
+abbrev pub in_body_start : StartTag → Page → Turn
 in_body_start tag p = let name = tag.name in
-    if of kind.Root name then taken (repeated tag p)
-    else (if of kind.HeadContent name then taken (head_element tag p)
-    else (if of kind.Unread name then refused refusal.UnreadElement p
+    if of kind.Root name then Taken (repeated tag p)
+    else (if of kind.HeadContent name then Taken (head_element to.Parent tag p)
+    else (if of kind.Unread name then Taken (refused refusal.UnreadElement p)
     else (if of kind.Misplaced name
     then taken_with error.IgnoredStartTag p
     else (if of kind.Image name
-    then Ok (Again (noted error.ImageTag p) (Start (record tag { name = codes "img" })))
+    then Again (noted error.ImageTag p) (Start (record tag { name = codes "img" }))
     else (if is_nested name p then taken_with error.NestedElement p
     else (if of kind.Select name && in_scope scope.General (of kind.Select) p.stack
-    then taken (select_closed p)
-    else taken (element_begun tag p)))))))
+    then Taken (select_closed p)
+    else Taken (element_begun tag p)))))))
 
-abbrev pub form_closed : Page → Reads Page
-form_closed p = if not (has (of kind.Form) p.stack) then Ok (noted error.EndTagWithoutStart p)
-    else ((if in_scope scope.General (of kind.Form) p.stack then implied_closed no_name p
-    else Ok p) next (λ q. if is_at (of kind.Form) q.stack then closed true q
-    else refused refusal.CrossedElement q))
+-- closes a `form` that is the current node
+abbrev pub current_form_closed : Page → Page
+current_form_closed p = if is_at (of kind.Form) p.stack then closed true p
+    else refused refusal.CrossedElement p
+
+abbrev pub form_closed : Page → Page
+form_closed p = if not (has (of kind.Form) p.stack) then noted error.EndTagWithoutStart p
+    else current_form_closed
+    (if in_scope scope.General (of kind.Form) p.stack then implied_closed no_name p else p)
 
 -- handles a `</p>`, which makes an empty `p` if there is none
-abbrev pub p_ended : Page → Reads Page
+abbrev pub p_ended : Page → Page
 p_ended p = if in_scope scope.Button (of kind.P) p.stack then p_closed p
-    else ((opened (codes "p") [] (noted error.EndTagWithoutStart p)) next closed true)
+    else added_to to.Parent Html (codes "p") [] (noted error.EndTagWithoutStart p)
 
 -- handles an end tag that closes an element
-abbrev pub element_ended : (name : List ℕ) → Page → Reads Page
+abbrev pub element_ended : (name : List ℕ) → Page → Page
 element_ended name p = if of kind.Form name then form_closed p
     else (if of kind.P name then p_ended p
     else (if of kind.ListItem name then closed_in scope.ListItem (is name) (is name) (is name) p
@@ -199,77 +209,85 @@ element_ended name p = if of kind.Form name then form_closed p
     else (if of kind.Formatting name then adopted name p
     else other_closed name p))))))
 
-abbrev pub in_body_end : (name : List ℕ) → Page → Reads Turn
-in_body_end name p = if of kind.Root name then Ok (Taken p)
-    else (if of kind.Br name then Ok (Again (noted error.EndTagBr p)
-    (Start (record { name = name; attrs = []; closed = false })))
-    else taken (element_ended name p))
+abbrev pub in_body_end : (name : List ℕ) → Page → Turn
+in_body_end name p = if of kind.Root name then Taken p
+    else (if of kind.Br name then Again (noted error.EndTagBr p)
+    (Start (record { name = name; attrs = []; closed = false }))
+    else Taken (element_ended name p))
 
-abbrev pub in_body : Token → Page → Reads Turn
-in_body (Char c) p = (reconstructed p) next (λ q. Ok (Taken (with_char c q)))
+-- handles a character in a body, where U+0000 is dropped
+abbrev pub char_in_body : ℕ → Page → Page
+char_in_body c p = if c == 0 then p else with_char c (reconstructed p)
+
+abbrev pub in_body : Token → Page → Turn
+in_body (Char c) p = Taken (char_in_body c p)
 in_body (Start tag) p = in_body_start tag p
 in_body (End name) p = in_body_end name p
-in_body Finish p = Ok (Taken p)
+in_body Finish p = Taken p
 
 -- whether an end tag of that name begins a body, as start tags do (13.2.6.4.6)
 abbrev pub opens_body : List ℕ → Bool
 opens_body name = of kind.Root name || of kind.Br name
 
 -- opens an element before the token
-abbrev pub implied : (name : List ℕ) → Token → Page → Reads Turn
-implied name token p = again (opened name [] p) token
+abbrev pub implied : (name : List ℕ) → Token → Page → Turn
+implied name token p = Again (opened name [] p) token
 
 -- closes the current node before the token
-abbrev pub left : Token → Page → Reads Turn
-left token p = again (closed true p) token
+abbrev pub left : Token → Page → Turn
+left token p = Again (closed true p) token
 
 -- handles a token before `html` or before `head`, which the token begins or implies
-abbrev pub before : (name : List ℕ) → Token → Page → Reads Turn
-before name (Char c) p = if is_space c then Ok (Taken p) else implied name (Char c) p
-before name (Start tag) p = if is name tag.name then taken (opened name tag.attrs p)
-    else (if of kind.Html tag.name then taken (repeated tag p)
+abbrev pub before : (name : List ℕ) → Token → Page → Turn
+before name (Char c) p = if is_space c then Taken p else implied name (Char c) p
+before name (Start tag) p = if is name tag.name then Taken (opened name tag.attrs p)
+    else (if of kind.Html tag.name then Taken (repeated tag p)
     else implied name (Start tag) p)
 before name (End n) p = if of kind.Head n || opens_body n
     then implied name (End n) p else taken_with error.EndTagWithoutStart p
 before name Finish p = implied name Finish p
 
-abbrev pub in_head : Token → Page → Reads Turn
-in_head (Char c) p = if is_space c then Ok (Taken (with_char c p)) else left (Char c) p
-in_head (Start tag) p = if of kind.Html tag.name then taken (repeated tag p)
-    else (if of kind.HeadContent tag.name then taken (head_element tag p)
-    else (if of kind.Noscript tag.name then taken (opened tag.name tag.attrs p)
+abbrev pub in_head : Token → Page → Turn
+in_head (Char c) p = if is_space c then Taken (with_char c p) else left (Char c) p
+in_head (Start tag) p = if of kind.Html tag.name then Taken (repeated tag p)
+    else (if of kind.HeadContent tag.name then Taken (head_element to.Parent tag p)
+    else (if of kind.Noscript tag.name then Taken (opened tag.name tag.attrs p)
     else (if of kind.Head tag.name then taken_with error.SecondStartTag p
     else left (Start tag) p)))
-in_head (End name) p = if of kind.Head name then taken (closed true p)
+in_head (End name) p = if of kind.Head name then Taken (closed true p)
     else (if opens_body name then left (End name) p
     else taken_with error.EndTagWithoutStart p)
 in_head Finish p = left Finish p
 
 -- closes a `noscript` of the head before content that can't stand in it
-abbrev pub noscript_left : Token → Page → Reads Turn
+abbrev pub noscript_left : Token → Page → Turn
 noscript_left token p = left token (noted error.UnexpectedInNoscript p)
 
-abbrev pub in_head_noscript : Token → Page → Reads Turn
-in_head_noscript (Char c) p = if is_space c then Ok (Taken (with_char c p))
+abbrev pub in_head_noscript : Token → Page → Turn
+in_head_noscript (Char c) p = if is_space c then Taken (with_char c p)
     else noscript_left (Char c) p
-in_head_noscript (Start tag) p = if of kind.Html tag.name then taken (repeated tag p)
-    else (if of kind.NoscriptContent tag.name then taken (head_element tag p)
+in_head_noscript (Start tag) p = if of kind.Html tag.name then Taken (repeated tag p)
+    else (if of kind.NoscriptContent tag.name then Taken (head_element to.Parent tag p)
     else (if of kind.Head tag.name || of kind.Noscript tag.name
     then taken_with error.IgnoredStartTag p else noscript_left (Start tag) p))
-in_head_noscript (End name) p = if of kind.Noscript name then taken (closed true p)
+in_head_noscript (End name) p = if of kind.Noscript name then Taken (closed true p)
     else (if of kind.Br name then noscript_left (End name) p
     else taken_with error.EndTagWithoutStart p)
 in_head_noscript Finish p = noscript_left Finish p
 
-abbrev pub body_implied : Token → Page → Reads Turn
+abbrev pub body_implied : Token → Page → Turn
 body_implied token p = implied (codes "body") token p
 
-abbrev pub after_head : Token → Page → Reads Turn
-after_head (Char c) p = if is_space c then Ok (Taken (with_char c p)) else body_implied (Char c) p
-after_head (Start tag) p = if of kind.Html tag.name then taken (repeated tag p)
-    else (if of kind.Body tag.name then taken (opened tag.name tag.attrs p)
-    else (if of kind.Unread tag.name then refused refusal.UnreadElement p
-    else (if of kind.HeadContent tag.name then refused refusal.HeadReopened p
+-- puts an element into the head, which is complete already
+abbrev pub head_reopened : StartTag → Page → Page
+head_reopened tag p = head_element to.Head tag (noted error.HeadReopened p)
+
+abbrev pub after_head : Token → Page → Turn
+after_head (Char c) p = if is_space c then Taken (with_char c p) else body_implied (Char c) p
+after_head (Start tag) p = if of kind.Html tag.name then Taken (repeated tag p)
+    else (if of kind.Body tag.name then Taken (opened tag.name tag.attrs p)
+    else (if of kind.Unread tag.name then Taken (refused refusal.UnreadElement p)
+    else (if of kind.HeadContent tag.name then Taken (head_reopened tag p)
     else (if of kind.Head tag.name then taken_with error.SecondStartTag p
     else body_implied (Start tag) p))))
 after_head (End name) p = if opens_body name then body_implied (End name) p
@@ -277,8 +295,8 @@ after_head (End name) p = if opens_body name then body_implied (End name) p
 after_head Finish p = body_implied Finish p
 
 -- handles a token in an element of text alone: its characters, and its end tag
-abbrev pub in_text : Token → Page → Reads Turn
-in_text (Char c) p = Ok (Taken (with_char c p))
-in_text (Start tag) p = Ok (Taken p)
-in_text (End name) p = taken (closed true p)
+abbrev pub in_text : Token → Page → Turn
+in_text (Char c) p = Taken (with_char c p)
+in_text (Start tag) p = Taken p
+in_text (End name) p = Taken (closed true p)
 in_text Finish p = left Finish p

@@ -1,9 +1,9 @@
 //! Start tags in a body (HTML Standard 13.2.6.4.7).
 
-ghost use Rattle.std.specs.Prelude.{◌≡◌, [], codes};
+ghost use Rattle.std.specs.Prelude.{◌≡◌, [], OnOk, codes};
 ghost use Rattle.html_dom_tree.specs.Views.{attrs_view};
 ghost use Rattle.html_page_names.specs.PageNames.{of};
-ghost use Rattle.html_page_stack.specs.{Endings.{Steps, Turns}, OpenElements.{is_active}, PageViews.{page_of, start_of}};
+ghost use Rattle.html_page_stack.specs.{Endings.{Turns}, OpenElements.{is_active}, PageViews.{page_of, start_of}};
 ghost use Rattle.html_page_stack.specs.Pages as pages;
 ghost use Rattle.html_page_tree.specs.PageBodies as bodies;
 
@@ -12,9 +12,10 @@ use html_dom_tree::HtmlAttrs;
 use html_names_core::{HtmlTag, tag};
 use html_page_names::Kind;
 use html_page_stack::{
-    Bound, Goal, Halt, Page, PageError, PageRefusal, Scope, Space, StartTag, TableRule, TagName,
-    Target, Token,
+    Bound, Destination, Goal, Page, PageError, PageRefusal, Scope, Space, StartTag, TableRule,
+    TagName, Target, Token,
 };
+use std::alloc::AllocError;
 
 /// Returns the start tag of an `img` for that of an `image`.
 #[tactic(auto, unfolding(html_names_core::specs::Tables::known_tags))]
@@ -30,55 +31,80 @@ fn img_start(start: StartTag) -> StartTag
     }
 }
 
-pub(crate) fn open(page: &mut Page, name: TagName, attrs: HtmlAttrs) -> Result<(), Halt>
-    ensures { Steps result (pages.opened name.tag (attrs_view attrs) (page_of page.old))
-        (page_of page.new) }
+pub(crate) fn open(page: &mut Page, name: TagName, attrs: HtmlAttrs) -> Result<(), AllocError>
+    ensures { OnOk result (page_of page.new
+        ≡ pages.opened name.tag (attrs_view attrs) (page_of page.old)) }
 {
     let TagName { tag, kinds } = name;
-    page.open_in(Space::Html, tag, kinds, attrs)
+    page.open_to(Destination::Parent, Space::Html, tag, kinds, attrs)
 }
 
 /// Opens an element that no tag begins.
-pub(crate) fn open_implied(page: &mut Page, tag: HtmlTag) -> Result<(), Halt>
-    ensures { Steps result (pages.opened tag [] (page_of page.old)) (page_of page.new) }
+pub(crate) fn open_implied(page: &mut Page, tag: HtmlTag) -> Result<(), AllocError>
+    ensures { OnOk result (page_of page.new ≡ pages.opened tag [] (page_of page.old)) }
 {
     open(page, TagName::new(tag), HtmlAttrs::new(page.alloc))
 }
 
 /// Appends an element without content.
-pub(crate) fn add_leaf(page: &mut Page, start: StartTag) -> Result<(), Halt>
-    ensures { Steps result (bodies.leaf (start_of start) (page_of page.old))
-        (page_of page.new) }
+pub(crate) fn add_leaf(page: &mut Page, start: StartTag) -> Result<(), AllocError>
+    ensures { OnOk result (page_of page.new ≡ bodies.leaf (start_of start) (page_of page.old)) }
 {
-    open(page, start.name, start.attrs)?;
-    page.close(true)
+    let StartTag { name, attrs, .. } = start;
+    page.add_to(
+        Destination::Parent,
+        Space::Html,
+        name.tag,
+        name.kinds,
+        attrs,
+    )
 }
 
-/// Handles a second `html` or `body`, whose attributes would be added to those of the first.
-pub(crate) fn repeat(page: &mut Page, start: &StartTag) -> Result<(), Halt>
-    ensures { Steps result (bodies.repeated (start_of start.now) (page_of page.old))
-        (page_of page.new) }
+/// Gives the attributes of a second `html` or `body` to the first: `html` is the outermost of the
+/// open elements, and `body` the second, if it is open (HTML Standard 13.2.6.4.7).
+fn merge_again(page: &mut Page, start: StartTag) -> Result<(), AllocError>
+    ensures { OnOk result (page_of page.new
+        ≡ bodies.merged_again (start_of start) (page_of page.old)) }
 {
-    if !start.attrs.0.is_empty() {
-        return Err(page.refusal(PageRefusal::MergedAttributes));
+    if start.name.is(Kind::Body) {
+        page.merge_at(1, Kind::Body, start.attrs)
+    } else {
+        page.merge_at(0, Kind::Html, start.attrs)
     }
-    page.note(PageError::SecondStartTag)
 }
 
-pub(crate) fn add_to_head(page: &mut Page, start: StartTag) -> Result<(), Halt>
-    ensures { Steps result (bodies.head_element (start_of start) (page_of page.old))
-        (page_of page.new) }
+/// Handles a second `html` or `body`.
+pub(crate) fn repeat(page: &mut Page, start: StartTag) -> Result<(), AllocError>
+    ensures { OnOk result (page_of page.new
+        ≡ bodies.repeated (start_of start) (page_of page.old)) }
 {
-    if start.name.is(Kind::HeadLeaf) {
-        return add_leaf(page, start);
+    if start.attrs.0.is_empty() {
+        return page.note(PageError::SecondStartTag);
     }
-    open(page, start.name, start.attrs)
+    page.note(PageError::MergedAttributes)?;
+    merge_again(page, start)?;
+    Ok(())
+}
+
+/// Opens or appends an element of the head.
+pub(crate) fn add_to_head(
+    page: &mut Page,
+    destination: Destination,
+    start: StartTag,
+) -> Result<(), AllocError>
+    ensures { OnOk result (page_of page.new
+        ≡ bodies.head_element destination (start_of start) (page_of page.old)) }
+{
+    let StartTag { name, attrs, .. } = start;
+    if name.is(Kind::HeadLeaf) {
+        return page.add_to(destination, Space::Html, name.tag, name.kinds, attrs);
+    }
+    page.open_to(destination, Space::Html, name.tag, name.kinds, attrs)
 }
 
 /// Handles any other end tag.
-pub(crate) fn close_other(page: &mut Page, name: &TagName) -> Result<(), Halt>
-    ensures { Steps result (bodies.other_closed name.now.tag (page_of page.old))
-        (page_of page.new) }
+pub(crate) fn close_other(page: &mut Page, name: &TagName) -> Result<(), AllocError>
+    ensures { OnOk result (page_of page.new ≡ bodies.other_closed name.now.tag (page_of page.old)) }
 {
     let named = Target::Named(&name.tag);
     if page.stack.reaches(Goal::Of(named), Bound::Special) {
@@ -89,9 +115,8 @@ pub(crate) fn close_other(page: &mut Page, name: &TagName) -> Result<(), Halt>
 }
 
 /// Runs the adoption agency algorithm, as long as nothing moves (HTML Standard 13.2.6.4.7).
-pub(crate) fn adopt(page: &mut Page, name: &TagName) -> Result<(), Halt>
-    ensures { Steps result (bodies.adopted name.now.tag (page_of page.old))
-        (page_of page.new) }
+pub(crate) fn adopt(page: &mut Page, name: &TagName) -> Result<(), AllocError>
+    ensures { OnOk result (page_of page.new ≡ bodies.adopted name.now.tag (page_of page.old)) }
 {
     let named = Target::Named(&name.tag);
     if page.lost.holds(&name.tag) {
@@ -105,17 +130,16 @@ pub(crate) fn adopt(page: &mut Page, name: &TagName) -> Result<(), Halt>
         return page.note(PageError::EndTagWithoutStart);
     }
     if !page.stack.reaches(Goal::Of(named), Bound::Special) {
-        return Err(page.refusal(PageRefusal::AdoptionAgency));
+        page.refuse(PageRefusal::AdoptionAgency);
+        return Ok(());
     }
-    let agrees = !page.stack.is_target(named);
-    page.note_if(agrees, PageError::EndTagOverOpenElements)?;
-    page.close_to(named)
+    page.close_named(named, named)
 }
 
 /// Closes an element with that name before the next.
-fn close_nested(page: &mut Page, name: &TagName) -> Result<(), Halt>
-    ensures { Steps result (bodies.nested_closed name.now.tag (page_of page.old))
-        (page_of page.new) }
+fn close_nested(page: &mut Page, name: &TagName) -> Result<(), AllocError>
+    ensures { OnOk result (page_of page.new
+        ≡ bodies.nested_closed name.now.tag (page_of page.old)) }
 {
     let named = Target::Named(&name.tag);
     if !page.in_scope(Scope::General, named) {
@@ -126,8 +150,8 @@ fn close_nested(page: &mut Page, name: &TagName) -> Result<(), Halt>
     page.close_to(named)
 }
 
-fn close_select(page: &mut Page) -> Result<(), Halt>
-    ensures { Steps result (bodies.select_closed (page_of page.old)) (page_of page.new) }
+fn close_select(page: &mut Page) -> Result<(), AllocError>
+    ensures { OnOk result (page_of page.new ≡ bodies.select_closed (page_of page.old)) }
 {
     let select = Target::Kind(Kind::Select);
     if !page.in_scope(Scope::General, select) {
@@ -145,29 +169,28 @@ fn has_active_anchor(page: &Page) -> bool
 }
 
 /// Refuses an `a` that is still open, and would be removed.
-fn refuse_open_anchor(page: &Page) -> Result<(), Halt>
-    ensures { Steps result (bodies.anchor_left (page_of page.now)) (page_of page.now) }
+fn refuse_open_anchor(page: &mut Page)
+    ensures { page_of page.new ≡ bodies.anchor_left (page_of page.old) }
 {
-    if has_active_anchor(page) {
-        return Err(page.refusal(PageRefusal::OpenAnchorRemoved));
-    }
-    Ok(())
+    let is_open = has_active_anchor(page);
+    page.refuse_if(is_open, PageRefusal::OpenAnchorRemoved);
 }
 
-fn close_anchor(page: &mut Page, name: &TagName) -> Result<(), Halt>
-    ensures { Steps result (bodies.anchor_closed name.now.tag (page_of page.old))
-        (page_of page.new) }
+fn close_anchor(page: &mut Page, name: &TagName) -> Result<(), AllocError>
+    ensures { OnOk result (page_of page.new
+        ≡ bodies.anchor_closed name.now.tag (page_of page.old)) }
 {
     if !has_active_anchor(page) && !page.lost.holds(&name.tag) {
         return Ok(());
     }
     page.note(PageError::NestedElement)?;
     adopt(page, name)?;
-    refuse_open_anchor(page)
+    refuse_open_anchor(page);
+    Ok(())
 }
 
-pub(crate) fn close_p(page: &mut Page) -> Result<(), Halt>
-    ensures { Steps result (bodies.p_closed (page_of page.old)) (page_of page.new) }
+pub(crate) fn close_p(page: &mut Page) -> Result<(), AllocError>
+    ensures { OnOk result (page_of page.new ≡ bodies.p_closed (page_of page.old)) }
 {
     let p = Target::Kind(Kind::P);
     if !page.has_paragraph() {
@@ -177,8 +200,8 @@ pub(crate) fn close_p(page: &mut Page) -> Result<(), Halt>
 }
 
 /// Closes an item before the next of its kind.
-fn close_item(page: &mut Page, kind: Kind) -> Result<(), Halt>
-    ensures { Steps result (bodies.item_closed kind (page_of page.old)) (page_of page.new) }
+fn close_item(page: &mut Page, kind: Kind) -> Result<(), AllocError>
+    ensures { OnOk result (page_of page.new ≡ bodies.item_closed kind (page_of page.old)) }
 {
     let item = Target::Kind(kind);
     if !page.stack.reaches(Goal::Of(item), Bound::Item) {
@@ -188,8 +211,8 @@ fn close_item(page: &mut Page, kind: Kind) -> Result<(), Halt>
     page.close_to(item)
 }
 
-fn close_heading(page: &mut Page) -> Result<(), Halt>
-    ensures { Steps result (bodies.heading_closed (page_of page.old)) (page_of page.new) }
+fn close_heading(page: &mut Page) -> Result<(), AllocError>
+    ensures { OnOk result (page_of page.new ≡ bodies.heading_closed (page_of page.old)) }
 {
     if !page.stack.is_at(Kind::Heading) {
         return Ok(());
@@ -199,9 +222,9 @@ fn close_heading(page: &mut Page) -> Result<(), Halt>
 }
 
 /// Closes options before the next, and before a rule.
-fn close_option(page: &mut Page, name: &TagName) -> Result<(), Halt>
-    ensures { Steps result (bodies.option_closed name.now.tag (page_of page.old))
-        (page_of page.new) }
+fn close_option(page: &mut Page, name: &TagName) -> Result<(), AllocError>
+    ensures { OnOk result (page_of page.new
+        ≡ bodies.option_closed name.now.tag (page_of page.old)) }
 {
     if page.in_scope(Scope::General, Target::Kind(Kind::Select)) {
         if name.is(Kind::Option) {
@@ -216,9 +239,8 @@ fn close_option(page: &mut Page, name: &TagName) -> Result<(), Halt>
 }
 
 /// Closes parts of a ruby annotation before the next.
-fn close_ruby(page: &mut Page, name: &TagName) -> Result<(), Halt>
-    ensures { Steps result (bodies.ruby_closed name.now.tag (page_of page.old))
-        (page_of page.new) }
+fn close_ruby(page: &mut Page, name: &TagName) -> Result<(), AllocError>
+    ensures { OnOk result (page_of page.new ≡ bodies.ruby_closed name.now.tag (page_of page.old)) }
 {
     if !page.in_scope(Scope::General, Target::Kind(Kind::Ruby)) {
         return Ok(());
@@ -230,23 +252,19 @@ fn close_ruby(page: &mut Page, name: &TagName) -> Result<(), Halt>
 }
 
 /// Closes a `p` before a table, except in quirks mode.
-fn close_before_table(page: &mut Page) -> Result<(), Halt>
-    ensures { Steps result (bodies.table_closes (page_of page.old)) (page_of page.new) }
+fn close_before_table(page: &mut Page) -> Result<(), AllocError>
+    ensures { OnOk result (page_of page.new ≡ bodies.table_closes (page_of page.old)) }
 {
-    if !page.has_paragraph() {
-        return Ok(());
-    }
     match page.tables {
-        TableRule::KeepsP => Ok(()),
         TableRule::ClosesP => close_p(page),
-        TableRule::Unseen | TableRule::Unknown => Err(page.refusal(PageRefusal::DocumentType)),
+        TableRule::KeepsP | TableRule::Unseen => Ok(()),
     }
 }
 
 /// Closes blocks before the next, and whatever else it closes.
-fn close_before_block(page: &mut Page, name: &TagName) -> Result<(), Halt>
-    ensures { Steps result (bodies.closed_before_block name.now.tag (page_of page.old))
-        (page_of page.new) }
+fn close_before_block(page: &mut Page, name: &TagName) -> Result<(), AllocError>
+    ensures { OnOk result (page_of page.new
+        ≡ bodies.closed_before_block name.now.tag (page_of page.old)) }
 {
     if name.is(Kind::ListItem) {
         close_item(page, Kind::ListItem)?;
@@ -267,9 +285,9 @@ fn close_before_block(page: &mut Page, name: &TagName) -> Result<(), Halt>
 }
 
 /// Closes what a start tag closes before its element.
-fn close_before(page: &mut Page, name: &TagName) -> Result<(), Halt>
-    ensures { Steps result (bodies.closed_before name.now.tag (page_of page.old))
-        (page_of page.new) }
+fn close_before(page: &mut Page, name: &TagName) -> Result<(), AllocError>
+    ensures { OnOk result (page_of page.new
+        ≡ bodies.closed_before name.now.tag (page_of page.old)) }
 {
     if name.is(Kind::A) {
         return close_anchor(page, name);
@@ -296,26 +314,34 @@ fn close_before(page: &mut Page, name: &TagName) -> Result<(), Halt>
     close_before_block(page, name)
 }
 
-/// Handles the formatting elements around an element, which come before it.
-fn format(page: &mut Page, name: &TagName) -> Result<(), Halt>
-    ensures { Steps result (bodies.formatted name.now.tag (page_of page.old))
-        (page_of page.new) }
+/// Closes a `nobr` before the next.
+fn close_nobr(page: &mut Page, name: &TagName) -> Result<(), AllocError>
+    ensures { OnOk result (page_of page.new
+        ≡ bodies.nobr_closed name.now.tag (page_of page.old)) }
 {
-    if name.is(Kind::Unformatted) {
-        return Ok(());
-    }
-    page.reconstruct()?;
     if !name.is(Kind::Nobr) || !page.in_scope(Scope::General, Target::Named(&name.tag)) {
         return Ok(());
     }
     page.note(PageError::NestedElement)?;
     adopt(page, name)?;
-    page.reconstruct()
+    page.reconstruct();
+    Ok(())
 }
 
-fn insert(page: &mut Page, start: StartTag) -> Result<(), Halt>
-    ensures { Steps result (bodies.inserted (start_of start) (page_of page.old))
-        (page_of page.new) }
+/// Handles the formatting elements around an element, which come before it.
+fn format(page: &mut Page, name: &TagName) -> Result<(), AllocError>
+    ensures { OnOk result (page_of page.new ≡ bodies.formatted name.now.tag (page_of page.old)) }
+{
+    if name.is(Kind::Unformatted) {
+        return Ok(());
+    }
+    page.reconstruct();
+    close_nobr(page, name)?;
+    Ok(())
+}
+
+fn insert(page: &mut Page, start: StartTag) -> Result<(), AllocError>
+    ensures { OnOk result (page_of page.new ≡ bodies.inserted (start_of start) (page_of page.old)) }
 {
     if start.name.is(Kind::Leaf) {
         return add_leaf(page, start);
@@ -329,13 +355,14 @@ fn insert(page: &mut Page, start: StartTag) -> Result<(), Halt>
     open(page, start.name, start.attrs)
 }
 
-fn start_in_body(page: &mut Page, start: StartTag) -> Result<(), Halt>
-    ensures { Steps result (bodies.element_begun (start_of start) (page_of page.old))
-        (page_of page.new) }
+fn start_in_body(page: &mut Page, start: StartTag) -> Result<(), AllocError>
+    ensures { OnOk result (page_of page.new
+        ≡ bodies.element_begun (start_of start) (page_of page.old)) }
 {
     close_before(page, &start.name)?;
     format(page, &start.name)?;
-    insert(page, start)
+    insert(page, start)?;
+    Ok(())
 }
 
 /// Returns whether the start tag is ignored, with an error.
@@ -348,17 +375,17 @@ fn is_nested(page: &Page, name: &TagName) -> bool
             .reaches(Goal::Of(Target::Named(&name.tag)), Bound::Nothing)
 }
 
-pub(crate) fn in_body_start(page: &mut Page, start: StartTag) -> Result<Option<Token>, Halt>
+pub(crate) fn in_body_start(page: &mut Page, start: StartTag) -> Result<Option<Token>, AllocError>
     ensures { Turns result (bodies.in_body_start (start_of start) (page_of page.old))
         (page_of page.new) }
 {
     let name = &start.name;
     if name.is(Kind::Root) {
-        repeat(page, &start)?;
+        repeat(page, start)?;
     } else if name.is(Kind::HeadContent) {
-        add_to_head(page, start)?;
+        add_to_head(page, Destination::Parent, start)?;
     } else if name.is(Kind::Unread) {
-        return Err(page.refusal(PageRefusal::UnreadElement));
+        page.refuse(PageRefusal::UnreadElement);
     } else if name.is(Kind::Misplaced) {
         page.note(PageError::IgnoredStartTag)?;
     } else if name.is(Kind::Image) {

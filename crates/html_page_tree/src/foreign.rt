@@ -1,21 +1,19 @@
 //! Tokens in SVG and MathML (HTML Standard 13.2.6.5).
 
-ghost use Rattle.std.specs.{List.{list_any}, Prelude.{◌≡◌, IfErr, IfOk}};
+ghost use Rattle.std.specs.{List.{list_any}, Prelude.{◌≡◌, IfOk, OnOk, length}};
 ghost use Rattle.html_dom_tree.specs.Views.{attrs_view};
 ghost use Rattle.html_page_names.specs.ForeignNames.{is_font_attr};
-ghost use Rattle.html_page_stack.specs.{Endings.{Steps, Turns}, PageViews.{element_of, page_of, start_of, token_of}};
-ghost use Rattle.html_page_stack.specs.declared.fault.Halt.TheVariants.{OutOfMemory};
+ghost use Rattle.html_page_stack.specs.{Endings.{Turns}, PageViews.{element_of, page_of, start_of, token_of}};
+ghost use Rattle.html_page_stack.specs.{OpenElements.{at, holds_tags}, Pages.{closed_while}};
 ghost use Rattle.html_page_tree.specs.PageBodies as bodies;
 ghost use Rattle.html_page_tree.specs.PageTrees as trees;
 
 use crate::turn::by_mode;
 use html_dom_tree::HtmlAttrs;
 use html_names_core::{HtmlAttr, HtmlTag};
-use html_page_names::{
-    Kind, is_encoding, is_font_attr, is_html_encoding, kinds_of, math_attr, svg_attr, svg_tag,
-};
+use html_page_names::{Kind, is_font_attr, kinds_of, math_attr, svg_attr, svg_tag};
 use html_page_stack::{
-    Bound, Goal, Halt, Page, PageElement, PageError, PageRefusal, Space, StartTag, TagName, Token,
+    Bound, Destination, Goal, Page, PageElement, PageError, Space, StartTag, TagName, Token, While,
 };
 use std::alloc::{AllocError, Global};
 
@@ -39,10 +37,9 @@ fn foreign_name(alloc: Global, space: Space, tag: HtmlTag) -> Result<HtmlTag, Al
 }
 
 /// Returns the attributes with the capitals of their names.
-fn foreign_attrs(alloc: Global, space: Space, attrs: HtmlAttrs) -> Result<HtmlAttrs, Halt>
-    ensures made { IfOk result (λ made. attrs_view made
+fn foreign_attrs(alloc: Global, space: Space, attrs: HtmlAttrs) -> Result<HtmlAttrs, AllocError>
+    ensures { IfOk result (λ made. attrs_view made
         ≡ bodies.foreign_attrs space (attrs_view attrs)) }
-    ensures halted { IfErr result (λ e. e ≡ OutOfMemory) }
 {
     let mut made = HtmlAttrs::new(alloc);
     for (attr, value) in attrs.0 {
@@ -69,34 +66,6 @@ fn breaks_out(start: &StartTag) -> bool
     start.name.is(Kind::Breakout) || (start.name.is(Kind::Font) && has_font_attr(&start.attrs))
 }
 
-/// Returns whether the attributes say that an `annotation-xml` holds HTML.
-fn says_html(attrs: &HtmlAttrs) -> bool
-    ensures { result ≡ list_any trees.says_html (attrs_view attrs.now) }
-{
-    for attr in &attrs.0 {
-        if is_encoding(&attr.0) && is_html_encoding(attr.1.as_str()) {
-            return true;
-        }
-    }
-    false
-}
-
-fn holds_html(element: &PageElement) -> bool
-    ensures { let e = element_of element.now in result ≡ trees.holds_html_in e.space e }
-{
-    match element.space {
-        Space::Html => true,
-        Space::Svg => element.has_kind(Kind::SvgHtml),
-        Space::MathMl => element.has_kind(Kind::AnnotationXml) && says_html(&element.element.attrs),
-    }
-}
-
-fn holds_text(element: &PageElement) -> bool
-    ensures { let e = element_of element.now in result ≡ trees.holds_text_in e.space e }
-{
-    matches!(element.space, Space::MathMl) && element.has_kind(Kind::MathText)
-}
-
 fn holds_svg(element: &PageElement) -> bool
     ensures { let e = element_of element.now in result ≡ trees.holds_svg_in e.space e }
 {
@@ -108,10 +77,10 @@ fn takes_as_html(element: &PageElement, token: &Token) -> bool
     ensures { result ≡ trees.stands_as_html (token_of token.now) (element_of element.now) }
 {
     match token {
-        Token::Char(_) => holds_html(element) || holds_text(element),
+        Token::Char(_) => element.holds_tags(),
         Token::Start(start) => {
-            holds_html(element)
-                || (holds_text(element) && !start.name.is(Kind::Glyph))
+            element.holds_html()
+                || (element.holds_text() && !start.name.is(Kind::Glyph))
                 || (holds_svg(element) && start.name.is(Kind::Svg))
         }
         Token::End(_) => element.is_html(),
@@ -120,9 +89,9 @@ fn takes_as_html(element: &PageElement, token: &Token) -> bool
 }
 
 /// Opens an element of SVG or MathML, with the capitals of its names.
-pub(crate) fn enter(page: &mut Page, space: Space, start: StartTag) -> Result<(), Halt>
-    ensures { Steps result (bodies.entered space (start_of start) (page_of page.old))
-        (page_of page.new) }
+pub(crate) fn enter(page: &mut Page, space: Space, start: StartTag) -> Result<(), AllocError>
+    ensures { OnOk result (page_of page.new
+        ≡ bodies.entered space (start_of start) (page_of page.old)) }
 {
     let StartTag {
         name,
@@ -132,8 +101,11 @@ pub(crate) fn enter(page: &mut Page, space: Space, start: StartTag) -> Result<()
     let tag = foreign_name(page.alloc, space, name.tag)?;
     let attrs = foreign_attrs(page.alloc, space, attrs)?;
     let kinds = kinds_of(tag.resolve());
-    page.open_in(space, tag, kinds, attrs)?;
-    if closed { page.close(true) } else { Ok(()) }
+    if closed {
+        page.add_to(Destination::Parent, space, tag, kinds, attrs)
+    } else {
+        page.open_to(Destination::Parent, space, tag, kinds, attrs)
+    }
 }
 
 /// Returns whether the token is read by the rules for SVG and MathML.
@@ -146,9 +118,9 @@ pub(crate) fn is_foreign(page: &Page, token: &Token) -> bool
     }
 }
 
-fn close_foreign(page: &mut Page, name: &TagName) -> Result<(), Halt>
-    ensures { Steps result (trees.foreign_closed name.now.tag (page_of page.old))
-        (page_of page.new) }
+fn close_foreign(page: &mut Page, name: &TagName) -> Result<(), AllocError>
+    ensures { OnOk result (page_of page.new
+        ≡ trees.foreign_closed name.now.tag (page_of page.old)) }
 {
     let goal = Goal::Foreign(&name.tag);
     let agrees = !page.stack.is_goal(goal);
@@ -156,12 +128,35 @@ fn close_foreign(page: &mut Page, name: &TagName) -> Result<(), Halt>
     page.close_to_goal(goal)
 }
 
-fn end_in_foreign(page: &mut Page, name: TagName) -> Result<Option<Token>, Halt>
-    ensures { Turns result (trees.in_foreign_end name.tag (page_of page.old))
+/// Closes elements of SVG and MathML up to one whose content is read as HTML.
+fn leave_foreign(page: &mut Page) -> Result<(), AllocError>
+    ensures { OnOk result (page_of page.new ≡ trees.foreign_left (page_of page.old)) }
+{
+    page.close_while(While::Above(Goal::HoldsTags))
+}
+
+/// Handles a tag that can't stand in SVG or MathML, after them.
+fn resume_html(page: &mut Page, token: Token) -> Result<Option<Token>, AllocError>
+    ensures { Turns result (trees.html_resumed (token_of token) (page_of page.old))
         (page_of page.new) }
 {
+    page.note(PageError::HtmlInForeign)?;
+    leave_foreign(page)?;
+    by_mode(page, token)
+}
+
+/// Returns the character that a text shows for it: U+FFFD for U+0000.
+fn shown(c: char) -> char
+    ensures { result ≡ trees.shown c }
+{
+    if c == '\0' { '\u{fffd}' } else { c }
+}
+
+fn end_in_foreign(page: &mut Page, name: TagName) -> Result<Option<Token>, AllocError>
+    ensures { Turns result (trees.in_foreign_end name.tag (page_of page.old)) (page_of page.new) }
+{
     if name.is(Kind::Br) || name.is(Kind::P) {
-        return Err(page.refusal(PageRefusal::HtmlInForeign));
+        return resume_html(page, Token::End(name));
     }
     if !page.stack.reaches(Goal::Foreign(&name.tag), Bound::Html) {
         return by_mode(page, Token::End(name));
@@ -170,15 +165,15 @@ fn end_in_foreign(page: &mut Page, name: TagName) -> Result<Option<Token>, Halt>
     Ok(None)
 }
 
-pub(crate) fn in_foreign(page: &mut Page, token: Token) -> Result<Option<Token>, Halt>
+pub(crate) fn in_foreign(page: &mut Page, token: Token) -> Result<Option<Token>, AllocError>
     ensures { Turns result (trees.in_foreign (token_of token) (page_of page.old))
         (page_of page.new) }
 {
     match token {
-        Token::Char(c) => page.add_char(c)?,
+        Token::Char(c) => page.add_char(shown(c))?,
         Token::Start(start) => {
             if breaks_out(&start) {
-                return Err(page.refusal(PageRefusal::HtmlInForeign));
+                return resume_html(page, Token::Start(start));
             }
             let space = page.stack.current_space();
             enter(page, space, start)?;

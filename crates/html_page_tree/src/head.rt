@@ -1,14 +1,15 @@
 //! Tokens before a body (HTML Standard 13.2.6.4.2 to 13.2.6.4.6), and in elements of text alone
 //! (13.2.6.4.8).
 
-ghost use Rattle.std.specs.Prelude.{◌≡◌, codes};
-ghost use Rattle.html_page_stack.specs.{Endings.{Turns}, PageViews.{page_of, token_of}};
+ghost use Rattle.std.specs.Prelude.{◌≡◌, OnOk, codes};
+ghost use Rattle.html_page_stack.specs.{Endings.{Turns}, PageViews.{page_of, start_of, token_of}};
 ghost use Rattle.html_page_tree.specs.PageBodies as bodies;
 
 use crate::body_start::{add_to_head, open, open_implied, repeat};
 use html_names_core::{HtmlTag, tag};
 use html_page_names::Kind;
-use html_page_stack::{Halt, Page, PageError, PageRefusal, TagName, Token};
+use html_page_stack::{Destination, Page, PageError, PageRefusal, StartTag, TagName, Token};
+use std::alloc::AllocError;
 
 /// Returns whether it is a tab, a line feed, a form feed, a carriage return or a space.
 pub fn is_space(c: char) -> bool
@@ -25,7 +26,7 @@ fn opens_body(name: &TagName) -> bool
 }
 
 /// Opens `html` or `head`, whichever is given, before the token.
-fn imply(page: &mut Page, tag: HtmlTag, token: Token) -> Result<Option<Token>, Halt>
+fn imply(page: &mut Page, tag: HtmlTag, token: Token) -> Result<Option<Token>, AllocError>
     ensures { Turns result (bodies.implied tag (token_of token) (page_of page.old))
         (page_of page.new) }
 {
@@ -35,7 +36,7 @@ fn imply(page: &mut Page, tag: HtmlTag, token: Token) -> Result<Option<Token>, H
 
 /// Opens `body` before the token.
 #[tactic(auto, unfolding(html_names_core::specs::Tables::known_tags))]
-fn imply_body(page: &mut Page, token: Token) -> Result<Option<Token>, Halt>
+fn imply_body(page: &mut Page, token: Token) -> Result<Option<Token>, AllocError>
     ensures { Turns result (bodies.body_implied (token_of token) (page_of page.old))
         (page_of page.new) }
 {
@@ -43,16 +44,15 @@ fn imply_body(page: &mut Page, token: Token) -> Result<Option<Token>, Halt>
 }
 
 /// Closes the current node before the token.
-pub(crate) fn leave(page: &mut Page, token: Token) -> Result<Option<Token>, Halt>
-    ensures { Turns result (bodies.left (token_of token) (page_of page.old))
-        (page_of page.new) }
+pub(crate) fn leave(page: &mut Page, token: Token) -> Result<Option<Token>, AllocError>
+    ensures { Turns result (bodies.left (token_of token) (page_of page.old)) (page_of page.new) }
 {
     page.close(true)?;
     Ok(Some(token))
 }
 
 /// Handles a token before `html` or before `head`, which it begins or implies.
-fn before(page: &mut Page, tag: HtmlTag, token: Token) -> Result<Option<Token>, Halt>
+fn before(page: &mut Page, tag: HtmlTag, token: Token) -> Result<Option<Token>, AllocError>
     ensures { Turns result (bodies.before tag (token_of token) (page_of page.old))
         (page_of page.new) }
 {
@@ -63,7 +63,7 @@ fn before(page: &mut Page, tag: HtmlTag, token: Token) -> Result<Option<Token>, 
             Ok(None)
         }
         Token::Start(start) if start.name.is(Kind::Html) => {
-            repeat(page, &start)?;
+            repeat(page, start)?;
             Ok(None)
         }
         Token::End(name) if !name.is(Kind::Head) && !opens_body(&name) => {
@@ -75,7 +75,7 @@ fn before(page: &mut Page, tag: HtmlTag, token: Token) -> Result<Option<Token>, 
 }
 
 #[tactic(auto, unfolding(html_names_core::specs::Tables::known_tags))]
-pub(crate) fn before_html(page: &mut Page, token: Token) -> Result<Option<Token>, Halt>
+pub(crate) fn before_html(page: &mut Page, token: Token) -> Result<Option<Token>, AllocError>
     ensures { Turns result (bodies.before (codes "html") (token_of token) (page_of page.old))
         (page_of page.new) }
 {
@@ -83,21 +83,22 @@ pub(crate) fn before_html(page: &mut Page, token: Token) -> Result<Option<Token>
 }
 
 #[tactic(auto, unfolding(html_names_core::specs::Tables::known_tags))]
-pub(crate) fn before_head(page: &mut Page, token: Token) -> Result<Option<Token>, Halt>
+pub(crate) fn before_head(page: &mut Page, token: Token) -> Result<Option<Token>, AllocError>
     ensures { Turns result (bodies.before (codes "head") (token_of token) (page_of page.old))
         (page_of page.new) }
 {
     before(page, tag::head, token)
 }
 
-pub(crate) fn in_head(page: &mut Page, token: Token) -> Result<Option<Token>, Halt>
-    ensures { Turns result (bodies.in_head (token_of token) (page_of page.old))
-        (page_of page.new) }
+pub(crate) fn in_head(page: &mut Page, token: Token) -> Result<Option<Token>, AllocError>
+    ensures { Turns result (bodies.in_head (token_of token) (page_of page.old)) (page_of page.new) }
 {
     match token {
         Token::Char(c) if is_space(c) => page.add_char(c)?,
-        Token::Start(start) if start.name.is(Kind::Html) => repeat(page, &start)?,
-        Token::Start(start) if start.name.is(Kind::HeadContent) => add_to_head(page, start)?,
+        Token::Start(start) if start.name.is(Kind::Html) => repeat(page, start)?,
+        Token::Start(start) if start.name.is(Kind::HeadContent) => {
+            add_to_head(page, Destination::Parent, start)?;
+        }
         Token::Start(start) if start.name.is(Kind::Noscript) => {
             open(page, start.name, start.attrs)?;
         }
@@ -114,7 +115,7 @@ pub(crate) fn in_head(page: &mut Page, token: Token) -> Result<Option<Token>, Ha
 }
 
 /// Closes a `noscript` of the head before content that can't stand in it.
-fn leave_noscript(page: &mut Page, token: Token) -> Result<Option<Token>, Halt>
+fn leave_noscript(page: &mut Page, token: Token) -> Result<Option<Token>, AllocError>
     ensures { Turns result (bodies.noscript_left (token_of token) (page_of page.old))
         (page_of page.new) }
 {
@@ -122,15 +123,15 @@ fn leave_noscript(page: &mut Page, token: Token) -> Result<Option<Token>, Halt>
     leave(page, token)
 }
 
-pub(crate) fn in_head_noscript(page: &mut Page, token: Token) -> Result<Option<Token>, Halt>
+pub(crate) fn in_head_noscript(page: &mut Page, token: Token) -> Result<Option<Token>, AllocError>
     ensures { Turns result (bodies.in_head_noscript (token_of token) (page_of page.old))
         (page_of page.new) }
 {
     match token {
         Token::Char(c) if is_space(c) => page.add_char(c)?,
-        Token::Start(start) if start.name.is(Kind::Html) => repeat(page, &start)?,
+        Token::Start(start) if start.name.is(Kind::Html) => repeat(page, start)?,
         Token::Start(start) if start.name.is(Kind::NoscriptContent) => {
-            add_to_head(page, start)?;
+            add_to_head(page, Destination::Parent, start)?;
         }
         Token::Start(start) if start.name.is(Kind::Head) || start.name.is(Kind::Noscript) => {
             page.note(PageError::IgnoredStartTag)?;
@@ -144,23 +145,30 @@ pub(crate) fn in_head_noscript(page: &mut Page, token: Token) -> Result<Option<T
     Ok(None)
 }
 
+/// Puts an element into the head, which is complete already.
+fn reopen_head(page: &mut Page, start: StartTag) -> Result<(), AllocError>
+    ensures { OnOk result (page_of page.new
+        ≡ bodies.head_reopened (start_of start) (page_of page.old)) }
+{
+    page.note(PageError::HeadReopened)?;
+    add_to_head(page, Destination::Head, start)
+}
+
 /// Handles a token between the head and the body.
-pub(crate) fn after_head(page: &mut Page, token: Token) -> Result<Option<Token>, Halt>
+pub(crate) fn after_head(page: &mut Page, token: Token) -> Result<Option<Token>, AllocError>
     ensures { Turns result (bodies.after_head (token_of token) (page_of page.old))
         (page_of page.new) }
 {
     match token {
         Token::Char(c) if is_space(c) => page.add_char(c)?,
-        Token::Start(start) if start.name.is(Kind::Html) => repeat(page, &start)?,
+        Token::Start(start) if start.name.is(Kind::Html) => repeat(page, start)?,
         Token::Start(start) if start.name.is(Kind::Body) => {
             open(page, start.name, start.attrs)?;
         }
         Token::Start(start) if start.name.is(Kind::Unread) => {
-            return Err(page.refusal(PageRefusal::UnreadElement));
+            page.refuse(PageRefusal::UnreadElement);
         }
-        Token::Start(start) if start.name.is(Kind::HeadContent) => {
-            return Err(page.refusal(PageRefusal::HeadReopened));
-        }
+        Token::Start(start) if start.name.is(Kind::HeadContent) => reopen_head(page, start)?,
         Token::Start(start) if start.name.is(Kind::Head) => {
             page.note(PageError::SecondStartTag)?;
         }
@@ -173,9 +181,8 @@ pub(crate) fn after_head(page: &mut Page, token: Token) -> Result<Option<Token>,
 }
 
 /// Handles a token in an element of text alone: its characters, and its end tag.
-pub(crate) fn in_text(page: &mut Page, token: Token) -> Result<Option<Token>, Halt>
-    ensures { Turns result (bodies.in_text (token_of token) (page_of page.old))
-        (page_of page.new) }
+pub(crate) fn in_text(page: &mut Page, token: Token) -> Result<Option<Token>, AllocError>
+    ensures { Turns result (bodies.in_text (token_of token) (page_of page.old)) (page_of page.new) }
 {
     match token {
         Token::Char(c) => page.add_char(c)?,

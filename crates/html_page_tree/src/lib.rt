@@ -1,5 +1,5 @@
 //! Tree construction: the element that the tokens of a page make, as in a browser (HTML Standard
-//! 13.2.6). Reading stops if nodes would be moved or made a second time.
+//! 13.2.6). A page is refused if nodes would be moved or made a second time.
 #![tactic(auto)]
 
 mod body_end;

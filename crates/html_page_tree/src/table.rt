@@ -1,8 +1,8 @@
 //! Tokens in a table (HTML Standard 13.2.6.4.9 to 13.2.6.4.15).
 
-ghost use Rattle.std.specs.Prelude.{◌≡◌, codes};
+ghost use Rattle.std.specs.Prelude.{◌≡◌, OnOk, codes};
 ghost use Rattle.html_page_names.specs.PageNames.{of};
-ghost use Rattle.html_page_stack.specs.{Endings.{Steps, Turns}, PageViews.{page_of, start_of, target_test, token_of}};
+ghost use Rattle.html_page_stack.specs.{Endings.{Turns}, PageViews.{page_of, start_of, target_test, token_of}};
 ghost use Rattle.html_page_tree.specs.PageTrees as trees;
 
 use crate::body_end::{in_body, in_body_end};
@@ -11,11 +11,12 @@ use crate::head::{is_space, leave};
 use html_names_core::{HtmlTag, tag};
 use html_page_names::Kind;
 use html_page_stack::{
-    Bound, Goal, Halt, Page, PageError, PageRefusal, Scope, StartTag, TagName, Target, Token,
+    Bound, Destination, Goal, Page, PageError, PageRefusal, Scope, StartTag, TagName, Target, Token,
 };
+use std::alloc::AllocError;
 
 /// Opens a part of a table that no tag begins, before the start tag.
-fn imply_part(page: &mut Page, tag: HtmlTag, start: StartTag) -> Result<Option<Token>, Halt>
+fn imply_part(page: &mut Page, tag: HtmlTag, start: StartTag) -> Result<Option<Token>, AllocError>
     ensures { Turns result (trees.part_implied tag (start_of start) (page_of page.old))
         (page_of page.new) }
 {
@@ -24,25 +25,25 @@ fn imply_part(page: &mut Page, tag: HtmlTag, start: StartTag) -> Result<Option<T
 }
 
 #[tactic(auto, unfolding(html_names_core::specs::Tables::known_tags))]
-fn imply_colgroup(page: &mut Page, start: StartTag) -> Result<Option<Token>, Halt>
-    ensures { Turns result (trees.part_implied (codes "colgroup") (start_of start)
-        (page_of page.old)) (page_of page.new) }
+fn imply_colgroup(page: &mut Page, start: StartTag) -> Result<Option<Token>, AllocError>
+    ensures { Turns result (trees.part_implied (codes "colgroup") (start_of start) (page_of page.old))
+        (page_of page.new) }
 {
     imply_part(page, tag::colgroup, start)
 }
 
 #[tactic(auto, unfolding(html_names_core::specs::Tables::known_tags))]
-fn imply_tbody(page: &mut Page, start: StartTag) -> Result<Option<Token>, Halt>
-    ensures { Turns result (trees.part_implied (codes "tbody") (start_of start)
-        (page_of page.old)) (page_of page.new) }
+fn imply_tbody(page: &mut Page, start: StartTag) -> Result<Option<Token>, AllocError>
+    ensures { Turns result (trees.part_implied (codes "tbody") (start_of start) (page_of page.old))
+        (page_of page.new) }
 {
     imply_part(page, tag::tbody, start)
 }
 
 #[tactic(auto, unfolding(html_names_core::specs::Tables::known_tags))]
-fn imply_tr(page: &mut Page, start: StartTag) -> Result<Option<Token>, Halt>
-    ensures { Turns result (trees.part_implied (codes "tr") (start_of start)
-        (page_of page.old)) (page_of page.new) }
+fn imply_tr(page: &mut Page, start: StartTag) -> Result<Option<Token>, AllocError>
+    ensures { Turns result (trees.part_implied (codes "tr") (start_of start) (page_of page.old))
+        (page_of page.new) }
 {
     imply_part(page, tag::tr, start)
 }
@@ -55,7 +56,7 @@ fn begins_part(name: &TagName) -> bool
 }
 
 /// Handles a start tag in a table that begins none of its parts.
-fn other_start_in_table(page: &mut Page, start: StartTag) -> Result<Option<Token>, Halt>
+fn other_start_in_table(page: &mut Page, start: StartTag) -> Result<Option<Token>, AllocError>
     ensures { Turns result (trees.in_table_other (start_of start) (page_of page.old))
         (page_of page.new) }
 {
@@ -66,18 +67,18 @@ fn other_start_in_table(page: &mut Page, start: StartTag) -> Result<Option<Token
         return Ok(Some(Token::Start(start)));
     }
     if name.is(Kind::ScriptOrStyle) {
-        add_to_head(page, start)?;
+        add_to_head(page, Destination::Parent, start)?;
     } else if name.is(Kind::Root) {
-        repeat(page, &start)?;
+        repeat(page, start)?;
     } else if name.is(Kind::Misplaced) {
         page.note(PageError::IgnoredStartTag)?;
     } else {
-        return Err(page.refusal(PageRefusal::FosterParenting));
+        page.refuse(PageRefusal::FosterParenting);
     }
     Ok(None)
 }
 
-fn start_in_table(page: &mut Page, start: StartTag) -> Result<Option<Token>, Halt>
+fn start_in_table(page: &mut Page, start: StartTag) -> Result<Option<Token>, AllocError>
     ensures { Turns result (trees.in_table_start (start_of start) (page_of page.old))
         (page_of page.new) }
 {
@@ -95,23 +96,24 @@ fn start_in_table(page: &mut Page, start: StartTag) -> Result<Option<Token>, Hal
     other_start_in_table(page, start)
 }
 
-fn end_in_table(page: &mut Page, name: TagName) -> Result<Option<Token>, Halt>
-    ensures { Turns result (trees.in_table_end name.tag (page_of page.old))
-        (page_of page.new) }
+fn end_in_table(page: &mut Page, name: TagName) -> Result<Option<Token>, AllocError>
+    ensures { Turns result (trees.in_table_end name.tag (page_of page.old)) (page_of page.new) }
 {
     if name.is(Kind::Table) {
         page.close_to(Target::Kind(Kind::Table))?;
         return Ok(None);
     }
     if name.is(Kind::P) || name.is(Kind::Br) {
-        return Err(page.refusal(PageRefusal::FosterParenting));
+        page.refuse(PageRefusal::FosterParenting);
+        return Ok(None);
     }
     if name.is(Kind::Form)
         && page
             .stack
             .reaches(Goal::Of(Target::Kind(Kind::Form)), Bound::Nothing)
     {
-        return Err(page.refusal(PageRefusal::CrossedElement));
+        page.refuse(PageRefusal::CrossedElement);
+        return Ok(None);
     }
     page.lost.forget(&name.tag);
     page.note(PageError::EndTagWithoutStart)?;
@@ -120,16 +122,16 @@ fn end_in_table(page: &mut Page, name: TagName) -> Result<Option<Token>, Halt>
 
 /// Handles a token in a table, if the current node is the table or one of its parts other than a
 /// cell or a caption.
-pub(crate) fn in_table(page: &mut Page, token: Token) -> Result<Option<Token>, Halt>
-    ensures { Turns result (trees.in_table (token_of token) (page_of page.old))
-        (page_of page.new) }
+pub(crate) fn in_table(page: &mut Page, token: Token) -> Result<Option<Token>, AllocError>
+    ensures { Turns result (trees.in_table (token_of token) (page_of page.old)) (page_of page.new) }
 {
     match token {
         Token::Char(c) => {
-            if !is_space(c) {
-                return Err(page.refusal(PageRefusal::FosterParenting));
+            if is_space(c) {
+                page.add_char(c)?;
+            } else if c != '\0' {
+                page.refuse(PageRefusal::FosterParenting);
             }
-            page.add_char(c)?;
             Ok(None)
         }
         Token::Start(start) => start_in_table(page, start),
@@ -139,14 +141,14 @@ pub(crate) fn in_table(page: &mut Page, token: Token) -> Result<Option<Token>, H
 }
 
 /// Handles a token in a column group.
-pub(crate) fn in_columns(page: &mut Page, token: Token) -> Result<Option<Token>, Halt>
+pub(crate) fn in_columns(page: &mut Page, token: Token) -> Result<Option<Token>, AllocError>
     ensures { Turns result (trees.in_columns (token_of token) (page_of page.old))
         (page_of page.new) }
 {
     match token {
         Token::Char(c) if is_space(c) => page.add_char(c)?,
         Token::Start(start) if start.name.is(Kind::Col) => add_leaf(page, start)?,
-        Token::Start(start) if start.name.is(Kind::Html) => repeat(page, &start)?,
+        Token::Start(start) if start.name.is(Kind::Html) => repeat(page, start)?,
         Token::End(name) if name.is(Kind::Colgroup) => page.close(true)?,
         Token::End(name) if name.is(Kind::Col) || name.is(Kind::Template) => {
             page.note(PageError::EndTagWithoutStart)?;
@@ -158,7 +160,7 @@ pub(crate) fn in_columns(page: &mut Page, token: Token) -> Result<Option<Token>,
 }
 
 /// Handles a token in a section of a table.
-pub(crate) fn in_section(page: &mut Page, token: Token) -> Result<Option<Token>, Halt>
+pub(crate) fn in_section(page: &mut Page, token: Token) -> Result<Option<Token>, AllocError>
     ensures { Turns result (trees.in_section (token_of token) (page_of page.old))
         (page_of page.new) }
 {
@@ -192,9 +194,8 @@ fn ends_around_row(page: &Page, name: &TagName) -> bool
         || (name.is(Kind::Section) && page.in_scope(Scope::Table, Target::Named(&name.tag)))
 }
 
-pub(crate) fn in_row(page: &mut Page, token: Token) -> Result<Option<Token>, Halt>
-    ensures { Turns result (trees.in_row (token_of token) (page_of page.old))
-        (page_of page.new) }
+pub(crate) fn in_row(page: &mut Page, token: Token) -> Result<Option<Token>, AllocError>
+    ensures { Turns result (trees.in_row (token_of token) (page_of page.old)) (page_of page.new) }
 {
     match token {
         Token::Start(start) if start.name.is(Kind::Cell) => {
@@ -213,15 +214,22 @@ pub(crate) fn in_row(page: &mut Page, token: Token) -> Result<Option<Token>, Hal
     }
 }
 
+/// Closes a cell or a caption, and records an error unless it is the current node.
+fn close_current_part(page: &mut Page, part: Kind) -> Result<(), AllocError>
+    ensures { OnOk result (page_of page.new
+        ≡ trees.current_part_closed (of part) (page_of page.old)) }
+{
+    let is_error = !page.stack.is_at(part);
+    page.note_if(is_error, PageError::CellOverOpenElements)?;
+    page.close_to(Target::Kind(part))
+}
+
 /// Closes a cell or a caption.
-fn close_part(page: &mut Page, part: Kind) -> Result<(), Halt>
-    ensures { Steps result (trees.part_closed (of part) (page_of page.old))
-        (page_of page.new) }
+fn close_part(page: &mut Page, part: Kind) -> Result<(), AllocError>
+    ensures { OnOk result (page_of page.new ≡ trees.part_closed (of part) (page_of page.old)) }
 {
     page.close_implied(Target::Nothing)?;
-    let agrees = !page.stack.is_at(part);
-    page.note_if(agrees, PageError::CellOverOpenElements)?;
-    page.close_to(Target::Kind(part))
+    close_current_part(page, part)
 }
 
 /// Handles an end tag in a cell or in a caption, given whether such end tags close it.
@@ -230,7 +238,7 @@ fn end_in_part(
     part: Kind,
     closes: bool,
     name: TagName,
-) -> Result<Option<Token>, Halt>
+) -> Result<Option<Token>, AllocError>
     ensures { Turns result (trees.in_part_end (of part) closes name.tag (page_of page.old))
         (page_of page.new) }
 {
@@ -250,7 +258,7 @@ fn end_in_part(
 }
 
 /// Handles a start tag in a cell or in a caption.
-fn start_in_part(page: &mut Page, part: Kind, start: StartTag) -> Result<Option<Token>, Halt>
+fn start_in_part(page: &mut Page, part: Kind, start: StartTag) -> Result<Option<Token>, AllocError>
     ensures { Turns result (trees.in_part_start (of part) (start_of start) (page_of page.old))
         (page_of page.new) }
 {
@@ -261,9 +269,8 @@ fn start_in_part(page: &mut Page, part: Kind, start: StartTag) -> Result<Option<
     in_body_start(page, start)
 }
 
-pub(crate) fn in_cell(page: &mut Page, token: Token) -> Result<Option<Token>, Halt>
-    ensures { Turns result (trees.in_cell (token_of token) (page_of page.old))
-        (page_of page.new) }
+pub(crate) fn in_cell(page: &mut Page, token: Token) -> Result<Option<Token>, AllocError>
+    ensures { Turns result (trees.in_cell (token_of token) (page_of page.old)) (page_of page.new) }
 {
     match token {
         Token::End(name) => {
@@ -278,7 +285,7 @@ pub(crate) fn in_cell(page: &mut Page, token: Token) -> Result<Option<Token>, Ha
     }
 }
 
-pub(crate) fn in_caption(page: &mut Page, token: Token) -> Result<Option<Token>, Halt>
+pub(crate) fn in_caption(page: &mut Page, token: Token) -> Result<Option<Token>, AllocError>
     ensures { Turns result (trees.in_caption (token_of token) (page_of page.old))
         (page_of page.new) }
 {

@@ -1,7 +1,7 @@
 //! The steps of a token in a page (HTML Standard 13.2.6).
 
-ghost use Rattle.std.specs.Prelude.{◌≡◌};
-ghost use Rattle.html_page_stack.specs.{Endings.{Changes, Steps, Turns}, OpenElements.{mode}, PageViews.{page_of, start_of, token_of}};
+ghost use Rattle.std.specs.Prelude.{◌≡◌, OnOk};
+ghost use Rattle.html_page_stack.specs.{Endings.{Turns}, OpenElements.{mode}, PageViews.{page_of, start_of, token_of}};
 ghost use Rattle.html_page_stack.specs.Pages as pages;
 ghost use Rattle.html_page_tree.specs.BodyStarts.{begins_in_body};
 ghost use Rattle.html_page_tree.specs.PageTrees as trees;
@@ -15,9 +15,8 @@ use crate::head::{
 };
 use crate::table::{in_caption, in_cell, in_columns, in_row, in_section, in_table};
 use html_page_names::Kind;
-use html_page_stack::{
-    Halt, Mode, Page, PageError, PageRefusal, StartTag, TableRule, TagName, Token,
-};
+use html_page_stack::{Mode, Page, PageError, PageRefusal, StartTag, TableRule, TagName, Token};
+use std::alloc::AllocError;
 
 /// The greatest number of times that a token is processed again.
 const MOST_TURNS: usize = 7;
@@ -32,9 +31,9 @@ fn is_space_token(token: &Token) -> bool
 }
 
 /// Handles a token by the rules of the insertion mode.
-pub(crate) fn by_mode(page: &mut Page, token: Token) -> Result<Option<Token>, Halt>
-    ensures { Turns result (trees.by_mode (mode (page_of page.old).stack) (token_of token)
-        (page_of page.old)) (page_of page.new) }
+pub(crate) fn by_mode(page: &mut Page, token: Token) -> Result<Option<Token>, AllocError>
+    ensures { Turns result (trees.by_mode (mode (page_of page.old).stack) (token_of token) (page_of page.old))
+        (page_of page.new) }
 {
     match page.stack.mode() {
         Mode::BeforeHtml => before_html(page, token),
@@ -67,9 +66,8 @@ fn begins_in_body(page: &Page, name: &TagName) -> bool
     }
 }
 
-fn other_turn(page: &mut Page, token: Token) -> Result<Option<Token>, Halt>
-    ensures { Turns result (trees.turn (token_of token) (page_of page.old))
-        (page_of page.new) }
+fn other_turn(page: &mut Page, token: Token) -> Result<Option<Token>, AllocError>
+    ensures { Turns result (trees.turn (token_of token) (page_of page.old)) (page_of page.new) }
 {
     if is_foreign(page, &token) {
         in_foreign(page, token)
@@ -78,7 +76,7 @@ fn other_turn(page: &mut Page, token: Token) -> Result<Option<Token>, Halt>
     }
 }
 
-fn start_turn(page: &mut Page, start: StartTag) -> Result<Option<Token>, Halt>
+fn start_turn(page: &mut Page, start: StartTag) -> Result<Option<Token>, AllocError>
     ensures { Turns result (trees.turn (pages.Start (start_of start)) (page_of page.old))
         (page_of page.new) }
 {
@@ -89,9 +87,8 @@ fn start_turn(page: &mut Page, start: StartTag) -> Result<Option<Token>, Halt>
     }
 }
 
-fn turn(page: &mut Page, token: Token) -> Result<Option<Token>, Halt>
-    ensures { Turns result (trees.turn (token_of token) (page_of page.old))
-        (page_of page.new) }
+fn turn(page: &mut Page, token: Token) -> Result<Option<Token>, AllocError>
+    ensures { Turns result (trees.turn (token_of token) (page_of page.old)) (page_of page.new) }
 {
     match token {
         Token::Start(start) => start_turn(page, start),
@@ -100,9 +97,9 @@ fn turn(page: &mut Page, token: Token) -> Result<Option<Token>, Halt>
 }
 
 #[tactic(auto, using(crate::proofs::Turning::processed_once, crate::proofs::Turning::processed_out))]
-fn process_again(page: &mut Page, token: Token) -> Result<(), Halt>
-    ensures { Steps result (trees.processed 7 (token_of token) (page_of page.old))
-        (page_of page.new) }
+fn process_again(page: &mut Page, token: Token) -> Result<(), AllocError>
+    ensures { OnOk result (page_of page.new
+        ≡ trees.processed 7 (token_of token) (page_of page.old)) }
 {
     let mut token = token;
     for count in 0..MOST_TURNS {
@@ -111,13 +108,14 @@ fn process_again(page: &mut Page, token: Token) -> Result<(), Halt>
             Some(again) => token = again,
         }
     }
-    Err(page.refusal(PageRefusal::Unsettled))
+    page.refuse(PageRefusal::Unsettled);
+    Ok(())
 }
 
 #[tactic(auto, unfolding(crate::specs::PageTrees::processed))]
-fn process(page: &mut Page, token: Token) -> Result<(), Halt>
-    ensures { Steps result (trees.processed 8 (token_of token) (page_of page.old))
-        (page_of page.new) }
+fn process(page: &mut Page, token: Token) -> Result<(), AllocError>
+    ensures { OnOk result (page_of page.new
+        ≡ trees.processed 8 (token_of token) (page_of page.old)) }
 {
     match turn(page, token)? {
         None => Ok(()),
@@ -126,8 +124,8 @@ fn process(page: &mut Page, token: Token) -> Result<(), Halt>
 }
 
 /// Handles a token without a document type before it: a table keeps a `p` open.
-fn begin_untyped(page: &mut Page) -> Result<(), Halt>
-    ensures { Changes result (trees.begun_untyped (page_of page.old)) (page_of page.new) }
+fn begin_untyped(page: &mut Page) -> Result<(), AllocError>
+    ensures { OnOk result (page_of page.new ≡ trees.begun_untyped (page_of page.old)) }
 {
     page.tables = TableRule::KeepsP;
     page.note(PageError::NoDocumentType)
@@ -161,9 +159,9 @@ pub fn takes_text(page: &Page) -> bool
 /// Reads a token. Without a document type before it, a table keeps a `p` open (HTML Standard
 /// 13.2.6.4.1).
 #[tactic(auto, unfolding(crate::specs::PageTrees::token_read))]
-pub fn read_token(page: &mut Page, token: Token) -> Result<(), Halt>
-    ensures { Steps result (trees.token_read (token_of token) (page_of page.old))
-        (page_of page.new) }
+pub fn read_token(page: &mut Page, token: Token) -> Result<(), AllocError>
+    ensures { OnOk result (page_of page.new
+        ≡ trees.token_read (token_of token) (page_of page.old)) }
 {
     if !is_unseen(page) {
         return process(page, token);

@@ -3,8 +3,8 @@ use Rattle.std.specs.{Prelude.{◌≡◌, ℕ, List, chars, if◌then◌else◌,
 use Rattle.std.specs.Str.Lossy.{utf8_valid_len}
 use Rattle.serde_json.specs.{Data.{Data}, Written.{compact_text}}
 use Rattle.html_dom_tree.specs.Tree.{ElementView}
-use Rattle.html_page_read.specs.{PageAnswers.{valid_text}, PagePlaces.{place_at}, PageReading.{page_read}}
-use Rattle.html_page_stack.specs.{PageRefusals.{refusal_number}, Pages.{Notes, Reads}}
+use Rattle.html_page_read.specs.{PageAnswers.{valid_text}, PagePlaces.{place_at}, PageReading.{PageResult, page_read}}
+use Rattle.html_page_stack.specs.{PageRefusals.{refusal_number}, Pages.{Notes}}
 use Rattle.html_text.specs.declared.place.Place.{Place}
 use Rattle.typst_html_ffi.specs.{CallReplies.{buffer_with, page_limit_of, text_reply, without_text}, declared.reply.Reply.{Reply}}
 
@@ -31,7 +31,7 @@ no_text_place page = place_at (valid_text page) (utf8_valid_len page)
 module _ (data_of : (text : List ℕ) → ElementView → Data) where
   -- the report on a page that was read with that result: the data, or the number of the refusal and
   -- its place
-  abbrev pub report_of : (text : List ℕ) → Reads (ElementView × Notes) → Report
+  abbrev pub report_of : (text : List ℕ) → PageResult → Report
   report_of text (Ok read) = Ok (compact_text (data_of text read.0))
   report_of text (Err refused) = Err (placed 1 (refusal_number refused.0) (place_at text refused.1))
 

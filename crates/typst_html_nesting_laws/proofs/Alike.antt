@@ -11,10 +11,10 @@ use Rattle.html_page_nesting.specs.declared.reading.Reading.TheVariants as readi
 use Rattle.html_page_names.specs.PageNames.{of}
 use Rattle.html_page_names.specs.declared.kind.Kind.TheVariants as kind
 use Rattle.html_page_stack.specs.{Pages.{StartTag, Start}, declared.modes.{Mode.{Mode}, Scope.TheVariants.{General, Button}}}
-use Rattle.html_page_stack.specs.OpenElements.{OpenElement, at, bounds, bounds_general, current_space, in_scope, is_active, is_at, is_foreign_bound, has_item, mode, named_mode}
+use Rattle.html_page_stack.specs.OpenElements.{OpenElement, at, bounds, bounds_general, current_space, in_scope, is_active, is_at, is_foreign_bound, has_item, holds_html_in, holds_text_in, mode, named_mode, says_html}
 use Rattle.html_page_stack.specs.OpenElements as open_elements
 use Rattle.html_page_stack.specs.declared.modes.Space.TheVariants as spaces
-use Rattle.html_page_tree.specs.PageTrees.{holds_html_in, holds_svg_in, holds_text_in, is_foreign_token, says_html}
+use Rattle.html_page_tree.specs.PageTrees.{holds_svg_in, is_foreign_token}
 use Rattle.typst_html_nesting_laws.proofs.{KindFacts.{fails_of, names}, Modes.{mode_in, place_mode}, Branches.{decide}}
 use Rattle.typst_html_nesting_laws.proofs.Ways.{AreAlike, HaveNoTemplate, IsAlike, open_space}
 

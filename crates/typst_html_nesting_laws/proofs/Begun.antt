@@ -1,5 +1,5 @@
 -- The start tag of an element that breaks no rule opens it, and does nothing else.
-use Rattle.std.{proofs.Common.{◌≡◌, ◌<◌, true, false, not, List, length, refl, sym, ap, ◌∙◌, Ok}, specs.Prelude.{if◌then◌else◌, None}}
+use Rattle.std.{proofs.Common.{◌≡◌, ◌<◌, true, false, not, List, length, refl, sym, ap, ◌∙◌}, specs.Prelude.{if◌then◌else◌, None}}
 use Rattle.std.proofs.lemmas.Bool.{false≢true, not-false, not-true}
 use Rattle.html_names_core.specs.Kinds.{is_void}
 use Rattle.html_dom_tree.specs.Tree.{Head, NodesView}
@@ -10,7 +10,7 @@ use Rattle.html_page_nesting.specs.declared.surroundings.Surroundings.{Surroundi
 use Rattle.html_page_nesting.specs.declared.reading.Place.TheVariants as place
 use Rattle.html_page_names.specs.{ForeignNames.{lowered}, PageNames.{of}}
 use Rattle.html_page_names.specs.declared.kind.Kind.TheVariants as kind
-use Rattle.html_page_stack.specs.{OpenElements.{mode}, Pages.{Page, Reads, Start, StartTag, Turn, closed, taken}}
+use Rattle.html_page_stack.specs.{OpenElements.{mode}, Pages.{Page, Start, StartTag, Turn, closed, Taken}}
 use Rattle.html_page_tree.specs.PageTrees.{by_mode, is_foreign_token, token_read, turn}
 use Rattle.typst_html_nesting_laws.proofs.{Alike.{length_is, mode_is, start_foreign}, BegunForeign.{foreign_taken}, Modes.{mode_in}}
 use Rattle.typst_html_nesting_laws.proofs.{BegunInBody.{body_taken, stays_in_body}, BegunInTables.{place_taken}, Opened.{Opens, one_of}}
@@ -23,8 +23,8 @@ module _ (tag : StartTag) (above : List Ancestor) (p q : Page) (calm : IsCalm ab
     (steady : IsSteady above p.stack) (ops : Opens tag p q)
     (plain : of kind.Template tag.name ≡ false) (ends : has_unread_end tag.name ≡ false)
     (inside : is_page_place (place_of above) ≡ false) where
-  abbrev result : Reads Turn
-  result = taken (one_of (is_void tag.name) q)
+  abbrev result : Turn
+  result = Taken (one_of (is_void tag.name) q)
 
   by_place : (l : Place) → place_of above ≡ l → named_misnesting l tag.name (surroundings_of above)
       ≡ None → by_mode (mode p.stack) (Start tag) p ≡ result
@@ -48,7 +48,7 @@ module _ (above : List Ancestor) (h : Head) (kids : NodesView) (p : Page) (calm 
   q = begun h above p
 
   html_taken : is_read_as_html (reading_of above) h.name ≡ true →
-      by_mode (mode p.stack) (Start tag) p ≡ taken (one_of (ends_at_once h) q)
+      by_mode (mode p.stack) (Start tag) p ≡ Taken (one_of (ends_at_once h) q)
   html_taken e =
       let s = space_of (reading_of above) h.name in
       let is : s ≡ begun_space h.name = rw e refl in
@@ -59,7 +59,7 @@ module _ (above : List Ancestor) (h : Head) (kids : NodesView) (p : Page) (calm 
       (rw small plain) (rw small content.ends) inside (place_of above) refl
       (rw small (named_kept h kids around rules e)) ∙ rw (small, content.unclosed) refl
 
-  turned : turn (Start tag) p ≡ taken (one_of (ends_at_once h) q)
+  turned : turn (Start tag) p ≡ Taken (one_of (ends_at_once h) q)
   turned =
       let reads = is_read_as_html (reading_of above) h.name in
       let kept = tag_fits h kids around rules in
@@ -75,7 +75,7 @@ pub start_taken : (above : List Ancestor) (h : Head) (kids : NodesView) (p : Pag
     IsCalm above p → IsSteady above p.stack → is_page_place (place_of above) ≡ false →
     element_misnesting h kids (surroundings_of above) ≡ None → of kind.Template h.name ≡ false →
     length above < p.limit → token_read (Start (written_tag h)) p
-    ≡ (if ends_at_once h then closed true (begun h above p) else Ok (begun h above p))
+    ≡ (if ends_at_once h then closed true (begun h above p) else begun h above p)
 start_taken above h kids p calm steady inside rules plain deep =
     let fits : length p.stack < p.limit = rw (length_is above p.stack calm.alike) deep in
     turn_taken (Start (written_tag h)) p (one_of (ends_at_once h) (begun h above p)) calm.tables

@@ -7,7 +7,7 @@ use Rattle.html_page_nesting.specs.{Surroundings.{surroundings_of}, declared.sur
 use Rattle.html_page_nesting.specs.declared.misnesting.Misnesting.TheVariants as why
 use Rattle.html_page_names.specs.PageNames.{of}
 use Rattle.html_page_names.specs.declared.kind.Kind.TheVariants as kind
-use Rattle.html_page_stack.specs.{Pages.{Page, Start, StartTag, taken}, declared.modes.Mode.{Mode, TheVariants.{InBody, InCaption, InCell}}}
+use Rattle.html_page_stack.specs.{Pages.{Page, Start, StartTag, Taken}, declared.modes.Mode.{Mode, TheVariants.{InBody, InCaption, InCell}}}
 use Rattle.html_page_tree.specs.{PageBodies.{element_begun, in_body_start, inserted, is_nested}, PageTrees.{by_mode}}
 use Rattle.typst_html_nesting_laws.proofs.{Branches.{either, first_false, if_none, second_false, skip, decide}, Ways.{IsCalm, is_body_mode}}
 use Rattle.typst_html_nesting_laws.proofs.ClosedBefore.{ClosesNone, closes_none, none_same_open, nothing_closed, nothing_formatted, select_none}
@@ -76,15 +76,15 @@ module _ (tag : StartTag) (above : List Ancestor) (p q : Page) (calm : IsCalm ab
         nothing_formatted n above p calm stays.closing,
       ) (insert_taken head)
 
-  body_start_taken : in_body_start tag p ≡ taken (one_of (is_void n) q)
+  body_start_taken : in_body_start tag p ≡ Taken (one_of (is_void n) q)
   body_start_taken = skip _ stays.root
-      (either (of kind.HeadContent n) (λ h. ap taken (head_begun tag p q ops h ends))
+      (either (of kind.HeadContent n) (λ h. ap Taken (head_begun tag p q ops h ends))
       (λ head. skip _ stays.unread (skip _ stays.misplaced (skip _ stays.image (skip _ form_none
-      (skip _ (select_none n above p calm stays.closing) (ap taken (begin_taken head))))))))
+      (skip _ (select_none n above p calm stays.closing) (ap Taken (begin_taken head))))))))
 
   -- in each mode of a body
   pub body_taken : (m : Mode) → is_body_mode m ≡ true →
-      by_mode m (Start tag) p ≡ taken (one_of (is_void n) q)
+      by_mode m (Start tag) p ≡ Taken (one_of (is_void n) q)
   body_taken InBody h = body_start_taken
   body_taken InCaption h = skip _ stays.part body_start_taken
   body_taken InCell h = skip _ stays.part body_start_taken

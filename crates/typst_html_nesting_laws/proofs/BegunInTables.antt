@@ -6,7 +6,7 @@ use Rattle.html_page_nesting.specs.{Contents.{has_unread_end}, NestingRules.{has
 use Rattle.html_page_nesting.specs.declared.reading.Place.TheVariants as place
 use Rattle.html_page_names.specs.{PageNames.{kind_names, of}, declared.kind.Kind.{Kind}}
 use Rattle.html_page_names.specs.declared.kind.Kind.TheVariants as kind
-use Rattle.html_page_stack.specs.{Pages.{Page, Reads, Start, StartTag, Turn, opened, taken}, declared.modes.Mode.{Mode}}
+use Rattle.html_page_stack.specs.{Pages.{Page, Start, StartTag, Turn, opened, Taken}, declared.modes.{Destination.TheVariants.{Parent}, Mode.{Mode}}}
 use Rattle.html_page_stack.specs.declared.modes.Mode.TheVariants.{InHead, InHeadNoscript, InTable, InColumns, InSection, InRow}
 use Rattle.html_page_tree.specs.{PageBodies.{head_element, leaf}, PageTrees.{by_mode}}
 use Rattle.typst_html_nesting_laws.proofs.{Branches.{first_true, of_two}, KindFacts.{AllPass, agree_of, names, passes_of}, Modes.{mode_in}}
@@ -25,33 +25,33 @@ module _ (tag : StartTag) (p q : Page) (ops : Opens tag p q)
   abbrev with_name : List ℕ → StartTag
   with_name m = record { name = m; attrs = tag.attrs; closed = tag.closed }
 
-  abbrev result : Reads Turn
-  result = taken (one_of (is_void n) q)
+  abbrev result : Turn
+  result = Taken (one_of (is_void n) q)
 
-  abbrev read_in : Mode → List ℕ → Reads Turn
+  abbrev read_in : Mode → List ℕ → Turn
   read_in m l = by_mode m (Start (with_name l)) p
 
   -- a kind of elements that the rules of a mode open as they stand
   part : (m : Mode) (k : Kind) →
-      map (read_in m) (kind_names k) ≡ map (λ l. taken (opened l tag.attrs p)) (kind_names k) →
+      map (read_in m) (kind_names k) ≡ map (λ l. Taken (opened l tag.attrs p)) (kind_names k) →
       AllPass (λ l. not (is_void l) && is_html_name l) (kind_names k) → of k n ≡ true →
       by_mode m (Start tag) p ≡ result
   part m k same whole h =
       let test = λ (l : List ℕ). not (is_void l) && is_html_name l in
       let a = and_parts _ _ (passes_of test k n whole h) in
       let b = and_parts _ _ a.1 in
-      agree_of (read_in m) (λ l. taken (opened l tag.attrs p)) k n same h
-      ∙ ap taken (ops.plain (not-true _ b.0) (not-true _ b.1)
+      agree_of (read_in m) (λ l. Taken (opened l tag.attrs p)) k n same h
+      ∙ ap Taken (ops.plain (not-true _ b.0) (not-true _ b.1)
       ∙ ap (λ v. one_of v q) (sym (not-true _ a.0)))
 
   -- or as elements of a head
   content : (m : Mode) (k : Kind) → map (read_in m) (kind_names k)
-      ≡ map (λ l. taken (head_element (with_name l) p)) (kind_names k) →
+      ≡ map (λ l. Taken (head_element Parent (with_name l) p)) (kind_names k) →
       AllPass (of kind.HeadContent) (kind_names k) → of k n ≡ true →
       by_mode m (Start tag) p ≡ result
   content m k same head h =
-      agree_of (read_in m) (λ l. taken (head_element (with_name l) p)) k n same h
-      ∙ ap taken (head_begun tag p q ops (passes_of (of kind.HeadContent) k n head h) ends)
+      agree_of (read_in m) (λ l. Taken (head_element Parent (with_name l) p)) k n same h
+      ∙ ap Taken (head_begun tag p q ops (passes_of (of kind.HeadContent) k n head h) ends)
 
   script : is_in_tables n ≡ true → of kind.ScriptOrStyle n ≡ true
   script h = first_true h plain
@@ -61,8 +61,8 @@ module _ (tag : StartTag) (p q : Page) (ops : Opens tag p q)
       let test = λ (l : List ℕ). is_void l && is_html_name l in
       let a = and_parts _ _ (passes_of test kind.Col n (unfold names in refl) h) in
       let b = and_parts _ _ a.1 in
-      agree_of (read_in InColumns) (λ l. taken (leaf (with_name l) p)) kind.Col n
-      (unfold names in refl) h ∙ ap taken (leaf_begun tag p q ops (not-true _ b.0) (not-true _ b.1)
+      agree_of (read_in InColumns) (λ l. Taken (leaf (with_name l) p)) kind.Col n
+      (unfold names in refl) h ∙ ap Taken (leaf_begun tag p q ops (not-true _ b.0) (not-true _ b.1)
       ∙ ap (λ v. one_of v q) (sym a.0))
 
   -- by the rules of the mode of that place, if it is one

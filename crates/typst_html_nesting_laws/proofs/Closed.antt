@@ -1,5 +1,5 @@
 -- What is open once a start tag is read, and once the current node is closed.
-use Rattle.std.proofs.Common.{◌≡◌, ℕ, Bool, true, false, ◌&&◌, List, [], ◌∷◌, refl, sym, ap, subst, ◌∙◌, Ok}
+use Rattle.std.proofs.Common.{◌≡◌, ℕ, Bool, true, false, ◌&&◌, List, [], ◌∷◌, refl, sym, ap, subst, ◌∙◌}
 use Rattle.std.specs.Prelude.{if◌then◌else◌, Option, Some, None}
 use Rattle.html_dom_tree.specs.Tree.{Head}
 use Rattle.html_page_nesting.specs.Ancestors.{Ancestor, ancestor}
@@ -56,18 +56,22 @@ behind_current l p =
 
 closed_at : (o : OpenElement) (os : List OpenElement) (p : Page) →
     closed true (record p { stack = o ∷ os; lost = marks (o ∷ os) })
-    ≡ Ok (behind_current (marks os) (record p { stack = o ∷ os }))
-closed_at o os p = never (is_of (of kind.Whole) (with_text p.text o)) _ _
-    ∙ ap (λ l. Ok (behind_current l (record p { stack = o ∷ os }))) (lost_text p.text o os)
+    ≡ behind_current (marks os) (record p { stack = o ∷ os })
+closed_at o os p =
+    ap {A = Page} (λ q. record q {
+      stack = without_current (with_last_text p.text (o ∷ os));
+      lost = lost_with true (with_last_text p.text (o ∷ os)) (marks (o ∷ os));
+    }) (never (is_of (of kind.Whole) (with_text p.text o)) _ _)
+    ∙ ap (λ l. behind_current l (record p { stack = o ∷ os })) (lost_text p.text o os)
 
 -- the current node is closed, and nothing else is done
 pub closed_is : (p : Page) (o : OpenElement) (os : List OpenElement) → p.stack ≡ o ∷ os →
-    p.lost ≡ marks p.stack → closed true p ≡ Ok (record p {
+    p.lost ≡ marks p.stack → closed true p ≡ record p {
       text = [];
       stack = without_current (with_last_text p.text p.stack);
       lost = marks os;
-    })
-closed_is p o os e l = at_stack (λ q. closed true q ≡ Ok (behind_current (marks os) q)) p
+    }
+closed_is p o os e l = at_stack (λ q. closed true q ≡ behind_current (marks os) q) p
     (o ∷ os) (marks (o ∷ os)) e (l ∙ ap marks e) (closed_at o os p)
 
 -- texts and children change nothing of that

@@ -1,5 +1,5 @@
 -- The start tag of an element that breaks no rule closes nothing before it.
-use Rattle.std.proofs.Common.{◌≡◌, ℕ, zero, suc, Bool, true, false, not, ◌&&◌, ◌||◌, List, [], ◌∷◌, length, refl, sym, ap, ◌∙◌, Ok, arith}
+use Rattle.std.proofs.Common.{◌≡◌, ℕ, zero, suc, Bool, true, false, not, ◌&&◌, ◌||◌, List, [], ◌∷◌, length, refl, sym, ap, ◌∙◌, arith}
 use Rattle.std.proofs.lemmas.Bool.{and_from, and_left, and_parts, and_right, or_from, or_left, or_parts, or_right}
 use Rattle.std.specs.Prelude.{if◌then◌else◌, None}
 use Rattle.html_page_nesting.specs.{Ancestors.{Ancestor, bounds_scope, is_in, is_template}, Surroundings.{open_of, surroundings_of}}
@@ -10,11 +10,11 @@ use Rattle.html_page_nesting.specs.declared.misnesting.Misnesting.TheVariants as
 use Rattle.html_page_names.specs.{PageNames.{is, kind_names, of}, declared.kind.Kind.{Kind}}
 use Rattle.html_page_names.specs.declared.kind.Kind.TheVariants as kind
 use Rattle.html_page_stack.specs.OpenElements.{OpenElement, bounds, has, in_scope, is_at}
-use Rattle.html_page_stack.specs.Pages.{Page, ◌next◌, closed_while, implied_closed, is_lost, loses_some, no_name, noted, reconstructed}
+use Rattle.html_page_stack.specs.Pages.{Page, closed_while, implied_closed, is_lost, loses_some, no_name, reconstructed}
 use Rattle.html_page_stack.specs.declared.modes.Scope.TheVariants.{General, Button}
 use Rattle.html_page_stack.specs.OpenElements as elements
 use Rattle.html_page_stack.specs.declared.error.PageError.TheVariants as error
-use Rattle.html_page_tree.specs.PageBodies.{adopted, anchor_closed, closed_before, closed_before_block, formatted, heading_closed, item_closed, option_closed, p_closed, ruby_closed}
+use Rattle.html_page_tree.specs.PageBodies.{anchor_closed, closed_before, closed_before_block, formatted, heading_closed, item_closed, nobr_closed, option_closed, p_closed, p_closed_by_table, ruby_closed}
 use Rattle.html_names_core.proofs.Basics.{bytes_eq-same}
 use Rattle.typst_html_nesting_laws.proofs.Alike.{at_is, in_button_scope_is, in_scope_is, none_active, none_item, of_is, scope_is, unreached}
 use Rattle.typst_html_nesting_laws.proofs.Branches.{either, first_false, if_none, second_false, skip, decide}
@@ -80,7 +80,7 @@ closes_none n around h =
 -- searches and steps that do nothing
 
 while_not : (goes_on : List OpenElement → Bool) (at_most : ℕ) (p : Page) → goes_on p.stack ≡ false →
-    closed_while goes_on at_most p ≡ Ok p
+    closed_while goes_on at_most p ≡ p
 while_not goes_on zero p h = refl
 while_not goes_on (suc k) p h = rw h refl
 
@@ -107,13 +107,13 @@ module _ (n : List ℕ) (above : List Ancestor) (p : Page) (calm : IsCalm above 
   abbrev o : Open
   o = open_of above
 
-  p_kept : of kind.ClosesP n ≡ true → p_closed p ≡ Ok p
+  p_kept : of kind.ClosesP n ≡ true → p_closed p ≡ p
   p_kept h = skip _ (in_button_scope_is (of kind.P) above p.stack calm.alike
       ∙ first_false none.paragraph (or_left _ _ h)) refl
 
   -- of a kind whose start tags close a `p`
   p_kept_of : (k : Kind) → AllPass (of kind.ClosesP) (kind_names k) → of k n ≡ true →
-      p_closed p ≡ Ok p
+      p_closed p ≡ p
   p_kept_of k all h = p_kept (passes_of (of kind.ClosesP) k n all h)
 
   -- none of its own name
@@ -125,27 +125,27 @@ module _ (n : List ℕ) (above : List Ancestor) (p : Page) (calm : IsCalm above 
       let c = or_parts _ _ b.0 in
       (c.0, c.1, b.1, a.1)
 
-  anchor_kept : of kind.A n ≡ true → anchor_closed n p ≡ Ok p
+  anchor_kept : of kind.A n ≡ true → anchor_closed n p ≡ p
   anchor_kept h = skip _ (or_from _ _
       (none_active (of kind.A) above p.stack calm.alike calm.plain (second_false same_none.0 h))
       (ap (is_lost n) calm.lost ∙ marks_hold_none n p.stack)) refl
 
   -- elements whose end tag is implied
   implied_but : (but : List ℕ → Bool) →
-      (is_in (of kind.Implied) above && not (is_in but above)) ≡ false → implied_closed but p ≡ Ok p
+      (is_in (of kind.Implied) above && not (is_in but above)) ≡ false → implied_closed but p ≡ p
   implied_but but h = while_not (is_at (λ m. of kind.Implied m && not (but m))) (length p.stack) p
       (at_is (λ m. of kind.Implied m && not (but m)) above p.stack calm.alike
       ∙ (in_but but above ∙ h))
 
   implied_by : (t : Bool) (but : List ℕ → Bool) →
       (is_in (of kind.Implied) above && not (t && is_in but above)) ≡ false →
-      (if t then implied_closed but p else implied_closed no_name p) ≡ Ok p
+      (if t then implied_closed but p else implied_closed no_name p) ≡ p
   implied_by true but f = implied_but but f
   implied_by false but f = implied_but no_name (and_left _ _ (first_false f refl))
 
   in_select : o.select ≡ true → (is_option_part n || of kind.Hr n) ≡ true →
       (if of kind.Option n then implied_closed (of kind.Optgroup) p else implied_closed no_name p)
-      ≡ Ok p
+      ≡ p
   in_select s h = implied_by _ _ (past_three _ _ _ (rw s at none.option) h)
 
   no_option : o.select ≡ false → (is_option_part n || of kind.Hr n) ≡ true →
@@ -153,13 +153,13 @@ module _ (n : List ℕ) (above : List Ancestor) (p : Page) (calm : IsCalm above 
   no_option s h = by_rule _ _ _ _ h (rw s at none.option)
       (at_is (of kind.Option) above p.stack calm.alike)
 
-  option_kept : (is_option_part n || of kind.Hr n) ≡ true → option_closed n p ≡ Ok p
+  option_kept : (is_option_part n || of kind.Hr n) ≡ true → option_closed n p ≡ p
   option_kept h =
       let scoped = in_scope_is (of kind.Select) above p.stack calm.alike in
       either (in_scope General (of kind.Select) p.stack)
       (λ s. in_select (sym scoped ∙ s) h) (λ s. skip _ (no_option (sym scoped ∙ s) h) refl)
 
-  ruby_kept : of kind.RubyPart n ≡ true → ruby_closed n p ≡ Ok p
+  ruby_kept : of kind.RubyPart n ≡ true → ruby_closed n p ≡ p
   ruby_kept h =
       let scoped = in_scope_is (of kind.Ruby) above p.stack calm.alike in
       either (in_scope General (of kind.Ruby) p.stack)
@@ -170,26 +170,26 @@ module _ (n : List ℕ) (above : List Ancestor) (p : Page) (calm : IsCalm above 
 
   -- items
   item_kept : (k : Kind) → nest.reaches (nest.is_of (of k)) nest.bounds_item above ≡ false →
-      item_closed k p ≡ Ok p
+      item_closed k p ≡ p
   item_kept k h = skip _ (none_item (of k) above p.stack calm.alike calm.plain h) refl
 
-  block_kept : closed_before_block n p ≡ Ok p
+  block_kept : closed_before_block n p ≡ p
   block_kept =
       let items = or_parts _ _ none.item in
       either (of kind.ListItem n)
-      (λ h. ap (λ r. r next p_closed) (item_kept kind.ListItem (second_false items.0 h))
+      (λ h. ap p_closed (item_kept kind.ListItem (second_false items.0 h))
       ∙ p_kept_of kind.ListItem (unfold names in refl) h)
       (λ a. either (of kind.DescriptionPart n)
-      (λ h. ap (λ r. r next p_closed) (item_kept kind.DescriptionPart (second_false items.1 h))
+      (λ h. ap p_closed (item_kept kind.DescriptionPart (second_false items.1 h))
       ∙ p_kept_of kind.DescriptionPart (unfold names in refl) h)
       (λ b. either (of kind.Heading n)
-      (λ h. ap (λ r. r next heading_closed) (p_kept_of kind.Heading (unfold names in refl) h)
+      (λ h. ap heading_closed (p_kept_of kind.Heading (unfold names in refl) h)
       ∙ skip _ (at_is (of kind.Heading) above p.stack calm.alike
       ∙ second_false none.heading h) refl)
       (λ c. either (of kind.ClosesP n) p_kept (λ d. refl))))
 
   -- its start tag closes nothing
-  pub nothing_closed : closed_before n p ≡ Ok p
+  pub nothing_closed : closed_before n p ≡ p
   nothing_closed =
       either (of kind.A n) anchor_kept
       (λ a. either (of kind.Button n)
@@ -199,11 +199,12 @@ module _ (n : List ℕ) (above : List Ancestor) (p : Page) (calm : IsCalm above 
       (λ h. skip _ (in_scope_is (of kind.Select) above p.stack calm.alike
       ∙ second_false none.input h) refl)
       (λ c. either (of kind.Table n)
-      (λ h. skip _ (in_button_scope_is (of kind.P) above p.stack calm.alike
+      (λ h. ap (λ r. p_closed_by_table r p) calm.tables
+      ∙ skip _ (in_button_scope_is (of kind.P) above p.stack calm.alike
       ∙ first_false none.paragraph (or_right _ _ h)) refl)
       (λ d. either (of kind.Option n || of kind.Optgroup n) (λ h. option_kept (or_left _ _ h))
       (λ e. either (of kind.Hr n)
-      (λ h. ap (λ r. r next option_closed n) (p_kept_of kind.Hr (unfold names in refl) h)
+      (λ h. ap (option_closed n) (p_kept_of kind.Hr (unfold names in refl) h)
       ∙ option_kept (or_right _ _ h))
       (λ f. either (of kind.RubyPart n) ruby_kept (λ g. block_kept)))))))
 
@@ -212,15 +213,13 @@ module _ (n : List ℕ) (above : List Ancestor) (p : Page) (calm : IsCalm above 
       (λ h. and_right _ _ (none_same_scoped kind.Nobr n above p.stack h calm.alike calm.plain
       (second_false same_none.2 h))) (and_left _ _)
 
-  kept_whole : reconstructed p ≡ Ok p
+  kept_whole : reconstructed p ≡ p
   kept_whole = skip _ (ap loses_some calm.lost ∙ marks_lose_none p.stack) refl
 
   -- and makes no formatting element again
-  pub nothing_formatted : formatted n p ≡ Ok p
+  pub nothing_formatted : formatted n p ≡ p
   nothing_formatted = either (of kind.Unformatted n) (λ h. refl)
-      (λ u. ap (λ r. r next (λ q. if of kind.Nobr n && in_scope General (is n) q.stack
-      then (adopted n (noted error.NestedElement q)) next reconstructed else Ok q)) kept_whole
-      ∙ skip _ nobr_none refl)
+      (λ u. ap (nobr_closed n) kept_whole ∙ skip _ nobr_none refl)
 
   -- and is in no `select`, if it begins one
   pub select_none : (of kind.Select n && in_scope General (of kind.Select) p.stack) ≡ false

@@ -12,7 +12,7 @@ use Rattle.html_page_nesting.specs.declared.reading.Place.TheVariants as place
 use Rattle.html_page_names.specs.{ForeignNames.{keeps_case, lowered}, PageNames.{is, kind_names, of}, declared.kind.Kind.{Kind}}
 use Rattle.html_page_names.specs.declared.kind.Kind.TheVariants as kind
 use Rattle.html_page_stack.specs.OpenElements.{OpenElement, bounds, is_at, is_foreign_of, is_html, mode, named_mode}
-use Rattle.html_page_stack.specs.Pages.{Page, End, closed, closed_in, closed_to_goal, loses_some, no_name, taken}
+use Rattle.html_page_stack.specs.Pages.{Page, End, closed, closed_in, closed_to_goal, loses_some, no_name, Taken}
 use Rattle.html_page_stack.specs.declared.modes.{Mode.{Mode}, Scope.{Scope}}
 use Rattle.html_page_stack.specs.declared.modes.Mode.TheVariants.{InHead, InHeadNoscript, InBody, InText, InTable, InCaption, InColumns, InSection, InRow, InCell}
 use Rattle.html_page_stack.specs.declared.error.PageError.TheVariants as error
@@ -79,43 +79,43 @@ module _ (p : Page) (o : OpenElement) (os : List OpenElement) (html : is_html o.
       (own.closes p o os html test h)
 
   -- in the mode that the element itself brings
-  end_own : (m : Mode) → brings m n os ≡ true → by_mode m (End n) q ≡ taken (closed true q)
+  end_own : (m : Mode) → brings m n os ≡ true → by_mode m (End n) q ≡ Taken (closed true q)
   end_own InHead h = rw h refl
   end_own InHeadNoscript h =
       let noscript = (and_parts (of kind.Noscript n) (is_at (of kind.Head) os) h).0 in
       rw noscript refl
   end_own InText h = refl
-  end_own InTable h = pick _ h (ap taken (own.closes p o os html (of kind.Table) h))
+  end_own InTable h = pick _ h (ap Taken (own.closes p o os html (of kind.Table) h))
   end_own InCaption h =
       let scoped = own.reached p o os html (is n) (bounds scope.Table) named in
-      rw (h, scoped) (ap taken (part_ended (of kind.Caption) h
+      rw (h, scoped) (ap Taken (part_ended (of kind.Caption) h
       (unimplied kind.Caption (unfold names in refl) h)))
   end_own InColumns h = rw h refl
   end_own InSection h = rw (h, html, named) refl
   end_own InRow h = rw h refl
   end_own InCell h =
       let scoped = own.reached p o os html (is n) (bounds scope.Table) named in
-      rw (h, scoped) (ap taken (part_ended (of kind.Cell) h
+      rw (h, scoped) (ap Taken (part_ended (of kind.Cell) h
       (unimplied kind.Cell (unfold names in refl) h)))
   end_own _ h = absurd (false≢true h)
 
   -- in the mode of the body around it, where it is no part of a table
   end_around : (m : Mode) → is_body_mode m ≡ true → of kind.TablePart n ≡ false →
       of kind.Table n ≡ false → of kind.Root n ≡ false → of kind.Br n ≡ false →
-      loses_some p.lost ≡ false → by_mode m (End n) q ≡ taken (closed true q)
-  end_around InBody h part table root br l = rw (root, br) (ap taken (end_element l))
+      loses_some p.lost ≡ false → by_mode m (End n) q ≡ Taken (closed true q)
+  end_around InBody h part table root br l = rw (root, br) (ap Taken (end_element l))
   end_around InCaption h part table root br l =
       let x = parts n os part in
-      rw (x.3, table, part, root, br) (ap taken (end_element l))
+      rw (x.3, table, part, root, br) (ap Taken (end_element l))
   end_around InCell h part table root br l =
       let x = parts n os part in
-      rw (x.0, x.1, x.2, table, part, root, br) (ap taken (end_element l))
+      rw (x.0, x.1, x.2, table, part, root, br) (ap Taken (end_element l))
   end_around _ h part table root br l = absurd (false≢true h)
 
   -- either way
   end_html : (l : Place) → is_void n ≡ false → loses_some p.lost ≡ false → Stands n os l →
       (l ≡ place.Body → named_mode n os ≡ None → is_body_mode (mode (o ∷ os)) ≡ true) →
-      by_mode (mode q.stack) (End n) q ≡ taken (closed true q)
+      by_mode (mode q.stack) (End n) q ≡ Taken (closed true q)
   end_html l filled kept (inl s) steady =
       ap (λ m. by_mode m (End n) q) (own_mode o os s.mode html s.is) ∙ end_own s.mode s.is
   end_html l filled kept (inr s) steady = end_around (mode q.stack) (steady s.body s.none)
@@ -130,13 +130,13 @@ module _ (p : Page) (o : OpenElement) (os : List OpenElement)
   abbrev r : Page
   r = record p { stack = o ∷ os }
 
-  end_foreign : (of kind.Br m || of kind.P m) ≡ false → in_foreign_end m r ≡ taken (closed true r)
+  end_foreign : (of kind.Br m || of kind.P m) ≡ false → in_foreign_end m r ≡ Taken (closed true r)
   end_foreign h =
       let goal : is_foreign_of m o ≡ true =
       and_from _ _ (ap not foreign) ((bytes_eq-Decides m m).1 refl) in
       let closes : closed_to_goal (is_foreign_of m) r ≡ closed true r = rw goal refl in
       let ended : foreign_closed m r ≡ closed true r = rw goal closes in
-      skip _ h (pick _ (or_left (is_foreign_of m o) _ goal) (ap taken ended))
+      skip _ h (pick _ (or_left (is_foreign_of m o) _ goal) (ap Taken ended))
 
 -- a name of SVG is not that of a `br` or a `p`, whose end tags end SVG and MathML
 
@@ -169,7 +169,7 @@ module _ (above : List Ancestor) (h : Head) (kids : NodesView) (p : Page) (o : O
 
   turn_html : AreAlike above os → IsSteady above os → of kind.Template h.name ≡ false →
       ends_at_once h ≡ false → nest.is_html s ≡ true →
-      turn (End (lowered h.name)) w ≡ taken (closed true w)
+      turn (End (lowered h.name)) w ≡ Taken (closed true w)
   turn_html alike steady t once html =
       let here : is_html o.space ≡ true = space_html _ _ same ∙ html in
       skip _ (ap not here)
@@ -180,7 +180,7 @@ module _ (above : List Ancestor) (h : Head) (kids : NodesView) (p : Page) (o : O
       (λ body none. around_steady above os alike steady body o
       (either (is_html o.space) (λ e. none) (λ e. refl))))
 
-  turn_foreign : nest.is_html s ≡ false → turn (End (lowered h.name)) w ≡ taken (closed true w)
+  turn_foreign : nest.is_html s ≡ false → turn (End (lowered h.name)) w ≡ Taken (closed true w)
   turn_foreign foreign =
       let here : is_html o.space ≡ false = space_html _ _ same ∙ foreign in
       ap (λ m. turn (End (lowered m)) w) (sym same.name)

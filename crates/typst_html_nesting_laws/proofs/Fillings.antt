@@ -1,5 +1,5 @@
 -- An element is opened, filled and closed: what stands in it leads to a page with one child more.
-use Rattle.std.proofs.Common.{◌≡◌, ℕ, ◌+◌, Bool, true, false, ◌&&◌, ◌||◌, List, [], ◌∷◌, ◌++◌, Option, codes, refl, sym, ap, ◌∙◌, arith, Ok}
+use Rattle.std.proofs.Common.{◌≡◌, ℕ, ◌+◌, Bool, true, false, ◌&&◌, ◌||◌, List, [], ◌∷◌, ◌++◌, Option, codes, refl, sym, ap, ◌∙◌, arith}
 use Rattle.std.proofs.lemmas.Bool.{and_from, and_parts, and_right, both_ways, false_from_ne_true, false≢true, not_from_false}
 use Rattle.std.specs.{List.{fold}, Prelude.{if◌then◌else◌}}
 use Rattle.html_names_core.specs.{Characters.{IsOf, all, is_tag_char, is_text_char}, Kinds.{is_escapable_raw, is_raw}}
@@ -19,7 +19,7 @@ use Rattle.html_text.specs.ClosingTags.{holds_closing}
 use Rattle.html_page_names.specs.{ForeignNames.{lowered}, PageNames.{of}}
 use Rattle.html_page_names.specs.declared.kind.Kind.TheVariants as kind
 use Rattle.html_page_stack.specs.Pages.{Page, StartTag, End, Start, closed}
-use Rattle.html_page_stack.specs.OpenElements.{OpenElement, completed, is_at, is_of, with_last_child, with_text}
+use Rattle.html_page_stack.specs.OpenElements.{OpenElement, is_at, is_of, placed, with_text}
 use Rattle.html_page_stack.specs.OpenElements as open_elements
 use Rattle.html_page_stack.specs.declared.modes.Space.TheVariants as spaces
 use Rattle.html_page_tree.specs.PageTrees.{token_read}
@@ -73,7 +73,7 @@ module _ (above : List Ancestor) (h : Head) (p : Page) (o : OpenElement) (os : L
   abbrev page_of : (inner outer : OpenElement) → List (Option (List ℕ)) → (start : ℕ) → Page
   page_of x y ls start = record p {
     text = [];
-    stack = with_last_child (completed x) y ∷ os;
+    stack = placed x y ∷ os;
     lost = ls;
     start = start;
   }
@@ -81,16 +81,16 @@ module _ (above : List Ancestor) (h : Head) (p : Page) (o : OpenElement) (os : L
   pub closes : (children : NodesView) (words : List ℕ) (start : ℕ) → p.lost ≡ marks (o ∷ os) →
       opened_page.lost ≡ marks (opened ∷ around) →
       closed true (on opened_page opened around children words start)
-      ≡ Ok (on p o os (with_child (texted_children s children words)) [] start)
+      ≡ on p o os (with_child (texted_children s children words)) [] start
   closes children words start lost inner_lost =
       let y : OpenElement = with_text t (record o { children = c }) in
       let z : OpenElement = record o { children = texted_children o.head.span c t } in
       let x : OpenElement = record opened { children = texted_children s children words } in
       closed_is (on opened_page opened around children words start)
       (record opened { children = children }) around refl inner_lost
-      ∙ (ap (λ w. Ok (page_of w y (marks (y ∷ os)) start)) (with_text_is words opened children)
-      ∙ (ap (λ w. Ok (page_of x w (marks (w ∷ os)) start)) (with_text_is t o c)
-      ∙ ap (λ ls. Ok (page_of x z ls start)) (sym lost)))
+      ∙ (ap (λ w. page_of w y (marks (y ∷ os)) start) (with_text_is words opened children)
+      ∙ (ap (λ w. page_of x w (marks (w ∷ os)) start) (with_text_is t o c)
+      ∙ ap (λ ls. page_of x z ls start) (sym lost)))
 
   pub child_normal : (children kids : NodesView) → nodes_normal children ≡ nodes_normal kids →
       (k : Plains) → put_nodes (with_child children) k
@@ -103,7 +103,7 @@ module _ (above : List Ancestor) (h : Head) (p : Page) (o : OpenElement) (os : L
   -- from the start tag to the end tag
   abbrev pub element_closed : (q behind_start : PageReader) (rest : List ℕ) (kids : NodesView) →
       p.lost ≡ marks (o ∷ os) → opened_page.lost ≡ marks (opened ∷ around) →
-      run q (start_tag_text h) ≡ Ok behind_start →
+      run q (start_tag_text h) ≡ behind_start →
       IsFilled behind_start rest h.name kids opened_page opened around →
       ((children : NodesView) (words : List ℕ) (start : ℕ) →
       token_read (End (lowered h.name)) (on opened_page opened around children words start)

@@ -1,5 +1,5 @@
 -- Children that are gathered, with the text since the last of them, and their normal form.
-use Rattle.std.proofs.Common.{◌≡◌, ℕ, Bool, true, false, List, [], ◌∷◌, ◌++◌, refl, sym, ap, ◌∙◌, Ok}
+use Rattle.std.proofs.Common.{◌≡◌, ℕ, Bool, true, false, List, [], ◌∷◌, ◌++◌, refl, sym, ap, ◌∙◌}
 use Rattle.html_dom_tree.{proofs.Basics.{put_twice}, specs.PlainTree.{branch, Plains, no_plains, plain, put_words, nodes_normal}}
 use Rattle.html_dom_tree.specs.Tree.{NodeView, tag_node, text_node, element_node, NodesView, none, node, with_last}
 use Rattle.typst_html_encode.{proofs.Runs.{right_empty}, specs.{ExportFaults.{nodes_raw_faults, void_faults}, Text.{nodes_raw_text}}}
@@ -85,7 +85,7 @@ pub record AreGathered (q : PageReader) (text : List ℕ) (fresh : Bool) (p : Pa
   pub words : List ℕ
   pub place : ℕ
   pub start : ℕ
-  pub is : run q text ≡ Ok (data_at fresh place (on p o os children words start))
+  pub is : run q text ≡ data_at fresh place (on p o os children words start)
   pub same : (k : Plains) →
       put_nodes children (put_words words k) ≡ put_nodes c (put_words t (put_nodes ns k))
 
@@ -112,7 +112,7 @@ pub record IsFilled (q : PageReader) (text name : List ℕ) (kids : NodesView) (
   pub start : ℕ
   pub place : ℕ
   pub is : (after : Page) → token_read (End (lowered name)) (on p o os children words start)
-      ≡ Ok after → run q text ≡ Ok (data_at false place after)
+      ≡ after → run q text ≡ data_at false place after
   pub same : (k : Plains) → put_nodes children (put_words words k) ≡ put_nodes kids k
 
 -- the normal form of what was filled in

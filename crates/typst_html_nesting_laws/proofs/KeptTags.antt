@@ -1,5 +1,5 @@
 -- A start tag whose name and attributes keep their case is read as it is.
-use Rattle.std.proofs.{Common.{◌≡◌, ℕ, ◌<◌, Bool, true, false, not, List, length, map-id, refl, sym, ap, ◌∙◌, Ok}, lemmas.Bool.{false≢true}}
+use Rattle.std.proofs.{Common.{◌≡◌, ℕ, ◌<◌, Bool, true, false, not, List, length, map-id, refl, sym, ap, ◌∙◌}, lemmas.Bool.{false≢true}}
 use Rattle.std.specs.Prelude.{if◌then◌else◌}
 use Rattle.html_names_core.specs.Kinds.{is_foreign_self_closing}
 use Rattle.html_dom_tree.specs.{Attributes.{names_differ}, Tree.{TextPair, Head}}
@@ -9,11 +9,12 @@ use Rattle.html_page_nesting.specs.declared.reading.Space.TheVariants.{Html, Svg
 use Rattle.html_page_nesting.specs.declared.reading.Reading.TheVariants as reading
 use Rattle.html_page_names.specs.{ForeignNames.{keeps_case, lowered, svg_attrs, svg_names, math_attrs}, PageNames.{of}}
 use Rattle.html_page_names.specs.declared.kind.Kind.TheVariants as kind
-use Rattle.html_page_stack.specs.Pages.{Page, StartTag, opened}
+use Rattle.html_page_stack.specs.Pages.{Page, StartTag, added_to, closed, opened}
+use Rattle.html_page_stack.specs.declared.modes.Destination.TheVariants.{Parent}
 use Rattle.html_page_stack.specs.declared.modes.Space.TheVariants as spaces
 use Rattle.html_page_tree.specs.PageBodies.{entered, foreign_attrs, foreign_name}
 use Rattle.typst_html_nesting_laws.proofs.Capitals.{attrs_back, attrs_come_back, attrs_small, capitals_back, names_lowered_differ, small_back}
-use Rattle.typst_html_nesting_laws.proofs.{KindFacts.{agree_of, fails_of, names}, Opened.{Opens, made, one_of, opens}, Rules.{TagFits}}
+use Rattle.typst_html_nesting_laws.proofs.{KindFacts.{agree_of, fails_of, names}, Opened.{Opens, adds, made, one_of, opens}, Rules.{TagFits}}
 use Rattle.typst_html_nesting_laws.proofs.{Readers.{lowered_attrs, written_tag}, Ways.{open_space}, Branches.{decide}}
 
 -- its attributes differ in small letters
@@ -48,14 +49,15 @@ module _ (h : Head) (p : Page) (fits : length p.stack < p.limit) where
   pub entered_back : (s : Space) → TagFits s h → entered (open_space s) tag p
       ≡ one_of (is_foreign_self_closing h.name) (made (open_space s) h.name h.attrs p)
   entered_back s kept = rw (
-    opens (open_space s) _ _ p fits,
     name_back s h.name kept.case,
     pairs_back s h.attrs kept.attrs,
+    opens (open_space s) h.name h.attrs p fits,
+    adds (open_space s) h.name h.attrs p fits,
   ) refl
 
   -- by the rules of HTML
   pub opened_back : (s : Space) → s ≡ Html → TagFits s h →
-      opened tag.name tag.attrs p ≡ Ok (made (open_space s) h.name h.attrs p)
+      opened tag.name tag.attrs p ≡ made (open_space s) h.name h.attrs p
   opened_back Html e kept = rw (
     opens spaces.Html tag.name tag.attrs p fits,
     small_back h.name kept.case,
@@ -63,8 +65,18 @@ module _ (h : Head) (p : Page) (fits : length p.stack < p.limit) where
   ) refl
   opened_back s e kept = absurd (cc)
 
+  pub added_back : (s : Space) → s ≡ Html → TagFits s h →
+      added_to Parent spaces.Html tag.name tag.attrs p
+      ≡ closed true (made (open_space s) h.name h.attrs p)
+  added_back Html e kept = rw (
+    adds spaces.Html tag.name tag.attrs p fits,
+    small_back h.name kept.case,
+    attrs_small h.attrs kept.attrs,
+  ) refl
+  added_back s e kept = absurd (cc)
+
   begun_back : (s t : Space) → s ≡ t → TagFits s h → is_foreign_self_closing h.name ≡ false →
-      entered (open_space t) tag p ≡ Ok (made (open_space s) h.name h.attrs p)
+      entered (open_space t) tag p ≡ made (open_space s) h.name h.attrs p
   begun_back s t e kept c = ap (λ x. entered (open_space x) tag p) (sym e)
       ∙ (entered_back s kept ∙ ap (λ b. one_of b (made (open_space s) h.name h.attrs p)) c)
 
@@ -95,6 +107,7 @@ pub written_opens : (h : Head) (p : Page) (s : Space) → length p.stack < p.lim
     ≡ false → Opens (written_tag h) p (made (open_space s) h.name h.attrs p)
 written_opens h p s fits is kept small c = record {
   plain = λ a b. opened_back h p fits s (is ∙ rw (rw small at a, rw small at b) refl) kept;
+  added = λ a b. added_back h p fits s (is ∙ rw (rw small at a, rw small at b) refl) kept;
   svg = λ a. begun_back h p fits s Svg (is ∙ rw (rw small at a) refl) kept c;
   math = λ a. let m = rw small at a in begun_back h p fits s MathMl
       (is ∙ rw (fails_of (of kind.Svg) kind.Math h.name (unfold names in refl) m, m) refl) kept c;

@@ -1,5 +1,5 @@
 -- Nodes that break no rule are read as they are.
-use Rattle.std.proofs.Common.{◌≡◌, ℕ, suc, ◌+◌, ◌<◌, ◌≤◌, Bool, true, false, ◌&&◌, List, [], ◌∷◌, ◌++◌, Some, None, length, refl, sym, ap, subst, ◌∙◌, append-nil, arith, Ok}
+use Rattle.std.proofs.Common.{◌≡◌, ℕ, suc, ◌+◌, ◌<◌, ◌≤◌, Bool, true, false, ◌&&◌, List, [], ◌∷◌, ◌++◌, Some, None, length, refl, sym, ap, subst, ◌∙◌, append-nil, arith}
 use Rattle.std.proofs.lemmas.Bool.{and_left, and_parts, and_right, both_ways, false_from_ne_true, false≢true, ltb-false, true≢false}
 use Rattle.std.specs.{List.{list_all}, Prelude.{if◌then◌else◌}}
 use Rattle.html_names_core.specs.Kinds.{is_escapable_raw, is_raw}
@@ -19,7 +19,8 @@ use Rattle.html_page_names.specs.{ForeignNames.{lowered}, PageNames.{of}}
 use Rattle.html_page_names.specs.declared.kind.Kind.TheVariants as kind
 use Rattle.html_page_stack.specs.{OpenElements.{OpenElement, is_of}, Pages.{Page, End, Start, closed}}
 use Rattle.html_page_tree.specs.PageTrees.{token_read}
-use Rattle.html_page_read.specs.{PageReading.{run}, PageTokens.{PageReader, most_attrs}}
+use Rattle.html_page_read.specs.{PageReading.{run}, PageTokens.{PageReader}}
+use Rattle.html_page_stack.specs.Pages.{most_attrs}
 use Rattle.typst_html_nesting_laws.proofs.{Alike.{html_is, html_space}, Begun.{start_taken}, Branches.{else_none, if_none, decide}}
 use Rattle.typst_html_nesting_laws.proofs.{Closed.{calm_begun}, Ended.{end_taken}, InnerTexts.{all_pass, no_return, no_returns}}
 use Rattle.typst_html_nesting_laws.proofs.Fillings.{KidsAreGathered, alone_filled, around, behind_data, child_normal, closes, element_closed, foreign_filled, fresh_behind, html_filled, filling, inside_faults, opened, opened_page, with_child}
@@ -300,7 +301,7 @@ module _ (frames : Frames) (level : ℕ) {above : List Ancestor} {h : Head} {kid
     at_start = starts.start
 
     begins : token_read (Start (written_tag h)) (on p o os c t at_start)
-        ≡ (if ends_at_once h then closed true (page at_start) else Ok (page at_start))
+        ≡ (if ends_at_once h then closed true (page at_start) else page at_start)
     begins = start_taken above h kids (on p o os c t at_start) (there.calm c t at_start)
         (there.steady c) there.place f.fits f.template (omega (arith, f.shallow, there.limit))
 
@@ -309,8 +310,8 @@ module _ (frames : Frames) (level : ℕ) {above : List Ancestor} {h : Head} {kid
         (start_tag_text h ++ []) false p o os c t (node (element_node h kids) none)
     once e clean =
         let after : Page = on p o os (with_child above h p o os c t at_start none) [] at_start in
-        let ends : token_read (Start (written_tag h)) (on p o os c t at_start) ≡ Ok after = begins
-        ∙ (ap (λ b. if b then closed true (page at_start) else Ok (page at_start)) e
+        let ends : token_read (Start (written_tag h)) (on p o os c t at_start) ≡ after = begins
+        ∙ (ap (λ b. if b then closed true (page at_start) else page at_start) e
         ∙ closes above h p o os c t at_start none [] at_start (there.calm c t s).lost
         (calm_page at_start).lost) in
         record {
@@ -319,8 +320,8 @@ module _ (frames : Frames) (level : ℕ) {above : List Ancestor} {h : Head} {kid
           place = starts.place + 1;
           start = at_start;
           is = ap (run before) (append-nil (start_tag_text h)) ∙ (starts.is after ends
-              ∙ (ap (λ q. Ok q) (behind_data (written_tag h) starts.place after there.raw)
-              ∙ ap (λ b. Ok (data_at b (starts.place + 1) after))
+              ∙ (behind_data (written_tag h) starts.place after there.raw
+              ∙ ap (λ b. data_at b (starts.place + 1) after)
               (and_left _ _ (once_keeps h.name e))));
           same = child_normal above h p o os c t at_start none kids (no_children h.span kids clean);
         }
@@ -332,7 +333,7 @@ module _ (frames : Frames) (level : ℕ) {above : List Ancestor} {h : Head} {kid
     whole led e g = element_closed above h p o os c t at_start before
         (behind (Start (written_tag h)) starts.place (page at_start)) (filling frames level h kids)
         kids (there.calm c t s).lost (calm_page at_start).lost (starts.is (page at_start) (begins
-        ∙ ap (λ b. if b then closed true (page at_start) else Ok (page at_start)) e))
+        ∙ ap (λ b. if b then closed true (page at_start) else page at_start) e))
         (fill at_start led e g starts.place) (ends_it at_start e)
 
     pub element_gathered : AreLed frames kids →

@@ -1,37 +1,42 @@
 -- An element is opened by its start tag, and closed at once where it is its start tag alone.
-use Rattle.std.{proofs.Common.{◌≡◌, ℕ, ◌<◌, Bool, true, false, not, ◌||◌, List, length, refl, ap, Ok}, specs.Prelude.{if◌then◌else◌}}
+use Rattle.std.{proofs.Common.{◌≡◌, ℕ, ◌<◌, Bool, true, false, not, ◌||◌, List, length, refl, ap}, specs.Prelude.{if◌then◌else◌}}
 use Rattle.std.proofs.lemmas.Bool.{both_ways, false_from_ne_true, lt-leb, not-false, not-true, or_from, or_right}
 use Rattle.html_names_core.specs.Kinds.{is_void, void_names}
-use Rattle.html_dom_tree.specs.Tree.{TextPair, none}
+use Rattle.html_dom_tree.specs.Tree.{TextPair}
 use Rattle.html_page_nesting.specs.Contents.{has_unread_end}
 use Rattle.html_page_names.specs.PageNames.{of}
 use Rattle.html_page_names.specs.declared.kind.Kind.TheVariants as kind
-use Rattle.html_page_stack.specs.Pages.{Page, Reads, StartTag, ◌next◌, closed, opened, opened_in, page_head, settled, with_element}
-use Rattle.html_page_stack.specs.declared.modes.Space.{Space}
-use Rattle.html_page_stack.specs.declared.fault.PageRefusal.TheVariants as refusal
+use Rattle.html_page_stack.specs.Pages.{Page, StartTag, added_to, closed, opened, opened_in, settled, with_element}
+use Rattle.html_page_stack.specs.Pages.{made as tag_made}
+use Rattle.html_page_stack.specs.declared.modes.{Destination.TheVariants.{Parent}, Space.{Space}}
 use Rattle.html_page_stack.specs.declared.modes.Space.TheVariants as spaces
 use Rattle.html_page_tree.specs.PageBodies.{entered, head_element, leaf}
 use Rattle.typst_html_nesting_laws.proofs.{Branches.{either, second_false, second_true}, KindFacts.{agree_in, fails_of, names, passes_of}}
 
 -- the page with an element opened
 abbrev pub made : Space → (name : List ℕ) → List TextPair → Page → Page
-made space name attrs p = with_element
-    (record { head = page_head name attrs p.start; space = space; children = none }) (settled p)
+made space name attrs p = with_element (tag_made Parent space name attrs p.start) (settled p)
 
 -- what a start tag leads to, by whether the element is its start tag alone
-abbrev pub one_of : (at_once : Bool) → Page → Reads Page
-one_of at_once q = if at_once then closed true q else Ok q
+abbrev pub one_of : (at_once : Bool) → Page → Page
+one_of at_once q = if at_once then closed true q else q
+
+pub adds : (space : Space) (name : List ℕ) (attrs : List TextPair) (p : Page) →
+    length p.stack < p.limit → added_to Parent space name attrs p ≡ closed true (made space name attrs p)
+adds space name attrs p h = rw (lt-leb p.limit (length p.stack) h) refl
 
 pub opens : (space : Space) (name : List ℕ) (attrs : List TextPair) (p : Page) →
-    length p.stack < p.limit → opened_in space name attrs p ≡ Ok (made space name attrs p)
+    length p.stack < p.limit → opened_in space name attrs p ≡ made space name attrs p
 opens space name attrs p h = rw (lt-leb p.limit (length p.stack) h) refl
 
 -- a tag opens that element by the rules of HTML
 pub record Opens (tag : StartTag) (p q : Page) : Type 0 where
   pub plain : of kind.Svg tag.name ≡ false → of kind.Math tag.name ≡ false →
-      opened tag.name tag.attrs p ≡ Ok q
-  pub svg : of kind.Svg tag.name ≡ true → entered spaces.Svg tag p ≡ Ok q
-  pub math : of kind.Math tag.name ≡ true → entered spaces.MathMl tag p ≡ Ok q
+      opened tag.name tag.attrs p ≡ q
+  pub added : of kind.Svg tag.name ≡ false → of kind.Math tag.name ≡ false →
+      added_to Parent spaces.Html tag.name tag.attrs p ≡ closed true q
+  pub svg : of kind.Svg tag.name ≡ true → entered spaces.Svg tag p ≡ q
+  pub math : of kind.Math tag.name ≡ true → entered spaces.MathMl tag p ≡ q
 
 -- elements that are their start tags alone
 
@@ -52,15 +57,15 @@ not_void n a b c =
 module _ (tag : StartTag) (p q : Page) (ops : Opens tag p q) where
   pub leaf_begun : of kind.Svg tag.name ≡ false → of kind.Math tag.name ≡ false →
       leaf tag p ≡ closed true q
-  leaf_begun a b = ap (λ r. r next closed true) (ops.plain a b)
+  leaf_begun a b = ops.added a b
 
   pub head_begun : of kind.HeadContent tag.name ≡ true → has_unread_end tag.name ≡ false →
-      head_element tag p ≡ one_of (is_void tag.name) q
+      head_element Parent tag p ≡ one_of (is_void tag.name) q
   head_begun h e =
       let svg = fails_of (of kind.Svg) kind.HeadContent tag.name (unfold names in refl) h in
       let math = fails_of (of kind.Math) kind.HeadContent tag.name (unfold names in refl) h in
       let leaf_or_whole = passes_of (λ n. of kind.HeadLeaf n || not (is_void n)) kind.HeadContent
       tag.name (unfold names in refl) h in
       either (of kind.HeadLeaf tag.name)
-      (λ k. rw (void_of tag.name e (or_right _ _ k)) (leaf_begun svg math))
+      (λ k. rw (void_of tag.name e (or_right _ _ k)) (ops.added svg math))
       (λ k. rw (not-true (is_void tag.name) (second_true leaf_or_whole k)) (ops.plain svg math))

@@ -1,5 +1,5 @@
 -- Elements of text alone are read as they are, as far as their end tags.
-use Rattle.std.proofs.Common.{◌≡◌, ℕ, zero, suc, ◌+◌, ◌-◌, ◌<◌, ◌≤◌, min, Bool, true, false, ◌&&◌, ◌⊎◌, inl, inr, eqb, List, [], ◌∷◌, ◌++◌, codes, length, take, drop, map, Some, None, refl, ap, ◌∙◌, sym, append_assoc, arith, length-append, Ok}
+use Rattle.std.proofs.Common.{◌≡◌, ℕ, zero, suc, ◌+◌, ◌-◌, ◌<◌, ◌≤◌, min, Bool, true, false, ◌&&◌, ◌⊎◌, inl, inr, eqb, List, [], ◌∷◌, ◌++◌, codes, length, take, drop, map, Some, None, refl, ap, ◌∙◌, sym, append_assoc, arith, length-append}
 use Rattle.std.proofs.{Math.{Bool.{and-false}, Seq.{drop-append-add}}, lemmas.{Bool.Decides.{nat_tests}, List.Sums.{fold-append}}}
 use Rattle.std.proofs.lemmas.Bool.{and_parts, and_from, and_left, and_right, both_ways, or_parts, false_from_ne_true, false≢true, eqb-true, leb-true, le-leb}
 use Rattle.std.proofs.lemmas.{List.{append-nil, take-append-drop, take_at, drop_at, length-map}, Slice.Eq.{bytes_eq-Decides}}
@@ -13,12 +13,12 @@ use Rattle.typst_html_encode.specs.Text.{char_text, end_tag_text, escaped_text, 
 use Rattle.html_text.specs.{ClosingTags.{is_tag_end, closing, holds_closing, ends_closing, before_closing}, RawEnds.{ends_in}}
 use Rattle.html_page_names.specs.PageNames.{of}
 use Rattle.html_page_names.specs.declared.kind.Kind.TheVariants as kind
-use Rattle.html_page_stack.specs.{OpenElements.{current_name, is_at}, Pages.{Page, Token, End, ◌next◌}}
+use Rattle.html_page_stack.specs.{OpenElements.{current_name, is_at}, Pages.{Page, Token, End}}
 use Rattle.html_page_stack.specs.declared.modes.Space.TheVariants as spaces
 use Rattle.html_page_tree.specs.PageTrees.{token_read}
 use Rattle.html_page_read.{proofs.PageStretches.{other}, specs.PageReading.{run}}
 use Rattle.html_page_read.specs.PageTokens.{Raw, Reference, PageReader, depth_behind, ended_name, ended_of, is_name, step}
-use Rattle.typst_html_nesting_laws.proofs.{KindFacts.{fails_of, names, passes_of}, References.{last_step, reference_leads}}
+use Rattle.typst_html_nesting_laws.proofs.{KindFacts.{fails_of, names, passes_of}, References.{reference_leads}}
 use Rattle.typst_html_nesting_laws.proofs.{Readers.{Emits, Takes, data_at, reading_at, run_on, texted}, Branches.{decide}}
 use Rattle.typst_html_nesting_laws.proofs.Texts.{begins_with_lf, is_plain_text_char, not_dropped, nothing_dropped}
 
@@ -124,7 +124,7 @@ raw_in fresh since place text p =
 
 -- what is read before an end tag
 emits_on : {q r : PageReader} {ds : List ℕ} {token : Token} {p : Page} (cs : List ℕ) →
-    run q cs ≡ Ok r → Emits r ds token p → Emits q (cs ++ ds) token p
+    run q cs ≡ r → Emits r ds token p → Emits q (cs ++ ds) token p
 emits_on {q} {r} {ds} cs h x = record {
   start = x.start;
   place = x.place;
@@ -147,7 +147,7 @@ module _ {name : List ℕ} {p : Page} (within : IsWithin name p) (takes : Takes 
       is_return c ≡ false → (fresh && eqb c 10) ≡ false → ended_of (Some name) 0 since text c
       ≡ None → (eqb c 38 && of kind.EscapableRaw name) ≡ false → (of kind.Script name ≡ true →
       (eqb c 45 && ends_in (codes "<!-") text) ≡ false) → step (raw_in fresh since place text p) c
-      ≡ Ok (raw_in false (min (since + 1) 255) (place + len_utf8 c) (text ++ c ∷ []) p)
+      ≡ raw_in false (min (since + 1) 255) (place + len_utf8 c) (text ++ c ∷ []) p
   raw_one fresh since place text c e0 n kept none plain shallow =
       let e10 = and-false (eqb c 10) in
       let ended : ended_name p.stack 0 since text c ≡ None =
@@ -155,7 +155,7 @@ module _ {name : List ℕ} {p : Page} (within : IsWithin name p) (takes : Takes 
       let reference : (eqb c 38 && is_at (of kind.EscapableRaw) p.stack) ≡ false =
       ap (λ b. eqb c 38 && b) within.escapable ∙ plain in
       let depth : depth_behind 0 (texted text p.start p) c ≡ 0 = depth_stays text c shallow in
-      let taken = takes c text p.start refl in
+      let taken = takes c text p.start refl e0 in
       rw (e0, e10, n, ended, reference, kept, taken, depth) refl
 
   -- the end tag's name, with so many characters, as far as 255
@@ -163,7 +163,7 @@ module _ {name : List ℕ} {p : Page} (within : IsWithin name p) (takes : Takes 
     since : ℕ
     place : ℕ
     enough : (m : ℕ) → m ≤ 255 → m ≤ least → m ≤ since
-    is : run q cs ≡ Ok (raw_in false since place text p)
+    is : run q cs ≡ raw_in false since place text p
 
   name_read : (since place : ℕ) (text cs : List ℕ) → all is_lower cs ≡ true →
       NameRead (raw_in false since place text p) cs (text ++ cs) (since + length cs)
@@ -171,7 +171,7 @@ module _ {name : List ℕ} {p : Page} (within : IsWithin name p) (takes : Takes 
     since = since;
     place = place;
     enough = λ m low near. omega (arith, near);
-    is = ap (λ t. Ok (raw_in false since place t p)) (sym (append-nil text));
+    is = ap (λ t. raw_in false since place t p) (sym (append-nil text));
   }
   name_read since place text (c ∷ cs) h =
       let both = and_parts _ _ h in
@@ -185,14 +185,14 @@ module _ {name : List ℕ} {p : Page} (within : IsWithin name p) (takes : Takes 
         since = more.since;
         place = more.place;
         enough = λ m low near. more.enough m low (omega (arith, low, near));
-        is = rw (← append_assoc text (c ∷ []) cs) (ap (λ r. r next (λ q. run q cs)) one ∙ more.is);
+        is = rw (← append_assoc text (c ∷ []) cs) (ap (λ q. run q cs) one ∙ more.is);
       }
 
   -- at the end tag's `>`
   end_read : (since place : ℕ) (s : List ℕ) (after : Page) → is_name name ≡ true →
-      length (closing name) ≤ since → token_read (End name) (record p { text = s }) ≡ Ok after →
+      length (closing name) ≤ since → token_read (End name) (record p { text = s }) ≡ after →
       step (raw_in false since place (s ++ (codes "</" ++ name)) p) 62
-      ≡ Ok (data_at false (place + 1) after)
+      ≡ data_at false (place + 1) after
   end_read since place s after named enough e =
       let k = length (closing name) in
       let x : List ℕ = s ++ (codes "</" ++ name) in
@@ -234,13 +234,11 @@ module _ {name : List ℕ} {p : Page} (within : IsWithin name p) (takes : Takes 
       record {
         start = p.start;
         place = read.place;
-        is = λ after e. ap (λ r. r next (λ q. run q (47 ∷ (name ++ 62 ∷ [])))) less
-            ∙ (ap (λ r. r next (λ q. run q (name ++ 62 ∷ []))) slash
+        is = λ after e. ap (λ q. run q (47 ∷ (name ++ 62 ∷ []))) less
+            ∙ (ap (λ q. run q (name ++ 62 ∷ [])) slash
             ∙ run_on _ _ _ name (62 ∷ []) read.is
-            (last_step (step (raw_in false read.since read.place
-            (((s ++ 60 ∷ []) ++ 47 ∷ []) ++ name) p) 62)
-            ∙ (ap (λ t. step (raw_in false read.since read.place t p) 62) text_is
-            ∙ end_read read.since read.place s after named long e)));
+            (ap (λ t. step (raw_in false read.since read.place t p) 62) text_is
+            ∙ end_read read.since read.place s after named long e));
       }
 
   -- the text itself
@@ -248,7 +246,7 @@ module _ {name : List ℕ} {p : Page} (within : IsWithin name p) (takes : Takes 
     fresh : Bool
     since : ℕ
     place : ℕ
-    is : run q cs ≡ Ok (raw_in fresh since place text p)
+    is : run q cs ≡ raw_in fresh since place text p
 
   -- without references
   raw_more : (since place : ℕ) (x cs : List ℕ) → of kind.EscapableRaw name ≡ false →
@@ -269,7 +267,7 @@ module _ {name : List ℕ} {p : Page} (within : IsWithin name p) (takes : Takes 
       let m = raw_more (min (since + 1) 255) (place + len_utf8 c) (x ++ c ∷ []) cs raw both.1
       no.1 (ap (holds_closing name) joined ∙ closes)
       (λ s. ap (λ t. is_escaped (fold state_behind state.Data t)) joined ∙ comment s) in
-      let read = ap (λ r. r next (λ q. run q cs)) one ∙ m.is in
+      let read = ap (λ q. run q cs) one ∙ m.is in
       rw (← joined) (record { fresh = m.fresh; since = m.since; place = m.place; is = read })
 
   -- with references: no `<` was read since the last one, or since the begin
@@ -309,7 +307,7 @@ module _ {name : List ℕ} {p : Page} (within : IsWithin name p) (takes : Takes 
       since : ℕ
       place : ℕ
       clean : IsClean text since
-      is : run q cs ≡ Ok (raw_in false since place text p)
+      is : run q cs ≡ raw_in false since place text p
 
     module _ (fresh : Bool) (since place : ℕ) (x : List ℕ) (c : ℕ) (good : is_text_char c ≡ true)
         (no : is_return c ≡ false) (kept : (fresh && eqb c 10) ≡ false) where
@@ -321,7 +319,7 @@ module _ {name : List ℕ} {p : Page} (within : IsWithin name p) (takes : Takes 
             since = min (since + 1) 255;
             place = place + len_utf8 c;
             clean = clean_longer x since c k (ap (λ b. if b then false else true) e.1);
-            is = last_step (step (raw_in fresh since place x p) c) ∙ raw_one fresh since place x c
+            is = raw_one fresh since place x c
                 (other is_text_char c 0 good refl) no kept (no_early since x c k) (and_left _ _ e.0)
                 (λ s. absurd (both_ways _ (no_script name escapable) s));
           }
@@ -333,11 +331,11 @@ module _ {name : List ℕ} {p : Page} (within : IsWithin name p) (takes : Takes 
           within.current ∙ not_ended since x 38 (and_left _ _ inside) in
           let is_escapable : is_at (of kind.EscapableRaw) p.stack ≡ true =
           within.escapable ∙ escapable in
-          let begun : step (raw_in fresh since place x p) 38 ≡ Ok (record {
+          let begun : step (raw_in fresh since place x p) 38 ≡ record {
             state = Reference [] (Raw 0 since);
             reading = reading_at fresh (place + 1) (texted x p.start p);
-          }) = rw (ended, is_escapable) refl in
-          let taken = takes c x p.start refl in
+          } = rw (ended, is_escapable) refl in
+          let taken = takes c x p.start refl (other is_text_char c 0 good refl) in
           let read = reference_leads (Raw 0 since) (raw_in fresh since place x p) fresh (place + 1)
           (texted x p.start p) c good no begun in
           record {
@@ -378,7 +376,7 @@ module _ {name : List ℕ} {p : Page} (within : IsWithin name p) (takes : Takes 
 
     -- a line feed that is dropped
     feed_read : (place : ℕ) →
-        step (raw_in true 0 place [] p) 10 ≡ Ok (raw_in false 1 (place + 1) [] p)
+        step (raw_in true 0 place [] p) 10 ≡ raw_in false 1 (place + 1) [] p
     feed_read place =
         let ended : ended_name p.stack 0 0 [] 10 ≡ None =
         ap (λ o. ended_of o 0 0 [] 10) within.current ∙ no_early 0 [] 10 (clean_first 0) in
@@ -404,7 +402,7 @@ module _ {name : List ℕ} {p : Page} (within : IsWithin name p) (takes : Takes 
           ++ (escaped_text (escaping_of false) s ++ end_tag_text name)) (End name)
           (record p { text = s })
       escapable_emits true true place fed kept =
-          emits_on (10 ∷ []) (last_step (step (raw_in true 0 place [] p) 10) ∙ feed_read place)
+          emits_on (10 ∷ []) (feed_read place)
           (escaped_emits false 1 (place + 1) (nothing_dropped s))
       escapable_emits true false place fed kept = absurd (false≢true (fed refl))
       escapable_emits false fresh place fed kept = escaped_emits fresh 0 place (λ e. kept e refl)

@@ -1,10 +1,10 @@
 -- Readers of a page between tokens, and what leads from one to another.
-use Rattle.std.proofs.Common.{◌≡◌, ℕ, ◌+◌, Bool, true, false, List, [], ◌∷◌, ◌++◌, refl, ap, ◌∙◌, Ok, Err, map}
+use Rattle.std.proofs.Common.{◌≡◌, ℕ, ◌+◌, Bool, true, false, List, [], ◌∷◌, ◌++◌, refl, ap, ◌∙◌, eqb, map}
 use Rattle.html_names_core.specs.Kinds.{is_foreign_self_closing}
 use Rattle.html_dom_tree.specs.Tree.{TextPair, Head}
 use Rattle.html_page_names.specs.{ForeignNames.{lowered}, PageNames.{of}}
 use Rattle.html_page_names.specs.declared.kind.Kind.TheVariants as kind
-use Rattle.html_page_stack.specs.Pages.{Page, Reads, StartTag, Token, Char, Start, ◌next◌, with_char}
+use Rattle.html_page_stack.specs.Pages.{Page, StartTag, Token, Char, Start, with_char}
 use Rattle.html_page_tree.specs.PageTrees.{token_read}
 use Rattle.html_page_read.specs.{PageReading.{run}, PageTokens.{Data, Raw, Reading, PageReader, behind_start_tag, past_char, step}}
 
@@ -32,7 +32,7 @@ texted t s p = record p { text = t; start = s }
 pub record LeadsTo (q : PageReader) (text : List ℕ) (fresh : Bool) (p : Page) : Type 0 where
   pub start : ℕ
   pub place : ℕ
-  pub is : run q text ≡ Ok (data_at fresh place (started start p))
+  pub is : run q text ≡ data_at fresh place (started start p)
 
 -- the reader behind a token that made this page of the one before
 abbrev pub behind : Token → (place : ℕ) → Page → PageReader
@@ -44,8 +44,8 @@ behind token place p = data_at false (place + 1) p
 pub record Emits (q : PageReader) (text : List ℕ) (token : Token) (p : Page) : Type 0 where
   pub start : ℕ
   pub place : ℕ
-  pub is : (after : Page) → token_read token (started start p) ≡ Ok after →
-      run q text ≡ Ok (behind token place after)
+  pub is : (after : Page) → token_read token (started start p) ≡ after →
+      run q text ≡ behind token place after
 
 -- the tag that is read of a start tag
 abbrev pub lowered_attrs : List TextPair → List TextPair
@@ -58,24 +58,18 @@ written_tag h = record {
   closed = is_foreign_self_closing h.name;
 }
 
--- characters that pass are added to the current node, whatever text it has, and do nothing else
+-- characters that pass are added to the current node, whatever text it has, and do nothing else,
+-- but for U+0000
 abbrev pub Takes : (passes : ℕ → Bool) → Page → Type 0
-Takes passes p = (c : ℕ) (text : List ℕ) (start : ℕ) → passes c ≡ true →
-    token_read (Char c) (texted text start p) ≡ Ok (with_char c (texted text start p))
-
--- one step, and then two in turn
-next_by : {A B C : Type 0} (r : Reads A) (f : A → Reads C) (g : A → Reads B) (h : B → Reads C) →
-    ((a : A) → f a ≡ ((g a) next h)) → (r next f) ≡ ((r next g) next h)
-next_by (Ok a) f g h e = e a
-next_by (Err x) f g h e = refl
+Takes passes p = (c : ℕ) (text : List ℕ) (start : ℕ) → passes c ≡ true → eqb c 0 ≡ false →
+    token_read (Char c) (texted text start p) ≡ with_char c (texted text start p)
 
 pub run-append : (q : PageReader) (xs ys : List ℕ) →
-    run q (xs ++ ys) ≡ ((run q xs) next (λ r. run r ys))
+    run q (xs ++ ys) ≡ run (run q xs) ys
 run-append q [] ys = refl
-run-append q (x ∷ xs) ys = next_by (step q x) (λ s. run s (xs ++ ys)) (λ s. run s xs)
-    (λ s. run s ys) (λ s. run-append s xs ys)
+run-append q (x ∷ xs) ys = run-append (step q x) xs ys
 
 -- a text that leads on, and one behind it
-pub run_on : (q r : PageReader) (s : Reads PageReader) (xs ys : List ℕ) → run q xs ≡ Ok r →
+pub run_on : (q r s : PageReader) (xs ys : List ℕ) → run q xs ≡ r →
     run r ys ≡ s → run q (xs ++ ys) ≡ s
-run_on q r s xs ys h k = run-append q xs ys ∙ (ap (λ x. x next (λ t. run t ys)) h ∙ k)
+run_on q r s xs ys h k = run-append q xs ys ∙ (ap (λ t. run t ys) h ∙ k)

@@ -1,5 +1,5 @@
 -- References that are written are read as the characters that they stand for.
-use Rattle.std.proofs.Common.{◌≡◌, ℕ, ◌+◌, ◌<◌, Bool, true, false, not, ◌||◌, ◌&&◌, subst, eqb, List, [], ◌∷◌, ◌++◌, Some, None, codes, length, arith, refl, ap, ◌∙◌, sym, append_assoc, Ok, Err}
+use Rattle.std.proofs.Common.{◌≡◌, ℕ, ◌+◌, ◌<◌, Bool, true, false, not, ◌||◌, ◌&&◌, subst, eqb, List, [], ◌∷◌, ◌++◌, Some, None, codes, length, arith, refl, ap, ◌∙◌, sym, append_assoc}
 use Rattle.std.proofs.lemmas.{Bool.{eqb-true, and_from, and_parts, ne_eqb, not-true, ltb-true}, Fmt.{digits_is_IsNumeral}}
 use Rattle.std.{proofs.lemmas.{List.{append-nil}, Bool.Decides.{nat_tests}}, specs.{Char.{digit_value, len_utf8}, Fmt.{digits}}}
 use Rattle.std.specs.{Prelude.{if◌then◌else◌, nat_lt, nat_le}, Str.Parse.{AllDigits, digits_value}}
@@ -8,7 +8,7 @@ use Rattle.html_page_nesting.specs.WrittenTexts.{is_return}
 use Rattle.typst_html_encode.{proofs.References.{numeric_is, text_scalar}, specs.References.{numeric, reference_to}}
 use Rattle.html_page_names.specs.NamedReferences.{legacy_reference, named_reference, value_in_groups}
 use Rattle.html_page_names.specs.ReferenceRows.{legacy_groups, other_groups}
-use Rattle.html_page_stack.specs.Pages.{Page, Reads, ◌next◌}
+use Rattle.html_page_stack.specs.Pages.{Page}
 use Rattle.html_page_tree.specs.PageBodies.{is_space}
 use Rattle.html_page_read.{proofs.PageStretches.{other}, specs.PageReading.{run}}
 use Rattle.html_page_read.specs.PageReferences.{Resolved, continues, continues_number, is_hex_digit, is_surrogate, numbered, numbered_char, number_error, resolved}
@@ -116,11 +116,6 @@ spelled c h n =
     (λ e. by_name c 39 97 (codes "pos") e refl refl refl (unfold named in refl))
     (λ e39. by_number c h n (rw (e38, e60, e62, e34, e39) refl))))))
 
--- steps that go on where they are
-pub last_step : {A : Type 0} (r : Reads A) → (r next (λ a. Ok a)) ≡ r
-last_step (Ok a) = refl
-last_step (Err e) = refl
-
 either_false : (b : Bool) → (if b then false else false) ≡ false
 either_false true = refl
 either_false false = refl
@@ -139,7 +134,7 @@ module _ (s : TokenState) (fresh : Bool) (p : Page) where
   since_at since place = record { state = Reference since s; reading = reading_at fresh place p }
 
   one_since : (since : List ℕ) (place c : ℕ) → is_inner c ≡ true → continues since c ≡ true →
-      step (since_at since place) c ≡ Ok (since_at (since ++ c ∷ []) (place + len_utf8 c))
+      step (since_at since place) c ≡ since_at (since ++ c ∷ []) (place + len_utf8 c)
   one_since since place c inner more =
       let above = ltb-true 13 c inner in
       let e0 : eqb c 0 ≡ false = ne_eqb c 0 (λ e. omega (arith, above, e)) in
@@ -148,41 +143,39 @@ module _ (s : TokenState) (fresh : Bool) (p : Page) where
       rw (e0, e10, e13, more) refl
 
   many_since : (since cs : List ℕ) (place : ℕ) → all_continue since cs ≡ true →
-      (end : ℕ) × (run (since_at since place) cs ≡ Ok (since_at (since ++ cs) end))
-  many_since since [] place h = (place, ap (λ l. Ok (since_at l place)) (sym (append-nil since)))
+      (end : ℕ) × (run (since_at since place) cs ≡ since_at (since ++ cs) end)
+  many_since since [] place h = (place, ap (λ l. since_at l place) (sym (append-nil since)))
   many_since since (c ∷ cs) place h =
       let both = and_parts _ _ h in
       let here = and_parts _ _ both.0 in
       let more = many_since (since ++ c ∷ []) cs (place + len_utf8 c) both.1 in (
         more.0,
-        ap (λ r. r next (λ q. run q cs)) (one_since since place c here.0 here.1)
-            ∙ (more.1 ∙ ap (λ l. Ok (since_at l more.0)) (append_assoc since (c ∷ []) cs)),
+        ap (λ q. run q cs) (one_since since place c here.0 here.1)
+            ∙ (more.1 ∙ ap (λ l. since_at l more.0) (append_assoc since (c ∷ []) cs)),
       )
 
   end_since : (since : List ℕ) (place c : ℕ) → ((v : Bool) → resolved v since (Some 59) ≡ whole c) →
-      step (since_at since place) 59 ≡ ((reference_read (c ∷ []) s (reading_at fresh place p)) next
-      (λ r. Ok (past_char 59 place r)))
+      step (since_at since place) 59
+      ≡ past_char 59 place (reference_read (c ∷ []) s (reading_at fresh place p))
   end_since since place c e =
       let ended = ends_here since in
       let found = e (in_value s) in
-      rw (ended, found) (ap (λ x. x next (λ r. Ok (past_char 59 place r)))
-      (last_step (reference_read (c ∷ []) s (reading_at fresh place p))))
+      rw (ended, found) refl
 
 -- where `&` leads to a reference, one that is written does what its character does
 pub reference_leads : (s : TokenState) (q : PageReader) (fresh : Bool) (place : ℕ) (p : Page)
     (c : ℕ) → is_text_char c ≡ true → is_return c ≡ false →
-    step q 38 ≡ Ok (record { state = Reference [] s; reading = reading_at fresh place p }) →
+    step q 38 ≡ record { state = Reference [] s; reading = reading_at fresh place p } →
     (end : ℕ) × (run q (reference_to c)
-    ≡ ((reference_read (c ∷ []) s (reading_at fresh end p)) next (λ r. Ok (past_char 59 end r))))
+    ≡ past_char 59 end (reference_read (c ∷ []) s (reading_at fresh end p)))
 reference_leads s q fresh place p c h n start =
     let x : Spelled c = spelled c h n in
     let more = many_since s fresh p [] x.0 place x.2 in
     let last : run (since_at s fresh p x.0 more.0) (59 ∷ [])
-    ≡ ((reference_read (c ∷ []) s (reading_at fresh more.0 p))
-    next (λ r. Ok (past_char 59 more.0 r))) =
-    last_step (step (since_at s fresh p x.0 more.0) 59) ∙ end_since s fresh p x.0 more.0 c x.3 in (
+    ≡ past_char 59 more.0 (reference_read (c ∷ []) s (reading_at fresh more.0 p)) =
+    end_since s fresh p x.0 more.0 c x.3 in (
       more.0,
-      ap (run q) x.1 ∙ (ap (λ r. r next (λ t. run t (x.0 ++ 59 ∷ []))) start ∙ run_on _ _ _ x.0
+      ap (run q) x.1 ∙ (ap (λ t. run t (x.0 ++ 59 ∷ [])) start ∙ run_on _ _ _ x.0
           (59 ∷ []) more.1 last),
     )
 
@@ -195,7 +188,7 @@ value_at tag attr value fresh place p =
 pub value_reference : (tag : TagDraft) (attr value : List ℕ) (fresh : Bool) (place : ℕ) (p : Page)
     (c : ℕ) → is_text_char c ≡ true → is_return c ≡ false →
     (end : ℕ) × (run (value_at tag attr value fresh place p) (reference_to c)
-    ≡ Ok (value_at tag attr (value ++ c ∷ []) fresh end p))
+    ≡ value_at tag attr (value ++ c ∷ []) fresh end p)
 value_reference tag attr value fresh place p c h n =
     let x = reference_leads (Value tag attr value 34) (value_at tag attr value fresh place p) fresh
     (place + 1) p c h n refl in

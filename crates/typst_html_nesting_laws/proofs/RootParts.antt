@@ -7,7 +7,7 @@ use Rattle.html_page_nesting.specs.declared.reading.Space.TheVariants as nest
 use Rattle.typst_html_encode.specs.Reader.{drops_feed}
 use Rattle.html_page_names.specs.{ForeignNames.{lowered}, PageNames.{kind_names, of}, declared.kind.Kind.{Kind}}
 use Rattle.html_page_names.specs.declared.kind.Kind.TheVariants as kind
-use Rattle.html_page_stack.specs.{OpenElements.{OpenElement, html_mode, mode, named_mode}, Pages.{Page, StartTag, Start, opened, taken}}
+use Rattle.html_page_stack.specs.{OpenElements.{OpenElement, html_mode, mode, named_mode}, Pages.{Page, StartTag, Start, opened, Taken}}
 use Rattle.html_page_stack.specs.OpenElements as open_elements
 use Rattle.html_page_stack.specs.declared.modes.Space.TheVariants as spaces
 use Rattle.html_page_tree.specs.PageBodies.{before as before_element, implied, repeated}
@@ -51,9 +51,9 @@ name_of k name n e h = agree_of (λ m. m) (λ m. name) k n
 
 -- their start tags
 pub begins_named : (name : List ℕ) (tag : StartTag) (p : Page) → tag.name ≡ name →
-    before_element name (Start tag) p ≡ taken (opened tag.name tag.attrs p)
+    before_element name (Start tag) p ≡ Taken (opened tag.name tag.attrs p)
 begins_named name tag p e =
-    rw ((bytes_eq-Decides tag.name name).1 e) (ap (λ n. taken (opened n tag.attrs p)) (sym e))
+    rw ((bytes_eq-Decides tag.name name).1 e) (ap (λ n. Taken (opened n tag.attrs p)) (sym e))
 
 -- their modes
 

@@ -1,5 +1,5 @@
 -- The text of a page is read as its root: the document type, `html`, `head`, `body`, and the end.
-use Rattle.std.proofs.Common.{◌≡◌, ℕ, ◌+◌, ◌<◌, Bool, true, false, List, [], ◌∷◌, ◌++◌, codes, length, refl, sym, ap, subst, ◌∙◌, append-nil, append_assoc, arith, Ok}
+use Rattle.std.proofs.Common.{◌≡◌, ℕ, ◌+◌, ◌<◌, Bool, true, false, List, [], ◌∷◌, ◌++◌, codes, length, refl, sym, ap, subst, ◌∙◌, append-nil, append_assoc, arith, None, Ok}
 use Rattle.std.{proofs.lemmas.Bool.{and_left, and_parts, and_right, both_ways, false≢true}, specs.Prelude.{if◌then◌else◌}}
 use Rattle.html_names_core.specs.Names.{stands_in}
 use Rattle.html_dom_tree.{proofs.Basics.{put_twice}, specs.PlainTree.{branch, Plains, no_plains, plain, put_words, nodes_normal}}
@@ -18,14 +18,14 @@ use Rattle.typst_html_encode.specs.Text.{end_tag_text, escaped_text, escaping_of
 use Rattle.html_page_names.specs.{ForeignNames.{lowered}, PageNames.{of}}
 use Rattle.html_page_names.specs.declared.kind.Kind.TheVariants as kind
 use Rattle.html_page_stack.{proofs.Children.{element_counts}, specs.declared.modes.Mode.{Mode}}
-use Rattle.html_page_stack.specs.OpenElements.{OpenElement, completed, has_elements, mode, with_text}
-use Rattle.html_page_stack.specs.Pages.{Notes, Page, Reads, Token, Char, Start, End, Finish, ◌next◌, closed, first_page, opened, taken}
+use Rattle.html_page_stack.specs.OpenElements.{OpenElement, all_completed, completed, has_elements, mode, with_text}
+use Rattle.html_page_stack.specs.Pages.{Notes, Page, Token, Char, Start, End, Finish, closed, first_page, opened, settled, Taken}
 use Rattle.html_page_stack.specs.declared.modes.Mode.TheVariants.{BeforeHtml, BeforeHead, InHead, AfterHead, InBody}
 use Rattle.html_page_stack.specs.OpenElements as open_elements
 use Rattle.html_page_stack.specs.declared.modes.Space.TheVariants as spaces
 use Rattle.html_page_stack.specs.declared.modes.TableRule.TheVariants as rule
 use Rattle.html_page_tree.specs.PageTrees.{by_mode, token_read}
-use Rattle.html_page_read.specs.{DocumentTypes.{is_known, table_rule}, PageReading.{first_reader, page_made, run}}
+use Rattle.html_page_read.specs.{DocumentTypes.{table_rule}, PageReading.{PageResult, answered, first_reader, page_result, run}}
 use Rattle.html_page_read.specs.PageTokens.{PageReader, finished}
 use Rattle.typst_html_nesting_laws.proofs.{Branches.{else_none}, Closed.{calm_begun}, EndTags.{end_emits}, InnerTexts.{no_return}}
 use Rattle.typst_html_nesting_laws.proofs.Fillings.{around, behind_data, element_closed, inside_faults, nodes_filled, opened as opened_element, opened_page}
@@ -59,16 +59,16 @@ module _ {frames : Frames} {above : List Ancestor} {h : Head} {kids : NodesView}
   -- the reader behind it
   part_begun : (place : ℕ) (p : Page) → length p.stack < p.limit → ((s : ℕ) → token_read
       (Start (written_tag h)) (started s p) ≡ opened (lowered h.name) (lowered_attrs h.attrs)
-      (started s p)) → run (data_at false place p) (start_tag_text h) ≡ Ok (data_at false
-      ((part_starts place p).place + 1) (begun h above (started (part_starts place p).start p)))
+      (started s p)) → run (data_at false place p) (start_tag_text h) ≡ data_at false
+      ((part_starts place p).place + 1) (begun h above (started (part_starts place p).start p))
   part_begun place p limit reads =
       let e = part_starts place p in
       let before = started e.start p in
       let after = begun h above before in
       e.is after (reads e.start ∙ opened_back h before limit (space_of (reading_of above) h.name)
       part_space (tag_fits h kids (surroundings_of above) x.fits.fits))
-      ∙ (ap (λ q. Ok q) (behind_data (written_tag h) e.place after (and_right _ _ x.part.raw))
-      ∙ ap (λ b. Ok (data_at b (e.place + 1) after)) (and_left _ _
+      ∙ (behind_data (written_tag h) e.place after (and_right _ _ x.part.raw)
+      ∙ ap (λ b. data_at b (e.place + 1) after) (and_left _ _
       (ap (of kind.DropsFeed) x.part.small ∙ x.part.drops)))
 
   part_rest : rest frames level h kids
@@ -91,14 +91,14 @@ module _ {frames : Frames} {above : List Ancestor} {h : Head} {kids : NodesView}
       there x.fits.below) h.pre_span false place start part_faults (λ e. absurd (false≢true e)))
 
 -- the end of a text is read as a root, with children that have this normal form
-pub record RootIsRead (r : Reads PageReader) (o : OpenElement) (k : Plains) : Type 0 where
+pub record RootIsRead (r : PageReader) (o : OpenElement) (k : Plains) : Type 0 where
   pub root : ElementView
-  pub is : ((r next finished) next page_made) ≡ Ok (root, no_notes)
+  pub is : page_result (finished r).page ≡ Ok (root, no_notes)
   pub head : root.0 ≡ o.head
   pub same : nodes_normal root.1 ≡ k
 
 -- a text, and what follows it
-root_on : {o : OpenElement} {k : Plains} (q r : PageReader) (xs ys : List ℕ) → run q xs ≡ Ok r →
+root_on : {o : OpenElement} {k : Plains} (q r : PageReader) (xs ys : List ℕ) → run q xs ≡ r →
     RootIsRead (run r ys) o k → RootIsRead (run q (xs ++ ys)) o k
 root_on {o} {k} q r xs ys e h =
     subst (λ x. RootIsRead x o k) (sym (run_on q r (run r ys) xs ys e refl)) h
@@ -107,15 +107,15 @@ root_as : {o : OpenElement} {k : Plains} (q : PageReader) (xs ys : List ℕ) →
     RootIsRead (run q ys) o k → RootIsRead (run q xs) o k
 root_as {o} {k} q xs ys e h = subst (λ l. RootIsRead (run q l) o k) (sym e) h
 
-root_same : {r : Reads PageReader} {o : OpenElement} {k l : Plains} → k ≡ l → RootIsRead r o k →
+root_same : {r : PageReader} {o : OpenElement} {k l : Plains} → k ≡ l → RootIsRead r o k →
     RootIsRead r o l
 root_same e h = record { root = h.root; is = h.is; head = h.head; same = h.same ∙ e }
 
 -- the root that is made where one element stands in it, and no text behind
 abbrev root_at : OpenElement → OpenElement → ElementView
-root_at u v = (v.head, with_last v.children (completed u))
+root_at u v = all_completed u (v ∷ [])
 
-abbrev made_at : OpenElement → OpenElement → Notes → Reads (ElementView × Notes)
+abbrev made_at : OpenElement → OpenElement → Notes → PageResult
 made_at u v notes = Ok (root_at u v, notes)
 
 -- the page within `html`
@@ -123,6 +123,7 @@ pub record InRoot (above : List Ancestor) (p : Page) (o : OpenElement) : Type 0 
   pub calm : (c : NodesView) (t : List ℕ) (s : ℕ) → IsCalm above (on p o [] c t s)
   pub limit : 512 < p.limit
   pub notes : p.notes ≡ no_notes
+  pub refusal : p.refusal ≡ None
   pub name : o.head.name ≡ codes "html"
   pub space : o.space ≡ spaces.Html
   pub as_html : reading_of above ≡ reading.AsHtml
@@ -152,9 +153,9 @@ nothing_behind frames pre_span due level (node n ns) h k = absurd (both_ways _ (
 
 module _ {above : List Ancestor} {p : Page} {o : OpenElement} (inner : InRoot above p o) where
   -- tokens within `html`, whose mode is by whether it has the head
-  root_taken : (token : Token) (c : NodesView) (t : List ℕ) (s : ℕ) (b : Bool) (r : Reads Page) →
+  root_taken : (token : Token) (c : NodesView) (t : List ℕ) (s : ℕ) (b : Bool) (r : Page) →
       has_elements c ≡ b → by_mode (if b then AfterHead else BeforeHead) token (on p o [] c t s)
-      ≡ taken r → token_read token (on p o [] c t s) ≡ r
+      ≡ Taken r → token_read token (on p o [] c t s) ≡ r
   root_taken token c t s b r has h =
       let it : OpenElement = record o { children = c } in
       mode_taken token (on p o [] c t s) (if b then AfterHead else BeforeHead) r
@@ -165,15 +166,15 @@ module _ {above : List Ancestor} {p : Page} {o : OpenElement} (inner : InRoot ab
   -- white space behind the head
   white_there : (c : NodesView) (t : List ℕ) (s : ℕ) → has_elements c ≡ true →
       Takes is_white_char (on p o [] c t s)
-  white_there c t s has x text start passes = root_taken (Char x) c text start true
-      (Ok (on p o [] c (text ++ x ∷ []) start)) has (rw passes refl)
+  white_there c t s has x text start passes some = root_taken (Char x) c text start true
+      (on p o [] c (text ++ x ∷ []) start) has (rw passes refl)
 
 -- the head or the body in the root, which its start tag opens, and the mode that it brings
 module _ {frames : Frames} {above : List Ancestor} {h : Head} {kids : NodesView} {p : Page}
     {o : OpenElement} (level : ℕ) (x : PartFits frames above h kids) (inner : InRoot above p o)
     (c : NodesView) (t : List ℕ) (s here : ℕ) (has : Bool) (elements : has_elements c ≡ has)
     (opens : (q : Page) → by_mode (if has then AfterHead else BeforeHead) (Start (written_tag h)) q
-    ≡ taken (opened (lowered h.name) (lowered_attrs h.attrs) q))
+    ≡ Taken (opened (lowered h.name) (lowered_attrs h.attrs) q))
     (own : Mode) (brings : (it : OpenElement) (os : List OpenElement) → it.head.name ≡ h.name →
     it.space ≡ spaces.Html → mode (it ∷ os) ≡ own)
     (l : Place) (stands : place_of (ancestor h above ∷ above) ≡ l)
@@ -204,7 +205,7 @@ module _ {frames : Frames} {above : List Ancestor} {h : Head} {kids : NodesView}
   mode_it : (children : NodesView) → mode (record it { children = children } ∷ outer) ≡ own
   mode_it children = brings (record it { children = children }) outer refl html_it
 
-  begun_there : run reader (start_tag_text h) ≡ Ok (data_at false (begins.place + 1) page)
+  begun_there : run reader (start_tag_text h) ≡ data_at false (begins.place + 1) page
   begun_there = part_begun x level here (on p o [] c t s)
       (omega (arith, inner.limit)) (λ start. root_taken inner (Start (written_tag h)) c t
       start has (opened (lowered h.name) (lowered_attrs h.attrs) (on p o [] c t start)) elements
@@ -226,15 +227,15 @@ module _ {frames : Frames} {above : List Ancestor} {h : Head} {kids : NodesView}
   filled = part_filled x level page it outer there (begins.place + 1) begins.start
 
   -- a token in it
-  own_taken : (token : Token) (children : NodesView) (words : List ℕ) (start : ℕ) (r : Reads Page) →
-      by_mode own token (on page it outer children words start) ≡ taken r →
+  own_taken : (token : Token) (children : NodesView) (words : List ℕ) (start : ℕ) (r : Page) →
+      by_mode own token (on page it outer children words start) ≡ Taken r →
       token_read token (on page it outer children words start) ≡ r
   own_taken token children words start r h = mode_taken token
       (on page it outer children words start) own r calm_page.tables
       (html_token token (record it { children = children }) outer html_it) (mode_it children) h
 
   -- the head, whose end tag closes it
-  head_read : ((q : Page) → by_mode own (End (lowered h.name)) q ≡ taken (closed true q)) →
+  head_read : ((q : Page) → by_mode own (End (lowered h.name)) q ≡ Taken (closed true q)) →
       (g : AreGathered reader (start_tag_text h ++ rest frames level h kids) false p o [] c t
       (node (element_node h kids) none)) × (has_elements g.children ≡ true)
   head_read closes = (
@@ -249,7 +250,7 @@ module _ {frames : Frames} {above : List Ancestor} {h : Head} {kids : NodesView}
 
   -- the body, whose end tag and that of the root do nothing
   body_read : ((n : List ℕ) → of kind.Root n ≡ true → (q : Page) →
-      by_mode own (End n) q ≡ taken (Ok q)) → ((q : Page) → by_mode own Finish q ≡ taken (Ok q)) →
+      by_mode own (End n) q ≡ Taken q) → ((q : Page) → by_mode own Finish q ≡ Taken q) →
       of kind.Root (lowered h.name) ≡ true → (root : List ℕ) → of kind.Root (lowered root) ≡ true →
       ((fresh : Bool) (place : ℕ) (q : Page) →
       Emits (data_at fresh place q) (end_tag_text root) (End (lowered root)) q) → RootIsRead
@@ -264,21 +265,21 @@ module _ {frames : Frames} {above : List Ancestor} {h : Head} {kids : NodesView}
       let z : OpenElement = record it { children = texted_children begins.start children words } in
       let w : OpenElement = record o { children = texted_children o.head.span c t } in
       let ended : (n : List ℕ) (start : ℕ) → of kind.Root n ≡ true → token_read (End n) (last start)
-      ≡ Ok (last start) = λ n start k. own_taken (End n) children words start (Ok (last start))
+      ≡ last start = λ n start k. own_taken (End n) children words start (last start)
       (stays n k (last start)) in
       let whole =
       run_on reader _ _ (start_tag_text h ++ rest frames level h kids) (end_tag_text root)
       (run_on reader _ _ (start_tag_text h) (rest frames level h kids) begun_there
       (filled.is (last filled.start) (ended (lowered h.name) filled.start is_own)))
       (e.is (last e.start) (ended (lowered root) e.start is_root)) in
-      let over = ap (λ r. r next (λ u. Ok (reading_at false (e.place + 1) u)))
-      (own_taken Finish children words (e.place + 1) (Ok (last (e.place + 1)))
-      (finishes (last (e.place + 1)))) in
+      let over = own_taken Finish children words (e.place + 1) (last (e.place + 1))
+      (finishes (last (e.place + 1))) in
       record {
         root = root_at z w;
-        is = ap (λ r. (r next finished) next page_made) whole ∙ (ap (λ r. r next page_made) over
+        is = ap (λ r. page_result (finished r).page) whole ∙ (ap page_result over
+            ∙ (ap (λ f. answered f (settled (last (e.place + 1)))) inner.refusal
             ∙ (ap (λ u. made_at u y p.notes) (with_text_is words it children)
-            ∙ (ap (λ v. made_at z v p.notes) (with_text_is t o c) ∙ ap (made_at z w) inner.notes)));
+            ∙ (ap (λ v. made_at z v p.notes) (with_text_is t o c) ∙ ap (made_at z w) inner.notes))));
         head = refl;
         same = normal_is (with_last w.children (completed z))
             ∙ (put_last w.children (completed z) no_plains
@@ -290,7 +291,7 @@ module _ {frames : Frames} {above : List Ancestor} {h : Head} {kids : NodesView}
 
 -- the end tags of the body and of the root leave a page as it is
 root_stays : (n : List ℕ) → of kind.Root n ≡ true → (q : Page) →
-    by_mode InBody (End n) q ≡ taken (Ok q)
+    by_mode InBody (End n) q ≡ Taken q
 root_stays n h q = rw h refl
 
 module _ (frames : Frames) (pre_span : Bool) (level : ℕ) {above : List Ancestor} {p : Page}
@@ -418,8 +419,8 @@ abbrev typed : (limit : ℕ) → Page
 typed limit = record (first_page limit) { tables = rule.ClosesP }
 
 type_read : (limit : ℕ) → run (first_reader limit 0) (codes "<!DOCTYPE html>")
-    ≡ Ok (data_at false 15 (typed limit))
-unfolding table_rule is_known stands_in
+    ≡ data_at false 15 (typed limit)
+unfolding table_rule
 type_read limit = refl
 
 module _ (frames : Frames) (limit : ℕ) (h : Head) (kids : NodesView) (deep : 512 < limit)
@@ -445,6 +446,7 @@ module _ (frames : Frames) (limit : ℕ) (h : Head) (kids : NodesView) (deep : 5
     };
     limit = deep;
     notes = refl;
+    refusal = refl;
     name = name;
     space = ap open_space root_space;
     as_html = ap (λ s. reading_in s h) root_space;

@@ -1,5 +1,5 @@
 -- A start tag is read as one, its names in small letters.
-use Rattle.std.proofs.Common.{◌≡◌, ℕ, ◌+◌, ◌≤◌, Bool, true, false, List, [], ◌∷◌, ◌++◌, bytes_eq, codes, eqb, length, refl, sym, ap, ◌∙◌, subst, arith, append_assoc, append-nil, drop, length-append, None, Ok}
+use Rattle.std.proofs.Common.{◌≡◌, ℕ, ◌+◌, ◌≤◌, Bool, true, false, List, [], ◌∷◌, ◌++◌, bytes_eq, codes, eqb, length, refl, sym, ap, ◌∙◌, subst, arith, append_assoc, append-nil, drop, length-append, None}
 use Rattle.std.proofs.lemmas.{Bool.{and_from, and_parts, lt-leb, not-false, not-true, or_parts, Decides.{nat_tests}}, List.{length-map}}
 use Rattle.std.specs.{Char.{len_utf8, to_ascii_lowercase}, List.{list_any}, Prelude.{if◌then◌else◌, nat_le}}
 use Rattle.html_names_core.{proofs.Basics.{bytes_eq-sym}, specs.Characters.{all, IsOf, is_attr_char, is_text_char, is_value_char}}
@@ -10,10 +10,10 @@ use Rattle.typst_html_encode.{proofs.Runs.{left_empty, right_empty, test_fails},
 use Rattle.typst_html_encode.specs.{ReadingBack.{HeadIsNamed, PairsAreNamed}, References.{reference_to}}
 use Rattle.typst_html_encode.specs.Text.{attrs_text, start_tag_text, tag_close, value_text}
 use Rattle.html_page_names.specs.ForeignNames.{lowered}
-use Rattle.html_page_stack.specs.Pages.{Page, Reads, Start, StartTag, ◌next◌}
+use Rattle.html_page_stack.specs.Pages.{Page, Start, StartTag, most_attrs}
 use Rattle.html_page_tree.specs.PageTrees.{token_read}
 use Rattle.html_page_read.specs.PageReading.{run}
-use Rattle.html_page_read.specs.PageTokens.{AfterAttrName, AfterValue, AttrName, BeforeAttr, PageReader, Reading, SelfClosing, TagDraft, TagName, TagOpen, TokenState, Value, before_attr_read, goes, is_name, most_attrs, moved, past_char, step, tag_emitted, with_attr}
+use Rattle.html_page_read.specs.PageTokens.{AfterAttrName, AfterValue, AttrName, BeforeAttr, PageReader, Reading, SelfClosing, TagDraft, TagName, TagOpen, TokenState, Value, before_attr_read, goes, is_name, moved, past_char, step, tag_emitted, with_attr}
 use Rattle.typst_html_nesting_laws.proofs.{Branches.{absent_parts, decide}, References.{value_reference}}
 use Rattle.typst_html_nesting_laws.proofs.Readers.{Emits, behind, data_at, lowered_attrs, reading_at, started, written_tag}
 use Rattle.typst_html_nesting_laws.proofs.TagChars.{Finishes, Moves, at_state, attr_faultless, finishes_on, grows, moves_on, name_lowered, name_moves, of_attr, one_moves, stepped, tag_named}
@@ -79,7 +79,7 @@ record IsNew (t : TagDraft) (attr : List ℕ) : Type 0 where
   few : nat_le most_attrs (length t.attrs) ≡ false
 
 added : (t : TagDraft) (attr value : List ℕ) (r : Reading)
-    (f : TagDraft → Reading → Reads PageReader) → IsNew t attr →
+    (f : TagDraft → Reading → PageReader) → IsNew t attr →
     with_attr attr value t r f ≡ f (with_pair t attr value) r
 added t attr value r f new = rw (new.faultless, new.absent, new.few) refl
 
@@ -225,10 +225,9 @@ module _ (name written : List ℕ) (is : is_name name ≡ true) (fresh : Bool) (
 
   -- behind the `>`
   ended : (closed : Bool) (attrs : List TextPair) (place : ℕ) (after : Page) →
-      token_read (Start (made attrs closed)) p ≡ Ok after →
-      (((tag_emitted closed (draft attrs) (reading_at fresh place p))
-      next (λ q. Ok (past_char 62 place q))) next (λ q. run q []))
-      ≡ Ok (behind (Start (made attrs closed)) place after)
+      token_read (Start (made attrs closed)) p ≡ after →
+      past_char 62 place (tag_emitted closed (draft attrs) (reading_at fresh place p))
+      ≡ behind (Start (made attrs closed)) place after
   ended closed attrs place after taken = rw (is, taken) refl
 
   close_finishes : (b : Bool) (s : TokenState) (attrs : List TextPair) (place : ℕ) →
@@ -236,12 +235,11 @@ module _ (name written : List ℕ) (is : is_name name ≡ true) (fresh : Bool) (
       (at_state s fresh place p) (if b then codes "/>" else codes ">") (Start (made attrs b)) p
   close_finishes false s attrs place k = record {
     place = place;
-    is = λ after taken. ap (λ x. (x next (λ q. Ok (past_char 62 place q))) next (λ q. run q []))
-        (k.closes (reading_at fresh place p)) ∙ ended false attrs place after taken;
+    is = λ after taken. ap (past_char 62 place) (k.closes (reading_at fresh place p)) ∙ ended false attrs place after taken;
   }
   close_finishes true s attrs place k = record {
     place = place + 1;
-    is = λ after taken. ap (λ x. x next (λ q. run q (62 ∷ [])))
+    is = λ after taken. ap (λ q. run q (62 ∷ []))
         (stepped s (SelfClosing (draft attrs)) fresh place p 47 refl refl
         (k.closes_itself (reading_at fresh place p))) ∙ ended true attrs (place + 1) after taken;
   }

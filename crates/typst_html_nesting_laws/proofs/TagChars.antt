@@ -1,11 +1,11 @@
 -- Characters of tags: what they are not, and what a text of them leads to.
-use Rattle.std.proofs.Common.{◌≡◌, ℕ, ◌+◌, ◌<◌, Bool, true, false, not, ◌&&◌, inl, inr, List, [], ◌∷◌, ◌++◌, eqb, map, refl, ap, ◌∙◌, arith, append_assoc, append-nil, Ok, None, find}
+use Rattle.std.proofs.Common.{◌≡◌, ℕ, ◌+◌, ◌<◌, Bool, true, false, not, ◌&&◌, inl, inr, List, [], ◌∷◌, ◌++◌, eqb, map, refl, ap, ◌∙◌, arith, append_assoc, append-nil, None, find}
 use Rattle.std.proofs.lemmas.Bool.{agree_below, agree_below_at, and_from, and_parts, cases_lt, Decides.{nat_tests}}
 use Rattle.std.{proofs.lemmas.Str.Ascii.{lowercase_is}, specs.Char.{len_utf8, to_ascii_lowercase}}
 use Rattle.html_names_core.specs.{Characters.{all, IsOf, is_attr_char, is_tag_char}, Names.{attr_fault}}
 use Rattle.html_page_nesting.specs.WrittenTags.{begins_with_letter}
 use Rattle.html_page_names.specs.ForeignNames.{lowered}
-use Rattle.html_page_stack.specs.Pages.{Page, Token, ◌next◌}
+use Rattle.html_page_stack.specs.Pages.{Page, Token}
 use Rattle.html_page_tree.specs.{PageBodies.{is_space}, PageTrees.{token_read}}
 use Rattle.html_page_read.{proofs.{PageStretches.{other}, TagNames.{name_of_tag}}, specs.{PageReading.{run}, PageReferences.{is_letter}}}
 use Rattle.html_page_read.specs.PageTokens.{PageReader, Reading, TagDraft, TagName, TokenState, goes, is_name, moved, step}
@@ -19,13 +19,13 @@ at_state s fresh place p = record { state = s; reading = reading_at fresh place 
 pub record Moves (q : PageReader) (text : List ℕ) (s : TokenState) (fresh : Bool) (p : Page) :
     Type 0 where
   pub place : ℕ
-  pub is : run q text ≡ Ok (at_state s fresh place p)
+  pub is : run q text ≡ at_state s fresh place p
 
 -- a text ends in the last character of a tag
 pub record Finishes (q : PageReader) (text : List ℕ) (token : Token) (p : Page) : Type 0 where
   pub place : ℕ
-  pub is : (after : Page) → token_read token p ≡ Ok after →
-      run q text ≡ Ok (behind token place after)
+  pub is : (after : Page) → token_read token p ≡ after →
+      run q text ≡ behind token place after
 
 pub moves_on : {q : PageReader} {s t : TokenState} {fresh : Bool} {p : Page} (xs ys : List ℕ) →
     Moves q xs s fresh p → ((place : ℕ) → Moves (at_state s fresh place p) ys t fresh p) →
@@ -44,7 +44,7 @@ finishes_on xs ys h k =
 -- one character
 pub one_moves : (q : PageReader) (s : TokenState) (fresh : Bool) (place : ℕ) (p : Page) (c : ℕ) →
     step q c ≡ goes s (reading_at fresh place p) → Moves q (c ∷ []) s fresh p
-one_moves q s fresh place p c h = record { place = place; is = ap (λ x. x next (λ r. run r [])) h }
+one_moves q s fresh place p c h = record { place = place; is = ap (λ r. run r []) h }
 
 -- a state that holds what it has read so far, each character as the function makes it
 module _ (f : List ℕ → TokenState) (g : ℕ → ℕ) (ok : ℕ → Bool) (fresh : Bool) (p : Page)
@@ -56,7 +56,7 @@ module _ (f : List ℕ → TokenState) (g : ℕ → ℕ) (ok : ℕ → Bool) (fr
   grows xs (c ∷ cs) place h =
       let both = and_parts _ _ h in
       let m = grows (xs ++ g c ∷ []) cs (place + len_utf8 c) both.1 in
-      let read = ap (λ x. x next (λ q. run q cs)) (one xs c place both.0) ∙ m.is in
+      let read = ap (λ q. run q cs) (one xs c place both.0) ∙ m.is in
       rw (← append_assoc xs (g c ∷ []) (map g cs)) (record { place = m.place; is = read })
 
 -- behind a character that is neither U+0000 nor a carriage return
@@ -64,8 +64,8 @@ pub stepped : (s t : TokenState) (fresh : Bool) (place : ℕ) (p : Page) (c : �
     eqb c 13 ≡ false → moved s c (reading_at fresh place p) ≡ goes t (reading_at fresh place p) →
     step (at_state s fresh place p) c ≡ goes t (reading_at fresh (place + len_utf8 c) p)
 stepped s t fresh place p c zero return h =
-    let moves = ap (λ x. x next (λ q. goes q.state
-    (record q.reading { place = place + len_utf8 c; after_return = false }))) h in
+    let moves = ap (λ q. goes q.state
+    (record q.reading { place = place + len_utf8 c; after_return = false })) h in
     decide (eqb c 10) (λ e. rw (zero, e, return) moves) (λ e. rw (zero, e, return) moves)
 
 -- a character that means nothing in a tag

@@ -1,5 +1,5 @@
 -- Texts that are added to the current node, and nothing else is done.
-use Rattle.std.{proofs.Common.{◌≡◌, ℕ, Bool, true, false, not, List, [], ◌∷◌, refl, sym, ap, ◌∙◌, Ok}, specs.Prelude.{Some}}
+use Rattle.std.{proofs.Common.{◌≡◌, ℕ, Bool, true, false, not, List, [], ◌∷◌, refl, sym, ap, ◌∙◌}, specs.Prelude.{Some}}
 use Rattle.std.proofs.lemmas.Bool.{and_from, false≢true, or_right}
 use Rattle.html_page_nesting.specs.{Ancestors.{Ancestor, place_of}, WrittenTexts.{is_white_char}, declared.reading.Place.{Place}}
 use Rattle.html_page_nesting.specs.declared.reading.Place.TheVariants as place
@@ -31,7 +31,7 @@ mode_takes _ p h l = absurd (false≢true h)
 mode_text : (above : List Ancestor) (p : Page) → IsCalm above p →
     is_text_mode (mode p.stack) ≡ true → Takes (λ c. true) p
 unfolding takes_text
-mode_text above p calm h c text start passes = text_taken c (texted text start p)
+mode_text above p calm h c text start passes some = text_taken c (texted text start p) some
     (and_from _ _ (ap (λ r. not (is_unseen r)) calm.tables)
     (or_right _ _ (mode_takes (mode p.stack) (texted text start p) h (ap loses_some calm.lost
     ∙ marks_lose_none p.stack))))
@@ -57,7 +57,7 @@ record IsWhite (p : Place) : Type 0 where
   pub mode : Mode
   pub is : mode_in p ≡ Some mode
   pub read : (c : ℕ) (q : Page) → is_white_char c ≡ true →
-      by_mode mode (Char c) q ≡ Ok (Taken (with_char c q))
+      by_mode mode (Char c) q ≡ Taken (with_char c q)
 
 white_place : (p : Place) → is_page_place p ≡ false → (p ≡ place.Body → ⊥) → IsWhite p
 white_place place.Page page body = absurd (false≢true (sym page))
@@ -75,9 +75,9 @@ white_html m above os alike e c = absurd alike
 -- where no text may stand
 pub white_takes : (above : List Ancestor) (p : Page) → IsCalm above p → is_page_place
     (place_of above) ≡ false → (place_of above ≡ place.Body → ⊥) → Takes is_white_char p
-white_takes above p calm page body c text start passes =
+white_takes above p calm page body c text start passes some =
     let w = white_place (place_of above) page body in
     let q : Page = texted text start p in
-    mode_taken (Char c) q w.mode (Ok (with_char c q)) calm.tables
+    mode_taken (Char c) q w.mode (with_char c q) calm.tables
     (white_html w.mode above p.stack calm.alike w.is c)
     (mode_is w.mode above p.stack calm.alike w.is) (w.read c q passes)

@@ -1,5 +1,5 @@
 -- Texts between tags are read as they are.
-use Rattle.std.proofs.Common.{◌≡◌, ℕ, ◌+◌, Bool, true, false, ◌&&◌, eqb, List, [], ◌∷◌, ◌++◌, refl, ◌∙◌, append_assoc, Ok}
+use Rattle.std.proofs.Common.{◌≡◌, ℕ, ◌+◌, Bool, true, false, ◌&&◌, eqb, List, [], ◌∷◌, ◌++◌, refl, ◌∙◌, append_assoc}
 use Rattle.std.proofs.{Math.Bool.{and-false, and-true}, lemmas.{Bool.{and_parts, not-true, or_parts}, List.{append-nil}}}
 use Rattle.std.specs.{Char.{len_utf8}, List.{list_all}}
 use Rattle.html_names_core.specs.Characters.{all, is_text_char, is_element_text_char}
@@ -37,7 +37,7 @@ module _ (passes : ℕ → Bool) (p : Page) (takes : Takes passes p) where
   record CharLeads (q : PageReader) (cs text : List ℕ) : Type 0 where
     place : ℕ
     start : ℕ
-    is : run q cs ≡ Ok (data_at false place (texted text start p))
+    is : run q cs ≡ data_at false place (texted text start p)
 
   module _ (fresh : Bool) (place : ℕ) (text : List ℕ) (start c : ℕ) (pass : passes c ≡ true)
       (h : is_text_char c ≡ true) (n : is_return c ≡ false)
@@ -48,7 +48,7 @@ module _ (passes : ℕ → Bool) (p : Page) (takes : Takes passes p) where
         let e0 = other is_text_char c 0 h refl in
         let e10 = and-false (eqb c 10) in
         let e = is_plain_text_char c plain in
-        let taken = takes c text place pass in
+        let taken = takes c text place pass e0 in
         record {
           place = place + len_utf8 c;
           start = place;
@@ -60,7 +60,7 @@ module _ (passes : ℕ → Bool) (p : Page) (takes : Takes passes p) where
     reference_char_leads =
         let x = reference_leads Data (data_at fresh place (texted text start p)) fresh (place + 1)
         (texted text place p) c h n refl in
-        let taken = takes c text place pass in
+        let taken = takes c text place pass (other is_text_char c 0 h refl) in
         record { place = x.0 + 1; start = place; is = x.1 ∙ rw (kept, taken) refl }
 
     char_leads : (pre_span : Bool) → CharLeads (data_at fresh place (texted text start p))

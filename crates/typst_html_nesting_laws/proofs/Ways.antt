@@ -8,6 +8,7 @@ use Rattle.html_page_nesting.specs.declared.reading.Space.TheVariants as nest
 use Rattle.html_page_names.specs.PageNames.{of}
 use Rattle.html_page_names.specs.declared.kind.Kind.TheVariants as kind
 use Rattle.html_page_stack.specs.{OpenElements.{OpenElement, is_of, mode}, Pages.{Page, page_head, settled, with_element}}
+use Rattle.html_page_stack.specs.declared.modes.Destination.TheVariants.{Parent}
 use Rattle.html_page_stack.specs.declared.modes.{Mode.{Mode, TheVariants.{InBody, InCaption, InCell}}, Space.Space as OpenSpace}
 use Rattle.html_page_stack.specs.declared.modes.Space.TheVariants as spaces
 use Rattle.html_page_stack.specs.declared.modes.TableRule.TheVariants as rule
@@ -69,6 +70,7 @@ abbrev pub begun_element : Head → (above : List Ancestor) → (start : ℕ) �
 begun_element h above start = record {
   head = page_head h.name h.attrs start;
   space = open_space (space_of (reading_of above) h.name);
+  destination = Parent;
   children = none;
 }
 

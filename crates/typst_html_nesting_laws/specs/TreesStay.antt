@@ -7,8 +7,8 @@ use Rattle.typst_html_encode.specs.{ExportFaults.{document_faults}, FrameWriters
 use Rattle.typst_html_encode.specs.Text.{plain_options, document_text}
 use Rattle.html_page_names.specs.PageNames.{of}
 use Rattle.html_page_names.specs.declared.kind.Kind.TheVariants as kind
-use Rattle.html_page_stack.specs.Pages.{Notes, Reads}
-use Rattle.html_page_read.specs.{PageReading.{page_read}, PageTokens.{most_attrs}}
+use Rattle.html_page_stack.specs.Pages.{Notes, most_attrs}
+use Rattle.html_page_read.specs.PageReading.{PageResult, page_read}
 
 -- the reader of pages does not refuse the element in any tree: it is no `template`, and has no more
 -- attributes than the reader accepts
@@ -35,7 +35,7 @@ abbrev pub no_notes : Notes
 no_notes = record { count = 0; first = [] }
 
 -- the element is read without an error, as it is but with tags dropped and texts joined
-pub record IsReadBack (e : ElementView) (r : Reads (ElementView × Notes)) : Type 0 where
+pub record IsReadBack (e : ElementView) (r : PageResult) : Type 0 where
   pub root : ElementView
   pub read : r ≡ Ok (root, no_notes)
   pub same : element_normal root ≡ element_normal e
@@ -55,7 +55,7 @@ TreesStay = (frames : Frames) (limit : ℕ) (e : ElementView) → IsKept frames 
     IsReadBack e (page_read limit (document_text frames plain_options e))
 
 -- both readers, that of written texts and that of pages, read the same of the text
-pub record IsReadAlike (text : List ℕ) (r : Reads (ElementView × Notes)) : Type 0 where
+pub record IsReadAlike (text : List ℕ) (r : PageResult) : Type 0 where
   pub root : ElementView
   pub page : r ≡ Ok (root, no_notes)
   pub same : read text ≡ Some (element_normal root)

@@ -4,8 +4,8 @@ use Rattle.html_text.proofs.Fronts.{common_ascii}
 use Rattle.html_page_read.{proofs.PageStretches.{chars_some}, specs.PageReaderViews.{draft_of, reading_of}, specs.PageStretches.{in_quotes}}
 use Rattle.html_page_read.proofs.reader.Reader.add_value.Goals as goal
 
-pub returns-clause-added : goal.returns-clause-added
-returns-clause-added c =
+pub returns : goal.returns
+returns c =
     let self = c.args.self.now in
     let r = reading_of self.reading in
     let front = c.args.front.now in

@@ -6,8 +6,8 @@ pub begin_value-requires : goal.begin_value-requires
 begin_value-requires c =
     omega (arith, c.requires.room, c.cut_name.ensures.begins.long, c.in-Some.ensures.long)
 
-pub returns-clause-read : goal.returns-clause-read
-returns-clause-read c =
+pub returns : goal.returns
+returns c =
     let self = c.args.self.now in
     let attr = c.cut_name.result.0.now in
     let some : eqb (length attr) 0 ≡ false = sym c.is_empty.ensures ∙ c.if-is_empty.false in

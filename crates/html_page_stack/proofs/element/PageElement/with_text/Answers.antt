@@ -17,6 +17,11 @@ returns-clause-grown c =
     let o = element_of c.args.self in
     let long : eqb (length (string_bytes c.args.text)) 0 ≡ false =
     rw c.as_str.ensures.value at (sym c.is_empty.ensures ∙ c.if-is_empty.false) in
-    ap (λ v. record { head = v.0; space = c.args.self.space; children = v.1 })
+    ap (λ v. record {
+      head = v.0;
+      space = c.args.self.space;
+      destination = c.args.self.destination;
+      children = v.1;
+    })
     (c.in_ok-element.ensures ∙ ap (λ n. with_node n e) c.text-child.ensures)
     ∙ sym (some_text (string_bytes c.args.text) o (IsUtf8-string_bytes c.args.text) long)

@@ -8,4 +8,4 @@ returns-then-is_empty c =
     let long : eqb (length (string_bytes c.args.self.now.text)) 0 ≡ true =
     rw c.as_str.ensures.value at (sym c.is_empty.ensures ∙ c.if-is_empty.true) in
     let none : text_view c.args.self.now.text ≡ [] = chars_of_empty _ (eqb-true _ 0 long) in
-    record { made = sym (settled_none (page_of c.args.self.now) none); halted = tt }
+    sym (settled_none (page_of c.args.self.now) none)

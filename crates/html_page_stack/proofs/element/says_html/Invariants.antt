@@ -1,7 +1,7 @@
 use Rattle.std.{proofs.Common.{◌≡◌, drop, map}, specs.List.{list_any}}
 use Rattle.html_dom_tree.specs.Views.{pair_view}
-use Rattle.html_page_tree.specs.PageTrees.{says_html}
-use Rattle.html_page_tree.proofs.foreign.says_html.Given as goal
+use Rattle.html_page_stack.specs.OpenElements.{says_html}
+use Rattle.html_page_stack.proofs.element.says_html.Given as goal
 
 abbrev pub invariant-loop-attr : goal.invariant-loop-attr
 invariant-loop-attr l =
