@@ -65,7 +65,7 @@ struct typst_html_reply {
 };
 
 /* The refusals, whose words typst_html_words() returns. A page is refused with 8 or with a number
-   from 27 on. */
+   from 28 on. */
 enum typst_html_refusal {
     TYPST_HTML_REFUSAL_EMPTY_TAG = 1,
     TYPST_HTML_REFUSAL_BAD_TAG_CHAR = 2,
@@ -82,7 +82,6 @@ enum typst_html_refusal {
     TYPST_HTML_REFUSAL_RAW_CHILD = 13,
     TYPST_HTML_REFUSAL_RAW_CLOSING = 14,
     TYPST_HTML_REFUSAL_FRAME_REFUSED = 15,
-    TYPST_HTML_REFUSAL_UNKNOWN_NAME = 27,
     TYPST_HTML_REFUSAL_TOO_MANY_ATTRIBUTES = 28,
     TYPST_HTML_REFUSAL_RECONSTRUCTION = 29,
     TYPST_HTML_REFUSAL_ADOPTION_AGENCY = 30,
@@ -126,8 +125,6 @@ static inline const char *typst_html_words(uint8_t number) {
         return "a raw text would end its element";
     case TYPST_HTML_REFUSAL_FRAME_REFUSED:
         return "a frame is refused";
-    case TYPST_HTML_REFUSAL_UNKNOWN_NAME:
-        return "a name that no element of this project has";
     case TYPST_HTML_REFUSAL_TOO_MANY_ATTRIBUTES:
         return "an element has too many attributes";
     case TYPST_HTML_REFUSAL_RECONSTRUCTION:

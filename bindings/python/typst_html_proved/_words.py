@@ -21,7 +21,6 @@ WORDS: Final[Mapping[int, str]] = MappingProxyType({
     13: "a raw text element has a child that is no text",
     14: "a raw text would end its element",
     15: "a frame is refused",
-    27: "a name that no element of this project has",
     28: "an element has too many attributes",
     29: "a formatting element would be made again",
     30: "an end tag would move nodes out of a formatting element",
@@ -31,4 +30,4 @@ WORDS: Final[Mapping[int, str]] = MappingProxyType({
     36: "a form, object, applet or marquee would be closed by another tag",
     39: "a token finds no place",
 })
-"""The words for what is wrong, by the number of the refusal. A page that is checked has refusals 8 and from 27 on."""
+"""The words for what is wrong, by the number of the refusal. A page that is checked has refusals 8 and from 28 on."""

@@ -77,7 +77,7 @@ pub enum Refusal {
     #[error("{} (refusal {number} at {place})", words(.number))]
     #[non_exhaustive]
     PageRefused {
-        /// The number of the reason, 8 or from 27 to 39. [`Refusal::words`] returns its words.
+        /// The number of the reason, 8 or from 28 to 39. [`Refusal::words`] returns its words.
         number: u8,
         /// The place where the tag or the character begins.
         place: Place,
@@ -227,7 +227,6 @@ fn words(number: &u8) -> &'static str {
         13 => "a raw text element has a child that is no text",
         14 => "a raw text would end its element",
         15 => "a frame is refused",
-        27 => "a name that no element of this project has",
         28 => "an element has too many attributes",
         29 => "a formatting element would be made again",
         30 => "an end tag would move nodes out of a formatting element",

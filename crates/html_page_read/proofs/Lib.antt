@@ -1,3 +1,4 @@
+pub mod CodedNames
 pub mod DocumentRows
 pub mod Fronts
 pub mod PageStretches

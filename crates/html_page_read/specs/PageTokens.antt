@@ -1,5 +1,5 @@
 -- The tokens of a page, read from left to right (HTML Standard 13.2.5): all states but PLAINTEXT.
-use Rattle.std.specs.{Char.{len_utf8, to_ascii_lowercase}, List.{list_all, starts_with}}
+use Rattle.std.specs.{Char.{len_utf8, to_ascii_lowercase}, Fmt.{digits}, List.{list_all, starts_with}}
 use Rattle.std.specs.Prelude.{ℕ, zero, suc, ◌+◌, min, Bool, true, false, not, ◌&&◌, ◌||◌, ◌==◌, nat_lt, nat_le, List, [], ◌∷◌, ◌++◌, if◌then◌else◌, codes, bytes_eq, length, Option, Some, None, is_some}
 use Rattle.html_dom_tree.specs.{Attributes.{has_name}, Tree.{TextPair}}
 use Rattle.html_names_core.specs.{Characters.{is_tag_char}, Names.{attr_fault}}
@@ -11,7 +11,7 @@ use Rattle.html_page_tree.specs.PageBodies.{is_space}
 use Rattle.html_page_names.specs.declared.kind.Kind.TheVariants as kind
 use Rattle.html_page_read.specs.PageReferences.{is_letter, continues, Resolved, resolved}
 use Rattle.html_page_tree.specs.PageTrees.{token_read, is_unseen}
-use Rattle.html_page_stack.specs.Pages.{Page, Notes, most_attrs, with_note, StartTag, Token, Char, Start, End, Finish, refused}
+use Rattle.html_page_stack.specs.Pages.{Page, Notes, most_attrs, with_note, StartTag, Token, Char, Start, End, Finish, noted_if, refused}
 use Rattle.html_page_stack.specs.declared.error.PageError.{PageError}
 use Rattle.html_page_stack.specs.declared.error.PageError.TheVariants as error
 use Rattle.html_page_stack.specs.declared.fault.PageRefusal.{PageRefusal}
@@ -131,19 +131,38 @@ end_emitted tag closed r = goes Data (emitted (End tag.name)
 abbrev pub is_name : List ℕ → Bool
 is_name name = not (length name == 0) && list_all is_tag_char name
 
--- emits a complete tag; the page is refused for a name that no element can have
+abbrev pub named_emitted : (closed : Bool) → TagDraft → Reading → PageReader
+named_emitted closed tag r = if tag.is_end then end_emitted tag closed r
+    else start_emitted (record { name = tag.name; attrs = tag.attrs; closed = closed }) r
+
+abbrev pub coded_chars : List ℕ → List ℕ
+coded_chars [] = []
+coded_chars (c ∷ cs) = (digits 16 false c ++ 45 ∷ []) ++ coded_chars cs
+
+-- a name that no element can have, in characters of names; it begins with `-`, as the name of no tag
+-- does, so that the end tag finds its element
+abbrev pub coded_name : List ℕ → List ℕ
+coded_name name = 45 ∷ coded_chars name
+
+-- records an error at the token, unless the tag is an end tag
+abbrev pub tag_noted : PageError → TagDraft → Reading → Reading
+tag_noted e tag r = record r { page = noted_if (not tag.is_end) e r.page }
+
+-- emits a complete tag; the element of a name that no element can have gives place to its children
 abbrev pub tag_emitted : (closed : Bool) → TagDraft → Reading → PageReader
-tag_emitted closed tag r = if not (is_name tag.name) then goes Data (refusing refusal.UnknownName r)
-    else (if tag.is_end then end_emitted tag closed r
-    else start_emitted (record { name = tag.name; attrs = tag.attrs; closed = closed }) r)
+tag_emitted closed tag r = if is_name tag.name then named_emitted closed tag r
+    else named_emitted closed (record tag { name = coded_name tag.name })
+    (tag_noted error.UnknownTag tag r)
 
 -- a tag that is being read, and the progress in its page
 abbrev pub TagReading : Type 0
 TagReading = TagDraft × Reading
 
--- adds a complete attribute to the tag; of two with one name the first counts
+-- adds a complete attribute to the tag, unless no attribute can have its name; of two with one name
+-- the first counts
 abbrev pub attr_added : (attr value : List ℕ) → TagDraft → Reading → TagReading
-attr_added attr value tag r = if is_some (attr_fault attr) then (tag, refusing refusal.UnknownName r)
+attr_added attr value tag r = if is_some (attr_fault attr)
+    then (tag, erring error.UnknownAttribute r)
     else (if has_name tag.attrs attr then (tag, erring error.DuplicateAttribute r)
     else (if nat_le most_attrs (length tag.attrs) then (tag, refusing refusal.TooManyAttributes r)
     else (record tag { attrs = tag.attrs ++ (attr, value) ∷ [] }, r)))

@@ -1,6 +1,6 @@
 //! A tag under construction.
 
-ghost use Rattle.std.specs.{Char.{to_ascii_lowercase}, List.{list_all}};
+ghost use Rattle.std.specs.{Char.{to_ascii_lowercase}, Fmt.{digits}, List.{list_all}};
 ghost use Rattle.std.specs.Prelude.{◌≡◌, ◌++◌, ◌∷◌, [], IfOk, MatchOption, OnOk, bytes_eq, chars, false, true, is_some, None};
 ghost use Rattle.html_dom_tree.specs.{Attributes.{has_name}, Views.{attrs_view, text_view}};
 ghost use Rattle.html_names_core.specs.{Characters.{is_tag_char}, Names.{attr_fault}};
@@ -10,6 +10,7 @@ ghost use Rattle.html_page_read.specs.{PageReaderViews.{draft_of, reading_of}, P
 use crate::reading::Reading;
 use html_dom_tree::{HtmlAttrs, text};
 use html_names_core::charsets::is_valid_in_tag_name;
+use html_names_core::text_writer::TextWriter;
 use html_names_core::{HtmlAttr, HtmlTag, NameFault};
 use html_page_stack::{PageError, PageRefusal};
 use std::alloc::{AllocError, Global};
@@ -52,6 +53,43 @@ pub(crate) fn tag_named(alloc: Global, name: &str) -> Result<Option<HtmlTag>, Al
         return Ok(None);
     }
     Ok(Some(HtmlTag::constant(alloc, name)?))
+}
+
+/// Appends a character in hexadecimal digits, and a hyphen.
+#[tactic(auto, using(crate::proofs::CodedNames::coded_on, std::proofs::Common::append_assoc))]
+fn push_coded(text: &mut TextWriter, c: char) -> Result<(), AllocError>
+    ensures added { OnOk result (text.new ≡ text.old ++ (digits 16 false c ++ 45 ∷ [])) }
+    ensures valid { OnOk result (list_all is_tag_char text.old ≡ true →
+        list_all is_tag_char text.new ≡ true) }
+{
+    text.push_hex(u32::from(c))?;
+    text.push('-')?;
+    Ok(())
+}
+
+/// Returns a name that no element can have in characters of names. It begins with `-`, as the name
+/// of no tag does.
+fn coded_text(alloc: Global, name: &str) -> Result<String, AllocError>
+    ensures coded { IfOk result (λ text. text_view text ≡ tokens.coded_name (chars name.now)) }
+    ensures valid { IfOk result (λ text. is_name (text_view text) ≡ true) }
+{
+    let mut text = TextWriter::new(alloc);
+    text.push('-')?;
+    for c in name.chars() {
+        push_coded(&mut text, c)?;
+    }
+    Ok(text.into_string())
+}
+
+/// Returns the tag that stands for a name that no element can have.
+pub(crate) fn coded_tag(alloc: Global, name: &str) -> Result<HtmlTag, AllocError>
+    ensures { IfOk result (λ tag. tag ≡ tokens.coded_name (chars name.now)) }
+{
+    let text = coded_text(alloc, name)?;
+    match tag_named(alloc, text.as_str())? {
+        Some(tag) => Ok(tag),
+        None => unreachable!(),
+    }
 }
 
 /// Returns the attribute with that name, if it is a name.
@@ -139,7 +177,8 @@ impl Draft {
         Ok(())
     }
 
-    /// Adds the attribute to the tag. Of two with one name the first counts.
+    /// Adds the attribute to the tag, unless no attribute can have its name. Of two with one name the
+    /// first counts.
     pub(crate) fn end_attr(
         &mut self,
         alloc: Global,
@@ -150,7 +189,7 @@ impl Draft {
             self.old) (reading_of reading.old)) }
     {
         let Some(attr) = attr_named(alloc, self.attr.as_str())? else {
-            reading.page.refuse(PageRefusal::UnknownName);
+            reading.note(PageError::UnknownAttribute)?;
             return Ok(());
         };
         if self.attrs.get(&attr).is_some() {

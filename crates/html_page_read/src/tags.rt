@@ -5,10 +5,11 @@ ghost use Rattle.html_dom_tree.specs.Views.{attrs_view, text_view};
 ghost use Rattle.html_page_read.specs.PageTokens as tokens;
 ghost use Rattle.html_page_read.specs.PageReaderViews.{draft_of, reader_of, reading_of};
 
+use crate::draft::coded_tag;
 use crate::reader::{Depth, Reader, State};
 use html_dom_tree::{HtmlAttrs, text};
 use html_page_names::Kind;
-use html_page_stack::{PageError, PageRefusal, StartTag, TagName, Token};
+use html_page_stack::{PageError, StartTag, TagName, Token};
 use html_page_tree::is_space;
 use std::alloc::AllocError;
 use std::mem;
@@ -66,21 +67,31 @@ impl Reader {
         Ok(())
     }
 
-    /// Emits a complete tag.
-    pub(crate) fn end_tag(&mut self, closed: bool) -> Result<(), AllocError>
-        ensures { OnOk result (reader_of self.new
-            ≡ tokens.tag_emitted closed (draft_of self.old.draft) (reading_of self.old.reading)) }
+    fn emit_named(&mut self, name: TagName, closed: bool) -> Result<(), AllocError>
+        ensures { OnOk result (reader_of self.new ≡ tokens.named_emitted closed
+            (record (draft_of self.old.draft) { name = name.tag })
+            (reading_of self.old.reading)) }
     {
-        let Some(name) = self.names.named(self.alloc, self.draft.name.as_str())? else {
-            self.reading.page.refuse(PageRefusal::UnknownName);
-            self.state = State::Data;
-            return Ok(());
-        };
         if self.draft.is_end {
             self.emit_end(name, closed)
         } else {
             self.emit_start(name, closed)
         }
+    }
+
+    /// Emits a complete tag. The element of a name that no element can have gives place to its
+    /// children.
+    pub(crate) fn end_tag(&mut self, closed: bool) -> Result<(), AllocError>
+        ensures { OnOk result (reader_of self.new
+            ≡ tokens.tag_emitted closed (draft_of self.old.draft) (reading_of self.old.reading)) }
+    {
+        if let Some(name) = self.names.named(self.alloc, self.draft.name.as_str())? {
+            return self.emit_named(name, closed);
+        }
+        let tag = coded_tag(self.alloc, self.draft.name.as_str())?;
+        let is_error = !self.draft.is_end;
+        self.reading.page.note_if(is_error, PageError::UnknownTag)?;
+        self.emit_named(TagName::new(tag), closed)
     }
 
     pub(crate) fn tag_name(&mut self, c: char) -> Result<(), AllocError>

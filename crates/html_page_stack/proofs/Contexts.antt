@@ -4,7 +4,7 @@ use Rattle.std.proofs.{Math.Bridge.{no_suc-le-zero}, Math.Dec.{eqb-suc-zero}, le
 use Rattle.std.specs.Prelude.{unwrap_or}
 use Rattle.html_page_stack.proofs.Stacks.{last_first}
 use Rattle.html_page_stack.specs.Contexts.{AreKnown, brought_mode, context, context_of, contexts, own_mode, root_mode, some_or}
-use Rattle.html_page_stack.specs.{ElementViews.{element_of, list_of}, OpenElements.{OpenElement, completed, html_mode, mode, placed, placed_in, with_text}}
+use Rattle.html_page_stack.specs.{ElementViews.{element_of, list_of}, OpenElements.{OpenElement, html_mode, mode, placed, placed_in, with_text}}
 use Rattle.html_page_stack.specs.declared.modes.Destination.{Destination}
 use Rattle.html_page_stack.specs.declared.modes.Destination.TheVariants as to
 use Rattle.html_page_stack.specs.declared.{context.Context.{Context}, element.PageElement.{PageElement}, modes.Mode.{Mode}}
@@ -46,9 +46,10 @@ text_keeps [] o os = refl
 text_keeps (c ∷ cs) o os = refl
 
 placed_keeps : (d : Destination) (o p : OpenElement) (os : List OpenElement) →
-    context (placed_in d (completed o) p ∷ os) ≡ context (p ∷ os)
+    context (placed_in d o p ∷ os) ≡ context (p ∷ os)
 placed_keeps to.Parent o p os = refl
 placed_keeps to.Head o p os = refl
+placed_keeps to.Replaced o p os = refl
 
 pub child_keeps : (o p : OpenElement) (os : List OpenElement) →
     context (placed o p ∷ os) ≡ context (p ∷ os)

@@ -175,13 +175,19 @@ abbrev pub with_head_child : NodeView → NodesView → NodesView
 with_head_child child none = none
 with_head_child child (node n ns) = node (with_inner_child child n) ns
 
--- a complete element at its destination in the element around it
-abbrev pub placed_in : Destination → NodeView → OpenElement → OpenElement
-placed_in to.Parent child o = with_last_child child o
-placed_in to.Head child o = record o { children = with_head_child child o.children }
+-- nodes, and others behind them
+abbrev pub with_last_nodes : NodesView → NodesView → NodesView
+with_last_nodes ns none = ns
+with_last_nodes ns (node m ms) = with_last_nodes (with_last ns m) ms
+
+-- a complete element at a destination in the element around it
+abbrev pub placed_in : Destination → OpenElement → OpenElement → OpenElement
+placed_in to.Parent o p = with_last_child (completed o) p
+placed_in to.Head o p = record p { children = with_head_child (completed o) p.children }
+placed_in to.Replaced o p = record p { children = with_last_nodes p.children o.children }
 
 abbrev pub placed : OpenElement → OpenElement → OpenElement
-placed o p = placed_in o.destination (completed o) p
+placed o p = placed_in o.destination o p
 
 -- completes the current node, unless it is the root
 abbrev pub without_current : List OpenElement → List OpenElement

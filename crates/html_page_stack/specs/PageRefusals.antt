@@ -6,7 +6,6 @@ use Rattle.html_page_stack.specs.declared.fault.PageRefusal.TheVariants as refus
 
 abbrev pub refusal_number : PageRefusal → ℕ
 refusal_number refusal.TooDeep = 8
-refusal_number refusal.UnknownName = 27
 refusal_number refusal.TooManyAttributes = 28
 refusal_number refusal.Reconstruction = 29
 refusal_number refusal.AdoptionAgency = 30

@@ -1,6 +1,6 @@
 -- The state of a page that is being read, and the steps that its tokens take: they open and close
 -- elements (HTML Standard 13.2.4 and 13.2.6).
-use Rattle.std.specs.Prelude.{ℕ, zero, suc, ◌+◌, min, Bool, true, false, not, ◌&&◌, ◌||◌, nat_lt, nat_le, List, [], ◌∷◌, ◌++◌, length, reverse, if◌then◌else◌, bytes_eq, Option, Some, None}
+use Rattle.std.specs.Prelude.{ℕ, zero, suc, ◌+◌, min, Bool, true, false, not, ◌&&◌, ◌||◌, ◌==◌, nat_lt, nat_le, List, [], ◌∷◌, ◌++◌, length, reverse, if◌then◌else◌, bytes_eq, Option, Some, None}
 use Rattle.html_dom_tree.specs.Tree.{TextPair, Head, none}
 use Rattle.html_page_stack.specs.OpenElements.{OpenElement, at, attr_count_at, with_attrs_at, is_of, is_at, in_scope, with_last_text, without_current}
 use Rattle.html_page_names.specs.PageNames.{of}
@@ -9,7 +9,7 @@ use Rattle.html_page_stack.specs.declared.error.PageError.{PageError}
 use Rattle.html_page_stack.specs.declared.error.PageError.TheVariants as error
 use Rattle.html_page_stack.specs.declared.fault.PageRefusal.{PageRefusal}
 use Rattle.html_page_stack.specs.declared.fault.PageRefusal.TheVariants as refusal
-use Rattle.html_page_stack.specs.declared.modes.{Destination.{Destination}, Destination.TheVariants.{Parent}, Scope.{Scope}}
+use Rattle.html_page_stack.specs.declared.modes.{Destination.{Destination}, Destination.TheVariants.{Parent, Replaced}, Scope.{Scope}}
 use Rattle.html_page_stack.specs.declared.modes.{Space.{Space}, TableRule.{TableRule}, Space.TheVariants.{Html}}
 use Rattle.html_page_stack.specs.declared.modes.TableRule.TheVariants as rule
 
@@ -137,8 +137,14 @@ abbrev pub opened_to : Destination → Space → (name : List ℕ) → List Text
 opened_to destination space name attrs p = if is_full p then refused refusal.TooDeep p
     else with_element (made destination space name attrs p.start) (settled p)
 
+-- where an element of that name stands: names that begin with `-` stand for those that no element
+-- can have
+abbrev pub destination_of : (name : List ℕ) → Destination
+destination_of [] = Parent
+destination_of (c ∷ cs) = if c == 45 then Replaced else Parent
+
 abbrev pub opened_in : Space → (name : List ℕ) → List TextPair → Page → Page
-opened_in = opened_to Parent
+opened_in space name attrs p = opened_to (destination_of name) space name attrs p
 
 abbrev pub opened : (name : List ℕ) → List TextPair → Page → Page
 opened = opened_in Html
@@ -185,6 +191,9 @@ closed own p = settled_closed own (settled p)
 abbrev pub added_to : Destination → Space → (name : List ℕ) → List TextPair → Page → Page
 added_to destination space name attrs p = if is_full p then refused refusal.TooDeep p
     else closed true (with_element (made destination space name attrs p.start) (settled p))
+
+abbrev pub added_in : Space → (name : List ℕ) → List TextPair → Page → Page
+added_in space name attrs p = added_to (destination_of name) space name attrs p
 
 -- closes the current node while the condition holds, at most so many times
 abbrev pub closed_while : (goes_on : List OpenElement → Bool) → (at_most : ℕ) → Page → Page

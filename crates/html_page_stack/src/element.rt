@@ -3,7 +3,7 @@
 ghost use Rattle.std.specs.{List.{list_any}, Prelude.{◌≡◌, IfOk, OnOk}};
 ghost use Rattle.html_dom_tree.specs.{Tree.{with_node}, Views.{attrs_view, element_view, node_view, nodes_view}};
 ghost use Rattle.html_page_names.specs.Kinds.{IsKindsOf};
-ghost use Rattle.html_page_stack.specs.{OpenCounts.{has_child_elements}, OpenElements.{says_html, with_head_child, with_inner_child}};
+ghost use Rattle.html_page_stack.specs.{OpenCounts.{has_child_elements}, OpenElements.{says_html, with_head_child, with_inner_child, with_last_nodes}};
 
 use crate::context::Context;
 use crate::modes::{Destination, Space};
@@ -66,6 +66,18 @@ fn add_to_head(nodes: &mut [HtmlNode], child: HtmlNode) -> Result<(), AllocError
     Ok(())
 }
 
+/// Appends nodes to the children of an element.
+fn with_nodes(element: HtmlElement, nodes: Vec<HtmlNode>) -> Result<HtmlElement, AllocError>
+    ensures { IfOk result (λ grown. element_view grown ≡ (let e = element_view element in
+        (e.0, with_last_nodes e.1 (nodes_view nodes.items)))) }
+{
+    let mut grown = element;
+    for node in nodes {
+        grown = with_node(grown, node)?;
+    }
+    Ok(grown)
+}
+
 /// Returns whether the attributes say that an `annotation-xml` holds HTML.
 fn says_html(attrs: &HtmlAttrs) -> bool
     ensures { result ≡ list_any says_html (attrs_view attrs.now) }
@@ -99,7 +111,7 @@ impl PageElement {
     ghost use Rattle.std.specs.Prelude.{bytes_eq};
     ghost use Rattle.html_dom_tree.specs.Views.{text_view};
     ghost use Rattle.html_page_names.specs.PageNames.{of};
-    ghost use Rattle.html_page_stack.specs.OpenElements.{holds_html_in, holds_tags, holds_text_in, is_foreign_of, is_html, is_of, placed, placed_in, with_attrs, with_text};
+    ghost use Rattle.html_page_stack.specs.OpenElements.{holds_html_in, holds_tags, holds_text_in, is_foreign_of, is_html, is_of, placed, with_attrs, with_last_child, with_text};
     ghost use Rattle.html_dom_tree.specs.declared.node.HtmlNode.TheVariants.{Element};
     ghost use Rattle.html_page_stack.specs.{Contexts.{known_part}, PageViews.{element_of, target_test}, Pages.{made}};
 
@@ -244,7 +256,7 @@ impl PageElement {
     #[tactic(auto, using(crate::proofs::Children::element_counts))]
     fn with_last_child(self, child: HtmlElement) -> Result<PageElement, AllocError>
         ensures grown { IfOk result (λ grown. element_of grown
-            ≡ placed_in Destination.Parent (node_view (Element child)) (element_of self)) }
+            ≡ with_last_child (node_view (Element child)) (element_of self)) }
         ensures context { IfOk result (λ grown. grown.context ≡ self.context) }
     {
         let PageElement {
@@ -268,8 +280,8 @@ impl PageElement {
 
     #[tactic(auto, using(crate::proofs::Children::head_counts))]
     fn with_head_child(self, child: HtmlElement) -> Result<PageElement, AllocError>
-        ensures grown { IfOk result (λ grown. element_of grown
-            ≡ placed_in Destination.Head (node_view (Element child)) (element_of self)) }
+        ensures grown { IfOk result (λ grown. element_of grown ≡ (let o = element_of self in
+            record o { children = with_head_child (node_view (Element child)) o.children })) }
         ensures context { IfOk result (λ grown. grown.context ≡ self.context) }
     {
         let PageElement {
@@ -291,6 +303,37 @@ impl PageElement {
         })
     }
 
+    #[tactic(auto, using(crate::proofs::Children::nodes_count))]
+    fn with_last_nodes(self, child: PageElement) -> Result<PageElement, AllocError>
+        ensures grown { IfOk result (λ grown. element_of grown ≡ (let o = element_of self in
+            record o { children = with_last_nodes o.children (element_of child).children })) }
+        ensures context { IfOk result (λ grown. grown.context ≡ self.context) }
+    {
+        let PageElement {
+            element,
+            space,
+            destination,
+            kinds,
+            has_elements,
+            context,
+        } = self;
+        let PageElement {
+            element: replaced,
+            has_elements: has_more,
+            ..
+        } = child;
+        let HtmlElement { children, .. } = replaced;
+        let element = with_nodes(element, children)?;
+        Ok(PageElement {
+            element,
+            space,
+            destination,
+            kinds,
+            has_elements: has_elements || has_more,
+            context,
+        })
+    }
+
     /// Puts a complete element to its destination in this one.
     pub(crate) fn with_child(self, child: PageElement) -> Result<PageElement, AllocError>
         ensures grown { IfOk result (λ grown. element_of grown
@@ -300,6 +343,7 @@ impl PageElement {
         match child.destination {
             Destination::Parent => self.with_last_child(child.element),
             Destination::Head => self.with_head_child(child.element),
+            Destination::Replaced => self.with_last_nodes(child),
         }
     }
 }

@@ -91,6 +91,12 @@ pub enum PageError {
     /// A second `html`, `head` or `body`, without attributes that count.
     #[error("a second html, head or body")]
     SecondStartTag,
+    /// A start tag whose name no element of this project can have: its content stands in its place.
+    #[error("a tag whose name no element has")]
+    UnknownTag,
+    /// An attribute whose name no attribute of this project can have: it is left out.
+    #[error("an attribute whose name no attribute has")]
+    UnknownAttribute,
     /// An element of the head behind it, which is put into it.
     #[error("an element of the head behind it")]
     HeadReopened,

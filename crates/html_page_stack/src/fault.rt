@@ -11,9 +11,6 @@ pub enum PageRefusal {
     /// An element would be deeper than the limit.
     #[error("elements are nested too deeply")]
     TooDeep,
-    /// A name of a tag or of an attribute that no element of this project can have.
-    #[error("a name that no element of this project has")]
-    UnknownName,
     /// A start tag has more than 256 attributes, or those of all tags of `html` or `body` together
     /// are more.
     #[error("an element has too many attributes")]
@@ -44,13 +41,12 @@ pub enum PageRefusal {
 
 impl PageRefusal {
     /// Returns the refusal's number: 8 for an element that is too deep, as when a tree is written,
-    /// and 27 to 39 for the others.
+    /// and 28 to 39 for the others.
     pub fn number(&self) -> u8
         ensures { result ≡ refusal_number self.now }
     {
         match self {
             PageRefusal::TooDeep => 8,
-            PageRefusal::UnknownName => 27,
             PageRefusal::TooManyAttributes => 28,
             PageRefusal::Reconstruction => 29,
             PageRefusal::AdoptionAgency => 30,

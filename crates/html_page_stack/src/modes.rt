@@ -15,6 +15,8 @@ pub enum Destination {
     Parent,
     /// In the head, which is complete already.
     Head,
+    /// Nowhere: its children stand in its place.
+    Replaced,
 }
 
 /// The bounds of the elements that an end tag may close (HTML Standard 13.2.4.2).

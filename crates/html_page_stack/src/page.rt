@@ -32,6 +32,17 @@ fn is_over(count: usize, more: usize) -> bool
     MOST_ATTRS < count || MOST_ATTRS - count < more
 }
 
+/// Returns where an element of that name stands: names that begin with `-` stand for those that no
+/// element can have.
+fn destination_of(tag: &HtmlTag) -> Destination
+    ensures { result ≡ pages.destination_of tag.now }
+{
+    match text::split_first(tag.resolve()) {
+        Some(('-', _)) => Destination::Replaced,
+        _ => Destination::Parent,
+    }
+}
+
 /// A page that is being read.
 #[derive(Drop)]
 pub struct Page {
@@ -219,6 +230,37 @@ impl Page {
         }
         self.open_here(destination, space, tag, kinds, attrs)?;
         self.close(true)
+    }
+
+    /// Opens an element where its name says, unless it would be too deep: then the page is refused.
+    pub fn open_in(
+        &mut self,
+        space: Space,
+        tag: HtmlTag,
+        kinds: Kinds,
+        attrs: HtmlAttrs,
+    ) -> Result<(), AllocError>
+        requires { IsKindsOf tag kinds }
+        ensures { OnOk result (page_of self.new
+            ≡ pages.opened_in space tag (attrs_view attrs) (page_of self.old)) }
+    {
+        self.open_to(destination_of(&tag), space, tag, kinds, attrs)
+    }
+
+    /// Appends an element without children where its name says, unless it would be too deep: then
+    /// the page is refused.
+    pub fn add_in(
+        &mut self,
+        space: Space,
+        tag: HtmlTag,
+        kinds: Kinds,
+        attrs: HtmlAttrs,
+    ) -> Result<(), AllocError>
+        requires { IsKindsOf tag kinds }
+        ensures { OnOk result (page_of self.new
+            ≡ pages.added_in space tag (attrs_view attrs) (page_of self.old)) }
+    {
+        self.add_to(destination_of(&tag), space, tag, kinds, attrs)
     }
 
     /// Gives the attributes of another tag to the element of HTML at that index, outermost first, if

@@ -3,11 +3,11 @@ use Rattle.std.proofs.Common.{◌≡◌, Bool, true, false, not, ◌&&◌, ◌||
 use Rattle.std.{proofs.lemmas.Bool.{and_parts, false≢true, not-true}, specs.Prelude.{if◌then◌else◌}}
 use Rattle.html_page_names.specs.PageNames.{of}
 use Rattle.html_page_names.specs.declared.kind.Kind.TheVariants as kind
-use Rattle.html_page_stack.specs.{OpenElements.{OpenElement, is_html, is_in_foreign, mode}, Pages.{Page, Start, StartTag}}
+use Rattle.html_page_stack.specs.{OpenElements.{OpenElement, holds_html_in, holds_text_in, is_html, is_in_foreign, mode}, Pages.{Page, Start, StartTag}}
 use Rattle.html_page_stack.specs.declared.modes.{Mode.{Mode}, Space.{Space}, Mode.TheVariants.{InBody, InCell}}
 use Rattle.html_page_stack.specs.declared.modes.Space.TheVariants.{Html, Svg, MathMl}
 use Rattle.html_page_tree.specs.{BodyStarts.{begins_in, begins_in_body}, PageBodies.{in_body_start}}
-use Rattle.html_page_tree.specs.PageTrees.{by_mode, holds_html_in, holds_svg_in, holds_text_in, in_foreign, is_foreign_token, turn}
+use Rattle.html_page_tree.specs.PageTrees.{by_mode, holds_svg_in, in_foreign, is_foreign_token, turn}
 
 stands : (s : Space) (o : OpenElement) (b c : Bool) → not (not (is_html s)) ≡ true →
     not (holds_html_in s o || (holds_text_in s o && b) || (holds_svg_in s o && c)) ≡ false

@@ -4,7 +4,7 @@ use Rattle.std.specs.Prelude.{ℕ, Bool, true, false, not, ◌&&◌, ◌||◌, �
 use Rattle.html_dom_tree.specs.Tree.{TextPair}
 use Rattle.html_page_names.specs.{ForeignNames.{svg_names, svg_attrs, math_attrs, with_capitals}, PageNames.{is, of}}
 use Rattle.html_page_stack.specs.OpenElements.{is_at, has, in_scope, is_near, is_active, has_item}
-use Rattle.html_page_stack.specs.Pages.{Page, StartTag, Token, Char, Start, End, Finish, merged, refused, refused_if, noted, noted_if, with_char, added_to, opened, opened_in, opened_to, closed, closed_named, closed_to, implied_closed, no_name, closed_over, closed_in, is_lost, without_lost, reconstructed, Turn, Taken, Again, taken_with}
+use Rattle.html_page_stack.specs.Pages.{Page, StartTag, Token, Char, Start, End, Finish, merged, refused, refused_if, noted, noted_if, with_char, added_in, added_to, opened, opened_in, opened_to, closed, closed_named, closed_to, implied_closed, no_name, closed_over, closed_in, is_lost, without_lost, reconstructed, Turn, Taken, Again, taken_with}
 use Rattle.html_page_stack.specs.declared.error.PageError.TheVariants as error
 use Rattle.html_page_stack.specs.declared.fault.PageRefusal.TheVariants as refusal
 use Rattle.html_page_names.specs.declared.kind.Kind.{Kind}
@@ -55,7 +55,7 @@ foreign_attrs space = map (λ a. (foreign_attr space a.0, a.1))
 abbrev pub entered : Space → StartTag → Page → Page
 entered space tag p = let name = foreign_name space tag.name in
     let attrs = foreign_attrs space tag.attrs in
-    if tag.closed then added_to to.Parent space name attrs p else opened_in space name attrs p
+    if tag.closed then added_in space name attrs p else opened_in space name attrs p
 
 -- handles any other end tag
 abbrev pub other_closed : (name : List ℕ) → Page → Page

@@ -36,7 +36,7 @@ pub(crate) fn open(page: &mut Page, name: TagName, attrs: HtmlAttrs) -> Result<(
         ≡ pages.opened name.tag (attrs_view attrs) (page_of page.old)) }
 {
     let TagName { tag, kinds } = name;
-    page.open_to(Destination::Parent, Space::Html, tag, kinds, attrs)
+    page.open_in(Space::Html, tag, kinds, attrs)
 }
 
 /// Opens an element that no tag begins.

@@ -13,7 +13,7 @@ use html_dom_tree::HtmlAttrs;
 use html_names_core::{HtmlAttr, HtmlTag};
 use html_page_names::{Kind, is_font_attr, kinds_of, math_attr, svg_attr, svg_tag};
 use html_page_stack::{
-    Bound, Destination, Goal, Page, PageElement, PageError, Space, StartTag, TagName, Token, While,
+    Bound, Goal, Page, PageElement, PageError, Space, StartTag, TagName, Token, While,
 };
 use std::alloc::{AllocError, Global};
 
@@ -102,9 +102,9 @@ pub(crate) fn enter(page: &mut Page, space: Space, start: StartTag) -> Result<()
     let attrs = foreign_attrs(page.alloc, space, attrs)?;
     let kinds = kinds_of(tag.resolve());
     if closed {
-        page.add_to(Destination::Parent, space, tag, kinds, attrs)
+        page.add_in(space, tag, kinds, attrs)
     } else {
-        page.open_to(Destination::Parent, space, tag, kinds, attrs)
+        page.open_in(space, tag, kinds, attrs)
     }
 }
 

@@ -14,7 +14,7 @@ use Rattle.html_page_stack.specs.declared.modes.Destination.TheVariants.{Parent}
 use Rattle.html_page_stack.specs.declared.modes.Space.TheVariants as spaces
 use Rattle.html_page_tree.specs.PageBodies.{entered, foreign_attrs, foreign_name}
 use Rattle.typst_html_nesting_laws.proofs.Capitals.{attrs_back, attrs_come_back, attrs_small, capitals_back, names_lowered_differ, small_back}
-use Rattle.typst_html_nesting_laws.proofs.{KindFacts.{agree_of, fails_of, names}, Opened.{Opens, adds, made, one_of, opens}, Rules.{TagFits}}
+use Rattle.typst_html_nesting_laws.proofs.{KindFacts.{agree_of, fails_of, names}, Opened.{Opens, adds, adds_in, letter_plain, made, one_of, opens}, Rules.{TagFits}}
 use Rattle.typst_html_nesting_laws.proofs.{Readers.{lowered_attrs, written_tag}, Ways.{open_space}, Branches.{decide}}
 
 -- its attributes differ in small letters
@@ -48,21 +48,20 @@ module _ (h : Head) (p : Page) (fits : length p.stack < p.limit) where
 
   pub entered_back : (s : Space) → TagFits s h → entered (open_space s) tag p
       ≡ one_of (is_foreign_self_closing h.name) (made (open_space s) h.name h.attrs p)
-  entered_back s kept = rw (
-    name_back s h.name kept.case,
-    pairs_back s h.attrs kept.attrs,
-    opens (open_space s) h.name h.attrs p fits,
-    adds (open_space s) h.name h.attrs p fits,
-  ) refl
+  entered_back s kept =
+      let plain = letter_plain h.name kept.letter in
+      rw (
+        name_back s h.name kept.case,
+        pairs_back s h.attrs kept.attrs,
+        opens (open_space s) h.name h.attrs p plain fits,
+        adds_in (open_space s) h.name h.attrs p plain fits,
+      ) refl
 
   -- by the rules of HTML
   pub opened_back : (s : Space) → s ≡ Html → TagFits s h →
       opened tag.name tag.attrs p ≡ made (open_space s) h.name h.attrs p
-  opened_back Html e kept = rw (
-    opens spaces.Html tag.name tag.attrs p fits,
-    small_back h.name kept.case,
-    attrs_small h.attrs kept.attrs,
-  ) refl
+  opened_back Html e kept = rw (small_back h.name kept.case, attrs_small h.attrs kept.attrs)
+      (opens spaces.Html h.name h.attrs p (letter_plain h.name kept.letter) fits)
   opened_back s e kept = absurd (cc)
 
   pub added_back : (s : Space) → s ≡ Html → TagFits s h →

@@ -1,12 +1,13 @@
 -- An element is opened by its start tag, and closed at once where it is its start tag alone.
-use Rattle.std.{proofs.Common.{◌≡◌, ℕ, ◌<◌, Bool, true, false, not, ◌||◌, List, length, refl, ap}, specs.Prelude.{if◌then◌else◌}}
-use Rattle.std.proofs.lemmas.Bool.{both_ways, false_from_ne_true, lt-leb, not-false, not-true, or_from, or_right}
-use Rattle.html_names_core.specs.Kinds.{is_void, void_names}
+use Rattle.std.{proofs.Common.{◌≡◌, ℕ, ◌<◌, Bool, true, false, not, ◌||◌, List, [], ◌∷◌, length, refl, ap, ◌∙◌}, specs.Prelude.{if◌then◌else◌}}
+use Rattle.std.proofs.lemmas.Bool.{both_ways, false≢true, false_from_ne_true, lt-leb, not-false, not-true, or_from, or_right}
+use Rattle.html_names_core.specs.{Characters.{is_capital, is_lower}, Kinds.{is_void, void_names}}
 use Rattle.html_dom_tree.specs.Tree.{TextPair}
-use Rattle.html_page_nesting.specs.Contents.{has_unread_end}
+use Rattle.html_page_nesting.specs.{Contents.{has_unread_end}, WrittenTags.{begins_with_letter}}
+use Rattle.html_page_read.proofs.PageStretches.{other}
 use Rattle.html_page_names.specs.PageNames.{of}
 use Rattle.html_page_names.specs.declared.kind.Kind.TheVariants as kind
-use Rattle.html_page_stack.specs.Pages.{Page, StartTag, added_to, closed, opened, opened_in, settled, with_element}
+use Rattle.html_page_stack.specs.Pages.{Page, StartTag, added_in, added_to, destination_of, closed, opened, opened_in, settled, with_element}
 use Rattle.html_page_stack.specs.Pages.{made as tag_made}
 use Rattle.html_page_stack.specs.declared.modes.{Destination.TheVariants.{Parent}, Space.{Space}}
 use Rattle.html_page_stack.specs.declared.modes.Space.TheVariants as spaces
@@ -25,9 +26,21 @@ pub adds : (space : Space) (name : List ℕ) (attrs : List TextPair) (p : Page) 
     length p.stack < p.limit → added_to Parent space name attrs p ≡ closed true (made space name attrs p)
 adds space name attrs p h = rw (lt-leb p.limit (length p.stack) h) refl
 
+-- a name that begins with a letter is that of its element
+pub letter_plain : (name : List ℕ) → begins_with_letter name ≡ true → destination_of name ≡ Parent
+letter_plain [] h = absurd (false≢true h)
+letter_plain (c ∷ cs) h = rw (other (λ d. is_lower d || is_capital d) c 45 h refl) refl
+
 pub opens : (space : Space) (name : List ℕ) (attrs : List TextPair) (p : Page) →
-    length p.stack < p.limit → opened_in space name attrs p ≡ made space name attrs p
-opens space name attrs p h = rw (lt-leb p.limit (length p.stack) h) refl
+    destination_of name ≡ Parent → length p.stack < p.limit →
+    opened_in space name attrs p ≡ made space name attrs p
+opens space name attrs p plain h = rw (plain, lt-leb p.limit (length p.stack) h) refl
+
+pub adds_in : (space : Space) (name : List ℕ) (attrs : List TextPair) (p : Page) →
+    destination_of name ≡ Parent → length p.stack < p.limit →
+    added_in space name attrs p ≡ closed true (made space name attrs p)
+adds_in space name attrs p plain h = ap (λ d. added_to d space name attrs p) plain
+    ∙ adds space name attrs p h
 
 -- a tag opens that element by the rules of HTML
 pub record Opens (tag : StartTag) (p q : Page) : Type 0 where
