@@ -1,8 +1,9 @@
 -- Character references in a page (HTML Standard 13.2.5.72 to 13.2.5.80): named ones, some of them
 -- without their `;`, and numbers, some of which stand for other characters.
-use Rattle.std.specs.Prelude.{ℕ, zero, suc, ◌-◌, Bool, true, false, not, ◌&&◌, ◌||◌, ◌==◌, nat_lt, nat_le, List, [], ◌∷◌, ◌++◌, if◌then◌else◌, take, drop, slice_index_or, Option, Some, None}
+use Rattle.std.specs.Prelude.{ℕ, zero, suc, Bool, true, false, not, ◌&&◌, ◌||◌, ◌==◌, nat_lt, nat_le, List, [], ◌∷◌, ◌++◌, if◌then◌else◌, take, drop, Option, Some, None}
 use Rattle.std.specs.Str.Parse.{digits_value}
 use Rattle.html_names_core.specs.Characters.{is_lower, is_capital, is_digit, is_control, is_noncharacter}
+use Rattle.html_page_encoding.specs.Windows.{windows_char}
 use Rattle.html_page_names.specs.NamedReferences.{named_reference, legacy_reference}
 use Rattle.html_page_tree.specs.PageBodies.{is_space}
 use Rattle.html_page_stack.specs.declared.error.PageError.{PageError}
@@ -51,26 +52,10 @@ abbrev pub is_end : Option ℕ → Bool
 is_end None = false
 is_end (Some c) = c == 59
 
--- the characters that U+0080 to U+009F stand for, as in windows-1252, and U+0000 if they stand for
--- themselves
-abbrev pub windows_table : List ℕ
-windows_table =
-    0x20ac ∷ 0 ∷ 0x201a ∷ 0x192 ∷ 0x201e ∷ 0x2026 ∷ 0x2020 ∷ 0x2021
-    ∷ 0x2c6 ∷ 0x2030 ∷ 0x160 ∷ 0x2039 ∷ 0x152 ∷ 0 ∷ 0x17d ∷ 0
-    ∷ 0 ∷ 0x2018 ∷ 0x2019 ∷ 0x201c ∷ 0x201d ∷ 0x2022 ∷ 0x2013 ∷ 0x2014
-    ∷ 0x2dc ∷ 0x2122 ∷ 0x161 ∷ 0x203a ∷ 0x153 ∷ 0 ∷ 0x17e ∷ 0x178 ∷ []
-
-abbrev pub or_itself : (c found : ℕ) → ℕ
-or_itself c found = if found == 0 then c else found
-
-abbrev pub windows_char : ℕ → ℕ
-windows_char c = if nat_le 128 c && nat_lt c 160
-    then or_itself c (slice_index_or windows_table (c - 128) 0) else c
-
 abbrev pub is_surrogate : ℕ → Bool
 is_surrogate c = nat_le 0xd800 c && nat_lt c 0xe000
 
--- the character of a number (13.2.5.80)
+-- the character of a number, which from 128 to 159 is a byte of windows-1252 (13.2.5.80)
 abbrev pub numbered_char : ℕ → ℕ
 numbered_char n = if n == 0 || nat_lt 0x10_ffff n || is_surrogate n then 0xfffd else windows_char n
 

@@ -1,26 +1,17 @@
 //! Character references by number (HTML Standard 13.2.5.80).
 
-ghost use Rattle.std.specs.{Char.{digit_value}, Prelude.{◌≡◌, ◌≤◌, chars, min, unwrap_or}, Str.Parse.{digits_value}};
+ghost use Rattle.std.specs.{Char.{digit_value}, Prelude.{◌≡◌, ◌≤◌, chars, min}, Str.Parse.{digits_value}};
 ghost use Rattle.html_names_core.specs.Characters as class;
 ghost use Rattle.html_page_read.specs.PageReferences as references;
 ghost use Rattle.html_page_tree.specs.PageBodies.{is_space};
 
+use html_page_encoding::windows_char;
 use html_page_stack::PageError;
 
 const CARRIAGE_RETURN: u32 = 13;
 
 /// A number above those of all characters.
 const TOO_HIGH: u32 = 0x11_0000;
-
-/// The characters that U+0080 to U+009F stand for, as in windows-1252, or U+0000 if they stand for
-/// themselves.
-#[rattlefmt::skip]
-static WINDOWS: [char; 32] = [
-    '\u{20ac}', '\0', '\u{201a}', '\u{192}', '\u{201e}', '\u{2026}', '\u{2020}', '\u{2021}',
-    '\u{2c6}', '\u{2030}', '\u{160}', '\u{2039}', '\u{152}', '\0', '\u{17d}', '\0',
-    '\0', '\u{2018}', '\u{2019}', '\u{201c}', '\u{201d}', '\u{2022}', '\u{2013}', '\u{2014}',
-    '\u{2dc}', '\u{2122}', '\u{161}', '\u{203a}', '\u{153}', '\0', '\u{17e}', '\u{178}',
-];
 
 fn digit_value(c: char) -> u32
     ensures { result ≡ digit_value c }
@@ -44,24 +35,14 @@ pub(crate) fn number_of(base: u32, digits: &str) -> u32
     number
 }
 
-/// Returns the character that U+0080 to U+009F stand for.
-fn windows_char(number: u32) -> Option<char>
-    ensures { references.windows_char number
-        ≡ unwrap_or result number }
-{
-    let place = number.checked_sub(0x80)?;
-    let found = *WINDOWS.get(place as usize)?;
-    if found == '\0' { None } else { Some(found) }
-}
-
 pub(crate) fn numbered_char(number: u32) -> char
     ensures { result ≡ references.numbered_char number }
 {
     if number == 0 {
         return '\u{fffd}';
     }
-    if let Some(found) = windows_char(number) {
-        return found;
+    if let Ok(byte) = u8::try_from(number) {
+        return windows_char(byte);
     }
     match char::from_u32(number) {
         Some(c) => c,

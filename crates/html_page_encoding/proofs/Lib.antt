@@ -1,0 +1,11 @@
+pub mod AttributeSteps
+pub mod ContentSteps
+pub mod Fronts
+pub mod Labels
+pub mod Lengths
+pub mod Others
+pub mod ScanSteps
+pub mod Stripped
+pub mod Texts
+pub mod Utf16Steps
+pub mod Words

@@ -1,0 +1,14 @@
+pub mod Answers
+pub mod Attributes
+pub mod Classes
+pub mod ContentLabels
+pub mod Decoded
+pub mod GoingOn
+pub mod Labels
+pub mod PageEncodings
+pub mod Prescan
+pub mod Rows
+pub mod Units
+pub mod Views
+pub mod Windows
+pub mod XmlLabels
