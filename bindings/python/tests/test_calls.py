@@ -506,12 +506,11 @@ class Calls(unittest.TestCase):
                 html.check(bad, limit=limit)
             self.assertIsNone(caught.exception.place)
         for page, number, place in (
-            ("<p>\0", 26, (3, 1, 4)),
             ("<p><b>a</p>b", 29, (11, 1, 12)),
             ("<b><p>a</b>", 30, (7, 1, 8)),
             ("<table>\r\n<p>é", 32, (9, 2, 1)),
-            ("<head></head>\r<title>", 34, (14, 2, 1)),
-            ("<svg><p>", 37, (5, 1, 6)),
+            ("<head></head>\r<template>", 35, (14, 2, 1)),
+            ("<form><div></form>", 36, (11, 1, 12)),
         ):
             with self.subTest(page), self.assertRaises(Refused) as caught:
                 html.check(page)

@@ -850,12 +850,11 @@ fn pages_that_are_not_read_are_reported() {
         assert_eq!(check(page, limit), Err(Refusal::BAD_INPUT));
     }
     for (page, refusal) in [
-        ("<p>\0", (26, 3, 1, 4)),
         ("<p><b>a</p>b", (29, 11, 1, 12)),
         ("<b><p>a</b>", (30, 7, 1, 8)),
         ("<table>\r\n<p>é", (32, 9, 2, 1)),
-        ("<head></head>\r<title>", (34, 14, 2, 1)),
-        ("<svg><p>", (37, 5, 1, 6)),
+        ("<head></head>\r<template>", (35, 14, 2, 1)),
+        ("<form><div></form>", (36, 11, 1, 12)),
     ] {
         assert_eq!(place_of(page, 50), refusal, "{page}");
     }
