@@ -9,12 +9,12 @@ use Rattle.html_page_nesting.specs.declared.reading.Space.TheVariants.{Html, Svg
 use Rattle.html_page_nesting.specs.declared.reading.Reading.TheVariants as reading
 use Rattle.html_page_names.specs.{ForeignNames.{keeps_case, lowered, svg_attrs, svg_names, math_attrs}, PageNames.{of}}
 use Rattle.html_page_names.specs.declared.kind.Kind.TheVariants as kind
-use Rattle.html_page_stack.specs.Pages.{Page, StartTag, added_to, closed, opened}
+use Rattle.html_page_stack.specs.Pages.{Page, StartTag, added_to, closed, opened, opened_to}
 use Rattle.html_page_stack.specs.declared.modes.Destination.TheVariants.{Parent}
 use Rattle.html_page_stack.specs.declared.modes.Space.TheVariants as spaces
 use Rattle.html_page_tree.specs.PageBodies.{entered, foreign_attrs, foreign_name}
 use Rattle.typst_html_nesting_laws.proofs.Capitals.{attrs_back, attrs_come_back, attrs_small, capitals_back, names_lowered_differ, small_back}
-use Rattle.typst_html_nesting_laws.proofs.{KindFacts.{agree_of, fails_of, names}, Opened.{Opens, adds, adds_in, letter_plain, made, one_of, opens}, Rules.{TagFits}}
+use Rattle.typst_html_nesting_laws.proofs.{KindFacts.{agree_of, fails_of, names}, Opened.{Opens, adds, adds_in, letter_plain, made, one_of, opens, opens_to}, Rules.{TagFits}}
 use Rattle.typst_html_nesting_laws.proofs.{Readers.{lowered_attrs, written_tag}, Ways.{open_space}, Branches.{decide}}
 
 -- its attributes differ in small letters
@@ -64,6 +64,12 @@ module _ (h : Head) (p : Page) (fits : length p.stack < p.limit) where
       (opens spaces.Html h.name h.attrs p (letter_plain h.name kept.letter) fits)
   opened_back s e kept = absurd (cc)
 
+  pub placed_back : (s : Space) → s ≡ Html → TagFits s h →
+      opened_to Parent spaces.Html tag.name tag.attrs p ≡ made (open_space s) h.name h.attrs p
+  placed_back Html e kept = rw (small_back h.name kept.case, attrs_small h.attrs kept.attrs)
+      (opens_to spaces.Html h.name h.attrs p fits)
+  placed_back s e kept = absurd (cc)
+
   pub added_back : (s : Space) → s ≡ Html → TagFits s h →
       added_to Parent spaces.Html tag.name tag.attrs p
       ≡ closed true (made (open_space s) h.name h.attrs p)
@@ -106,6 +112,7 @@ pub written_opens : (h : Head) (p : Page) (s : Space) → length p.stack < p.lim
     ≡ false → Opens (written_tag h) p (made (open_space s) h.name h.attrs p)
 written_opens h p s fits is kept small c = record {
   plain = λ a b. opened_back h p fits s (is ∙ rw (rw small at a, rw small at b) refl) kept;
+  placed = λ a b. placed_back h p fits s (is ∙ rw (rw small at a, rw small at b) refl) kept;
   added = λ a b. added_back h p fits s (is ∙ rw (rw small at a, rw small at b) refl) kept;
   svg = λ a. begun_back h p fits s Svg (is ∙ rw (rw small at a) refl) kept c;
   math = λ a. let m = rw small at a in begun_back h p fits s MathMl

@@ -7,7 +7,7 @@ use Rattle.html_page_nesting.specs.{Contents.{has_unread_end}, WrittenTags.{begi
 use Rattle.html_page_read.proofs.PageStretches.{other}
 use Rattle.html_page_names.specs.PageNames.{of}
 use Rattle.html_page_names.specs.declared.kind.Kind.TheVariants as kind
-use Rattle.html_page_stack.specs.Pages.{Page, StartTag, added_in, added_to, destination_of, closed, opened, opened_in, settled, with_element}
+use Rattle.html_page_stack.specs.Pages.{Page, StartTag, added_in, added_to, destination_of, closed, opened, opened_in, opened_to, settled, with_element}
 use Rattle.html_page_stack.specs.Pages.{made as tag_made}
 use Rattle.html_page_stack.specs.declared.modes.{Destination.TheVariants.{Parent}, Space.{Space}}
 use Rattle.html_page_stack.specs.declared.modes.Space.TheVariants as spaces
@@ -31,10 +31,15 @@ pub letter_plain : (name : List ℕ) → begins_with_letter name ≡ true → de
 letter_plain [] h = absurd (false≢true h)
 letter_plain (c ∷ cs) h = rw (other (λ d. is_lower d || is_capital d) c 45 h refl) refl
 
+pub opens_to : (space : Space) (name : List ℕ) (attrs : List TextPair) (p : Page) →
+    length p.stack < p.limit → opened_to Parent space name attrs p ≡ made space name attrs p
+opens_to space name attrs p h = rw (lt-leb p.limit (length p.stack) h) refl
+
 pub opens : (space : Space) (name : List ℕ) (attrs : List TextPair) (p : Page) →
     destination_of name ≡ Parent → length p.stack < p.limit →
     opened_in space name attrs p ≡ made space name attrs p
-opens space name attrs p plain h = rw (plain, lt-leb p.limit (length p.stack) h) refl
+opens space name attrs p plain h = ap (λ d. opened_to d space name attrs p) plain
+    ∙ opens_to space name attrs p h
 
 pub adds_in : (space : Space) (name : List ℕ) (attrs : List TextPair) (p : Page) →
     destination_of name ≡ Parent → length p.stack < p.limit →
@@ -46,6 +51,8 @@ adds_in space name attrs p plain h = ap (λ d. added_to d space name attrs p) pl
 pub record Opens (tag : StartTag) (p q : Page) : Type 0 where
   pub plain : of kind.Svg tag.name ≡ false → of kind.Math tag.name ≡ false →
       opened tag.name tag.attrs p ≡ q
+  pub placed : of kind.Svg tag.name ≡ false → of kind.Math tag.name ≡ false →
+      opened_to Parent spaces.Html tag.name tag.attrs p ≡ q
   pub added : of kind.Svg tag.name ≡ false → of kind.Math tag.name ≡ false →
       added_to Parent spaces.Html tag.name tag.attrs p ≡ closed true q
   pub svg : of kind.Svg tag.name ≡ true → entered spaces.Svg tag p ≡ q
@@ -81,4 +88,4 @@ module _ (tag : StartTag) (p q : Page) (ops : Opens tag p q) where
       tag.name (unfold names in refl) h in
       either (of kind.HeadLeaf tag.name)
       (λ k. rw (void_of tag.name e (or_right _ _ k)) (ops.added svg math))
-      (λ k. rw (not-true (is_void tag.name) (second_true leaf_or_whole k)) (ops.plain svg math))
+      (λ k. rw (not-true (is_void tag.name) (second_true leaf_or_whole k)) (ops.placed svg math))
