@@ -1,4 +1,4 @@
--- When a page takes any text as it is.
+-- When a page takes any text as it is, but for U+0000.
 use Rattle.std.specs.Prelude.{Bool, true, false, not, ◌&&◌, ◌||◌}
 use Rattle.html_page_stack.specs.{OpenElements.{mode}, Pages.{Page, Char, loses_some}, declared.modes.Mode.{Mode}}
 use Rattle.html_page_stack.specs.declared.modes.Mode.TheVariants.{InBody, InText, InCaption, InCell}
@@ -13,7 +13,7 @@ mode_takes_text InCaption p = not (loses_some p.lost)
 mode_takes_text InCell p = not (loses_some p.lost)
 mode_takes_text m p = false
 
--- whether each character is appended to the current node
+-- whether each character but U+0000 is appended to the current node
 unfoldable pub takes_text : Page → Bool
 takes_text p = not (is_unseen p.tables)
     && (is_foreign_token (Char 0) p.stack || mode_takes_text (mode p.stack) p)

@@ -138,7 +138,7 @@ pub(crate) fn is_unseen(page: &Page) -> bool
     matches!(page.tables, TableRule::Unseen)
 }
 
-/// Returns whether each character of a text is appended to the current node.
+/// Returns whether each character of a text but U+0000 is appended to the current node.
 #[tactic(auto, unfolding(crate::specs::TakenTexts::takes_text))]
 pub fn takes_text(page: &Page) -> bool
     ensures { result ≡ takes_text (page_of page.now) }
