@@ -285,8 +285,7 @@ static void pages_are_refused(void) {
     } pages[] = {
         {3, "<!DOCTYPE html><p>\xc3\xa9\n<b></b></p>", TYPST_HTML_REFUSED, 8, 21, 2, 1},
         {1, "", TYPST_HTML_REFUSED, 8, 0, 1, 1},
-        {50, "<p><b>a</p>b", TYPST_HTML_REFUSED, 29, 11, 1, 12},
-        {50, "<b><p>a</b>", TYPST_HTML_REFUSED, 30, 7, 1, 8},
+        {50, "<a><svg><desc><a>", TYPST_HTML_REFUSED, 31, 14, 1, 15},
         {50, "<table>\r\n<p>a", TYPST_HTML_REFUSED, 32, 9, 2, 1},
         {50, "<svg></svg><frameset>", TYPST_HTML_REFUSED, 35, 11, 1, 12},
         {50, "<!DOCTYPE html>\n<p>\xc3\xa9\xe9</p>", TYPST_HTML_BAD_INPUT, 0, 21, 2, 5},

@@ -22,12 +22,11 @@ WORDS: Final[Mapping[int, str]] = MappingProxyType({
     14: "a raw text would end its element",
     15: "a frame is refused",
     28: "an element has too many attributes",
-    29: "a formatting element would be made again",
-    30: "an end tag would move nodes out of a formatting element",
     31: "an open a would be removed",
     32: "a text or an element would be moved out of a table",
     35: "a frameset, plaintext or template",
     36: "a form, object, applet or marquee would be closed by another tag",
     39: "a token finds no place",
+    40: "too many elements are made again",
 })
 """The words for what is wrong, by the number of the refusal. A page that is checked has refusals 8 and from 28 on."""

@@ -1,7 +1,12 @@
+pub mod Adoption
+pub mod AdoptionViews
 pub mod Contexts
+pub mod Copies
 pub mod ElementViews
 pub mod Endings
-pub mod LostNames
+pub mod FormatPlaces
+pub mod FormatViews
+pub mod Formats
 pub mod OpenCounts
 pub mod OpenElements
 pub mod PageRefusals

@@ -4,7 +4,7 @@ use Rattle.std.specs.List.{list_any}
 use Rattle.std.specs.Prelude.{ℕ, zero, suc, Bool, true, false, not, ◌&&◌, ◌||◌, ◌==◌, List, [], ◌∷◌, length, if◌then◌else◌, bytes_eq, Option, Some, None, unwrap_or}
 use Rattle.html_dom_tree.specs.Attributes.{union}
 use Rattle.html_dom_tree.specs.Tree.{TextPair, Head, NodeView, tag_node, text_node, element_node, frame_node, NodesView, none, node, ElementView, with_last}
-use Rattle.html_page_names.specs.{ForeignNames.{is_encoding, is_html_encoding, lowered}, PageNames.{of}}
+use Rattle.html_page_names.specs.{ForeignNames.{is_encoding, is_html_encoding, lowered}, PageNames.{is, of}}
 use Rattle.html_page_names.specs.declared.kind.Kind.TheVariants as kind
 use Rattle.html_page_stack.specs.declared.modes.{Destination.{Destination}, Mode.{Mode}, Scope.{Scope}, Space.{Space}}
 use Rattle.html_page_stack.specs.declared.modes.Destination.TheVariants as to
@@ -27,6 +27,10 @@ is_html space = false
 -- whether the element is one of HTML whose name passes the test
 abbrev pub is_of : (test : List ℕ → Bool) → OpenElement → Bool
 is_of test o = is_html o.space && test o.head.name
+
+-- whether the element is one of HTML with that name, and has that span
+abbrev pub is_opened : (name : List ℕ) (span : ℕ) → OpenElement → Bool
+is_opened name span o = is_of (is name) o && (o.head.span == span)
 
 -- whether the element is one of SVG or MathML with that name, in lowercase
 abbrev pub is_foreign_of : (name : List ℕ) → OpenElement → Bool
@@ -103,10 +107,6 @@ is_special o = is_of (of kind.Special) o || is_foreign_bound o.space o.head.name
 -- whether such an element is open, with no special element inside it
 abbrev pub is_near : (test : List ℕ → Bool) → List OpenElement → Bool
 is_near test = reaches (is_of test) is_special
-
--- whether such an element is open, with no element inside it that hides it
-abbrev pub is_active : (test : List ℕ → Bool) → List OpenElement → Bool
-is_active test = reaches (is_of test) (is_of (of kind.Marker))
 
 -- whether an element ends the search for an item: `address`, `div` and `p` do not (13.2.6.4.7,
 -- start tags of `li`, `dd`, `dt`)

@@ -3,12 +3,16 @@ use Rattle.std.specs.Prelude.{ℕ, Bool, false, not, ◌&&◌, List, reverse}
 use Rattle.html_dom_tree.specs.Views.{attrs_view, text_view}
 use Rattle.html_page_names.specs.PageNames.{is, of}
 pub use Rattle.html_page_stack.specs.ElementViews.{element_of, list_of}
+pub use Rattle.html_page_stack.specs.FormatViews.{entries_of, format_of, formats_of}
 use Rattle.html_page_stack.specs.OpenElements as elements
-use Rattle.html_page_stack.specs.OpenElements.{OpenElement, bounds, bounds_item, holds_tags, is_html, is_of, is_special, is_foreign_of}
+use Rattle.html_page_stack.specs.OpenElements.{OpenElement, bounds, bounds_item, holds_tags, is_html, is_of, is_opened, is_special, is_foreign_of}
 use Rattle.html_page_stack.specs.Pages as pages
 use Rattle.html_page_names.specs.declared.kind.Kind.TheVariants as kind
 use Rattle.html_page_stack.specs.declared.{notes.Notes.{Notes}, page.Page.{Page}, search.Bound.{Bound}}
 use Rattle.html_page_stack.specs.declared.search.Bound.TheVariants as bound
+use Rattle.html_page_stack.specs.Formats.{Format, is_alike, is_entry_of, is_named, is_same}
+use Rattle.html_page_stack.specs.declared.formats.Entry.{Entry}
+use Rattle.html_page_stack.specs.declared.formats.Entry.TheVariants as entry
 use Rattle.html_page_stack.specs.declared.search.Goal.{Goal}
 use Rattle.html_page_stack.specs.declared.search.Goal.TheVariants as goal
 use Rattle.html_page_stack.specs.declared.search.Target.{Target}
@@ -28,7 +32,8 @@ abbrev pub page_of : Page → pages.Page
 page_of p = record {
   text = text_view p.text;
   stack = stack_of p.stack;
-  lost = reverse p.lost.names.items;
+  formats = formats_of p.formats;
+  copied = p.copied;
   tables = p.tables;
   limit = p.limit;
   start = p.start;
@@ -52,8 +57,15 @@ target_test target.Nothing = pages.no_name
 
 abbrev pub goal_test : Goal → OpenElement → Bool
 goal_test (goal.Of t) = is_of (target_test t)
+goal_test (goal.Opened tag span) = is_opened tag.now span.0
 goal_test (goal.Foreign tag) = is_foreign_of tag.now
 goal_test goal.HoldsTags = holds_tags
+
+abbrev pub entry_test : Entry → Format → Bool
+entry_test (entry.Named tag) = is_named tag.now
+entry_test (entry.Of e index) = is_entry_of (element_of e.now) index
+entry_test (entry.Alike e) = is_alike (element_of e.now)
+entry_test (entry.Same f) = is_same (format_of f.now)
 
 abbrev pub while_test : While → List OpenElement → Bool
 while_test (while.Above g) = λ os. not (elements.at (goal_test g) os)
@@ -63,7 +75,6 @@ while_test (while.Implied but) =
 abbrev pub bound_test : Bound → OpenElement → Bool
 bound_test (bound.Scope s) = bounds s
 bound_test bound.Special = is_special
-bound_test bound.Marker = is_of (of kind.Marker)
 bound_test bound.Item = bounds_item
 bound_test bound.Html = λ o. is_html o.space
 bound_test bound.Nothing = λ o. false

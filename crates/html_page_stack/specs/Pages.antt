@@ -2,6 +2,8 @@
 -- elements (HTML Standard 13.2.4 and 13.2.6).
 use Rattle.std.specs.Prelude.{ℕ, zero, suc, ◌+◌, min, Bool, true, false, not, ◌&&◌, ◌||◌, ◌==◌, nat_lt, nat_le, List, [], ◌∷◌, ◌++◌, length, reverse, if◌then◌else◌, bytes_eq, Option, Some, None}
 use Rattle.html_dom_tree.specs.Tree.{TextPair, Head, none}
+use Rattle.html_page_stack.specs.Copies.{copy_size, spare_at}
+use Rattle.html_page_stack.specs.Formats.{Format, Formats, after_current, before_closed, closed_entries, ends_closed, entered}
 use Rattle.html_page_stack.specs.OpenElements.{OpenElement, at, attr_count_at, with_attrs_at, is_of, is_at, in_scope, with_last_text, without_current}
 use Rattle.html_page_names.specs.PageNames.{of}
 use Rattle.html_page_names.specs.declared.kind.Kind.TheVariants as kind
@@ -30,9 +32,10 @@ pub record Page : Type 0 where
   pub text : List ℕ
   -- the open elements, innermost first
   pub stack : List OpenElement
-  -- the formatting elements that a tag of another name closed, the last first; None stands for an
-  -- open element that hides those behind it
-  pub lost : List (Option (List ℕ))
+  -- the active formatting elements, the last first
+  pub formats : Formats
+  -- the bytes of the tags of those elements that were made again
+  pub copied : ℕ
   pub tables : TableRule
   -- the greatest depth of elements
   pub limit : ℕ
@@ -47,7 +50,8 @@ abbrev pub first_page : (limit : ℕ) → Page
 first_page limit = record {
   text = [];
   stack = [];
-  lost = [];
+  formats = [];
+  copied = 0;
   tables = rule.Unseen;
   limit = limit;
   start = 0;
@@ -104,7 +108,7 @@ settled p = record p { text = []; stack = with_last_text p.text p.stack }
 abbrev pub with_element : OpenElement → Page → Page
 with_element o p = record p {
   stack = o ∷ p.stack;
-  lost = if is_of (of kind.Marker) o then None ∷ p.lost else p.lost;
+  formats = entered o (length p.stack) p.formats;
 }
 
 -- the head of an element that a tag makes; its span is the offset in bytes of the token that opens
@@ -162,26 +166,12 @@ merged index test others p =
     then refused refusal.TooManyAttributes p
     else record p { stack = reverse (with_attrs_at index test others (reverse p.stack)) }
 
--- the formatting elements that were lost outside the nearest element that hides them
-abbrev pub behind_marker : List (Option (List ℕ)) → List (Option (List ℕ))
-behind_marker [] = []
-behind_marker (None ∷ ls) = ls
-behind_marker (Some name ∷ ls) = behind_marker ls
-
--- the formatting elements that are lost once the current node is closed, by its own end tag or
--- another
-abbrev pub lost_with : (own : Bool) → List OpenElement → List (Option (List ℕ)) →
-    List (Option (List ℕ))
-lost_with own [] lost = lost
-lost_with own (o ∷ os) lost = if is_of (of kind.Marker) o then behind_marker lost
-    else (if is_of (of kind.Formatting) o && not own then Some o.head.name ∷ lost else lost)
-
 -- closes the current node, whose text is already a child of it
 abbrev pub settled_closed : (own : Bool) → Page → Page
 settled_closed own p =
     record (refused_if (is_at (of kind.Whole) p.stack && not own) refusal.CrossedElement p) {
       stack = without_current p.stack;
-      lost = lost_with own p.stack p.lost;
+      formats = after_current own p.stack p.formats;
     }
 
 abbrev pub closed : (own : Bool) → Page → Page
@@ -231,32 +221,42 @@ abbrev pub closed_in : Scope → (named test but : List ℕ → Bool) → Page �
 closed_in scope named test but p = if in_scope scope test p.stack then closed_over named test but p
     else noted error.EndTagWithoutStart p
 
--- whether a tag of another name closed a formatting element of that name, and no element hides it
-abbrev pub is_lost : (name : List ℕ) → List (Option (List ℕ)) → Bool
-is_lost name [] = false
-is_lost name (None ∷ ls) = false
-is_lost name (Some n ∷ ls) = bytes_eq n name || is_lost name ls
+-- opens an element for an entry, which stands on the list for it then
+abbrev pub reopened : Format → Page → Page
+reopened f p = record p {
+  stack = made Parent Html f.name f.attrs f.span ∷ p.stack;
+  formats = Some (record f { index = length p.stack }) ∷ p.formats;
+  copied = p.copied + copy_size f;
+}
 
-abbrev pub without_lost : (name : List ℕ) → List (Option (List ℕ)) → List (Option (List ℕ))
-without_lost name [] = []
-without_lost name (None ∷ ls) = None ∷ ls
-without_lost name (Some n ∷ ls) = if bytes_eq n name then ls else Some n ∷ without_lost name ls
+-- refuses the page, and leaves the entry as it is
+abbrev pub kept_closed : PageRefusal → Format → Page → Page
+kept_closed r f p = refused r (record p { formats = Some f ∷ p.formats })
 
-abbrev pub loses_some : List (Option (List ℕ)) → Bool
-loses_some [] = false
-loses_some (None ∷ ls) = false
-loses_some (Some name ∷ ls) = true
+-- opens an element for an entry again, unless it is too deep, or too much was made again
+abbrev pub opened_again : Format → Page → Page
+opened_again f p = if is_full p then kept_closed refusal.TooDeep f p
+    else (if nat_le (copy_size f) (spare_at p.start p.copied) then reopened f (settled p)
+    else kept_closed refusal.TooManyCopies f p)
 
--- what is lost, without the formatting elements that no element hides
-abbrev pub forgotten : List (Option (List ℕ)) → List (Option (List ℕ))
-forgotten [] = []
-forgotten (None ∷ ls) = None ∷ ls
-forgotten (Some name ∷ ls) = forgotten ls
+-- opens elements for entries again, the first entry first
+abbrev pub all_opened_again : List Format → Page → Page
+all_opened_again [] p = p
+all_opened_again (f ∷ fs) p = all_opened_again fs (opened_again f p)
 
--- refuses a page in which formatting elements would be made again here (13.2.4.3), and forgets them
+-- takes the entries off whose elements were closed behind the last marker and the last open one
+abbrev pub without_closed : Page → Page
+without_closed p = record p { formats = before_closed p.stack p.formats }
+
+-- opens elements for these entries again
+abbrev pub closed_opened_again : Page → Page
+closed_opened_again p =
+    all_opened_again (reverse (closed_entries p.stack p.formats)) (without_closed p)
+
+-- makes the formatting elements again that other tags closed (13.2.4.3)
 abbrev pub reconstructed : Page → Page
-reconstructed p = if loses_some p.lost
-    then refused refusal.Reconstruction (record p { lost = forgotten p.lost }) else p
+reconstructed p = if ends_closed p.stack p.formats
+    then closed_opened_again (noted error.FormattingReopened p) else p
 
 -- the result of a mode's rules for a token: they take it, or process it again
 pub data Turn : Type 0 where

@@ -6,8 +6,10 @@ ghost use Rattle.html_page_names.specs.Kinds.{IsKindsOf};
 ghost use Rattle.html_page_stack.specs.{OpenCounts.{has_child_elements}, OpenElements.{says_html, with_head_child, with_inner_child, with_last_nodes}};
 
 use crate::context::Context;
+use crate::formats::Format;
 use crate::modes::{Destination, Space};
 use crate::search::Target;
+use crate::token::TagName;
 use html_dom_tree::{HtmlAttrs, HtmlElement, HtmlNode, Span};
 use html_names_core::HtmlTag;
 use html_page_names::{Kind, Kinds, is_encoding, is_html_encoding, is_same_lowered};
@@ -111,11 +113,12 @@ impl PageElement {
     ghost use Rattle.std.specs.Prelude.{bytes_eq};
     ghost use Rattle.html_dom_tree.specs.Views.{text_view};
     ghost use Rattle.html_page_names.specs.PageNames.{of};
-    ghost use Rattle.html_page_stack.specs.OpenElements.{holds_html_in, holds_tags, holds_text_in, is_foreign_of, is_html, is_of, placed, with_attrs, with_last_child, with_text};
+    ghost use Rattle.html_page_stack.specs.OpenElements.{holds_html_in, holds_tags, holds_text_in, is_foreign_of, is_opened, is_html, is_of, placed, with_attrs, with_last_child, with_text};
     ghost use Rattle.html_dom_tree.specs.declared.node.HtmlNode.TheVariants.{Element};
-    ghost use Rattle.html_page_stack.specs.{Contexts.{known_part}, PageViews.{element_of, target_test}, Pages.{made}};
+    ghost use Rattle.html_page_stack.specs.Adoption.{emptied};
+    ghost use Rattle.html_page_stack.specs.{Contexts.{known_part}, Formats.{entry_of}, PageViews.{element_of, format_of, target_test}, Pages.{made}};
 
-    /// Creates an element without children, whose token starts at that offset in bytes.
+    /// Creates an element without children.
     pub(crate) fn new(
         alloc: Global,
         destination: Destination,
@@ -123,12 +126,12 @@ impl PageElement {
         tag: HtmlTag,
         kinds: Kinds,
         attrs: HtmlAttrs,
-        start: usize,
+        span: Span,
     ) -> PageElement
         requires { IsKindsOf tag kinds }
-        ensures { element_of result ≡ made destination space tag (attrs_view attrs) start }
+        ensures { element_of result ≡ made destination space tag (attrs_view attrs) span.0 }
     {
-        let mut element = HtmlElement::new(alloc, tag).spanned(Span(start as u64));
+        let mut element = HtmlElement::new(alloc, tag).spanned(span);
         element.attrs = attrs;
         PageElement {
             element,
@@ -179,6 +182,30 @@ impl PageElement {
             }
     }
 
+    /// Returns whether it is an element of HTML with that name, and has that span.
+    pub(crate) fn is_opened(&self, tag: &HtmlTag, span: Span) -> bool
+        ensures { result ≡ is_opened tag.now span.0 (element_of self.now) }
+    {
+        self.is_html() && self.has_name(tag) && self.element.span == span
+    }
+
+    /// Returns the entry of the element in the list of active formatting elements, if it is opened at
+    /// that index.
+    pub(crate) fn format(&self, index: usize) -> Result<Format, AllocError>
+        ensures { IfOk result (λ format. format_of format ≡ entry_of (element_of self.now) index) }
+    {
+        let name = TagName {
+            tag: self.element.tag.try_clone()?,
+            kinds: self.kinds,
+        };
+        Ok(Format {
+            name,
+            attrs: self.element.attrs.try_clone()?,
+            span: self.element.span,
+            index,
+        })
+    }
+
     /// Returns whether it is an element of SVG or MathML with that name, in lowercase.
     pub(crate) fn is_foreign_of(&self, tag: &HtmlTag) -> bool
         ensures { result ≡ is_foreign_of tag.now (element_of self.now) }
@@ -221,6 +248,19 @@ impl PageElement {
         let attrs = mem::replace(&mut self.element.attrs, HtmlAttrs::new(alloc));
         self.element.attrs = attrs.fold(others)?;
         Ok(())
+    }
+
+    /// Takes the children of another element over, which stands in the element around it then.
+    pub(crate) fn take_children(&mut self, alloc: Global, other: &mut PageElement)
+        ensures taken { element_of self.new
+            ≡ record (element_of self.old) { children = (element_of other.old).children } }
+        ensures left { element_of other.new ≡ emptied (element_of other.old) }
+    {
+        let children = Vec::new(alloc);
+        self.element.children = mem::replace(&mut other.element.children, children);
+        self.has_elements = other.has_elements;
+        other.has_elements = false;
+        other.destination = Destination::Parent;
     }
 
     /// Appends a text with the span of the element, unless the text is empty.

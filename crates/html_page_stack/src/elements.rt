@@ -3,12 +3,13 @@
 ghost use Rattle.std.specs.Prelude.{◌≡◌, OnOk, map};
 ghost use Rattle.html_dom_tree.specs.Views.{attrs_view};
 ghost use Rattle.html_page_names.specs.PageNames.{of};
-ghost use Rattle.html_page_stack.specs.{Contexts.{known_part, own_mode, root_mode}, OpenElements.{at, attr_count_at, html_mode, named_mode, reaches, with_attrs_at}};
-ghost use Rattle.html_page_stack.specs.PageViews.{bound_test, element_of, goal_test, list_of};
+ghost use Rattle.html_page_stack.specs.{Adoption.{furthest_block}, Contexts.{known_part, own_mode, root_mode}, Formats.{is_open}, OpenElements.{at, attr_count_at, html_mode, named_mode, reaches, with_attrs_at}};
+ghost use Rattle.html_page_stack.specs.PageViews.{bound_test, element_of, format_of, goal_test, list_of};
 
 use crate::element::PageElement;
+use crate::formats::Format;
 use crate::modes::Mode;
-use crate::search::{Bound, Goal, Target};
+use crate::search::{Bound, Goal, Target, is_special};
 use html_dom_tree::HtmlAttrs;
 use html_page_names::Kind;
 use std::alloc::{AllocError, Global};
@@ -38,6 +39,34 @@ pub(crate) fn at(elements: &[PageElement], goal: Goal<'_>) -> bool
         None => false,
         Some(element) => goal.is(element),
     }
+}
+
+/// Returns whether the element of the entry is one of them.
+pub(crate) fn is_open(elements: &[PageElement], format: &Format) -> bool
+    ensures { result ≡ is_open (format_of format.now) (list_of elements.now) }
+{
+    if elements.len() <= format.index {
+        return false;
+    }
+    elements[format.index].is_opened(&format.name.tag, format.span)
+}
+
+/// Returns the index of the furthest block of the formatting element at that index.
+pub(crate) fn furthest_block(elements: &[PageElement], index: usize) -> Option<usize>
+    ensures { result ≡ furthest_block index (list_of elements.now) }
+{
+    let mut outer = elements;
+    let mut block = None;
+    while let Some((element, rest)) = outer.split_last() {
+        if rest.len() <= index {
+            break;
+        }
+        if is_special(element) {
+            block = Some(rest.len());
+        }
+        outer = rest;
+    }
+    block
 }
 
 /// Returns the number of the attributes of the element at that index, if it is one of HTML of the

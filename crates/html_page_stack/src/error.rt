@@ -82,6 +82,12 @@ pub enum PageError {
     /// An end tag names a formatting element that another tag closed.
     #[error("an end tag of an element that is closed")]
     EndTagOfClosedElement,
+    /// An end tag of a formatting element moves nodes out of it.
+    #[error("an end tag that moves nodes")]
+    NodesAdopted,
+    /// Formatting elements that other tags closed are made again.
+    #[error("a formatting element that is made again")]
+    FormattingReopened,
     /// A `</br>`, which is read as `<br>`.
     #[error("an end tag of br")]
     EndTagBr,

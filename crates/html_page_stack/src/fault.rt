@@ -5,7 +5,8 @@ ghost use Rattle.html_page_stack.specs.PageRefusals.{refusal_number};
 
 use thiserror::Error;
 
-/// Content for which a page is refused: in a browser, nodes would be moved or made a second time.
+/// Content for which a page is refused: in a browser, nodes would be moved out of a table, or elements
+/// closed late, or a limit is reached.
 #[derive(Clone, Copy, Debug, PartialEq, Eq, Error)]
 pub enum PageRefusal {
     /// An element would be deeper than the limit.
@@ -15,12 +16,6 @@ pub enum PageRefusal {
     /// are more.
     #[error("an element has too many attributes")]
     TooManyAttributes,
-    /// A formatting element that another tag closed would be made again.
-    #[error("a formatting element would be made again")]
-    Reconstruction,
-    /// An end tag would move nodes out of a formatting element.
-    #[error("an end tag would move nodes out of a formatting element")]
-    AdoptionAgency,
     /// An `a` would be removed from the open elements.
     #[error("an open a would be removed")]
     OpenAnchorRemoved,
@@ -37,24 +32,27 @@ pub enum PageRefusal {
     /// A token went from one insertion mode to another more often than in any known page.
     #[error("a token finds no place")]
     Unsettled,
+    /// Formatting elements would be made again so often that their tags take more than sixteen times
+    /// the bytes before the token and 64 kB.
+    #[error("too many elements are made again")]
+    TooManyCopies,
 }
 
 impl PageRefusal {
     /// Returns the refusal's number: 8 for an element that is too deep, as when a tree is written,
-    /// and 28 to 39 for the others.
+    /// and 28 to 40 for the others.
     pub fn number(&self) -> u8
         ensures { result ≡ refusal_number self.now }
     {
         match self {
             PageRefusal::TooDeep => 8,
             PageRefusal::TooManyAttributes => 28,
-            PageRefusal::Reconstruction => 29,
-            PageRefusal::AdoptionAgency => 30,
             PageRefusal::OpenAnchorRemoved => 31,
             PageRefusal::FosterParenting => 32,
             PageRefusal::UnreadElement => 35,
             PageRefusal::CrossedElement => 36,
             PageRefusal::Unsettled => 39,
+            PageRefusal::TooManyCopies => 40,
         }
     }
 }

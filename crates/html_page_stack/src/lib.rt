@@ -2,13 +2,15 @@
 //! Standard 13.2.4, 13.2.6).
 #![tactic(auto)]
 
+mod adoption;
 mod context;
 mod element;
 mod elements;
 mod error;
 mod fault;
-mod lost;
+mod formats;
 mod modes;
+mod moving;
 mod notes;
 mod page;
 mod search;
@@ -18,7 +20,7 @@ mod token;
 pub use element::PageElement;
 pub use error::PageError;
 pub use fault::PageRefusal;
-pub use lost::Lost;
+pub use formats::{Entry, Format, Formats};
 pub use modes::{Destination, Mode, Scope, Space, TableRule};
 pub use notes::Notes;
 pub use page::Page;

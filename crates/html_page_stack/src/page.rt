@@ -1,29 +1,36 @@
 //! A page that is being read, and the steps that its tokens take.
 
-ghost use Rattle.std.specs.Prelude.{◌≡◌, ◌+◌, OnOk, chars, length, nat_lt};
+ghost use Rattle.std.specs.Prelude.{◌≡◌, ◌+◌, ◌^◌, ◌<◌, OnOk, chars, length, map, nat_lt, reverse};
 ghost use Rattle.html_dom_tree.specs.Views.{attrs_view};
 ghost use Rattle.html_page_names.specs.{Kinds.{IsKindsOf}, PageNames.{of}};
 ghost use Rattle.html_page_names.specs.declared.kind.Kind.TheVariants as kind;
-ghost use Rattle.html_page_stack.specs.{Endings.{Finishes}, OpenElements.{in_scope}};
-ghost use Rattle.html_page_stack.specs.PageViews.{element_of, goal_test, page_of, target_test, while_test};
+ghost use Rattle.html_page_stack.specs.Adoption.{adopted_from, adoption, entries_after, stack_after};
+ghost use Rattle.html_page_stack.specs.{Copies.{copy_size, spare_at}, Endings.{Finishes}, Formats.{after_current}, OpenElements.{in_scope}};
+ghost use Rattle.html_page_stack.specs.PageViews.{element_of, format_of, goal_test, page_of, target_test, while_test};
 ghost use Rattle.html_page_stack.specs.Pages as pages;
 ghost use Rattle.html_page_stack.specs.Pages.{most_attrs};
 
+use crate::adoption::Adoption;
 use crate::element::PageElement;
 use crate::error::PageError;
 use crate::fault::PageRefusal;
-use crate::lost::Lost;
+use crate::formats::{Entry, Format, Formats, copies_size};
 use crate::modes::{Destination, Scope, Space, TableRule};
 use crate::notes::Notes;
 use crate::search::{Bound, Goal, Target, While};
 use crate::stack::Stack;
-use html_dom_tree::{HtmlAttrs, HtmlElement, text};
+use html_dom_tree::{HtmlAttrs, HtmlElement, Span, text};
 use html_names_core::HtmlTag;
 use html_page_names::{Kind, Kinds};
 use std::alloc::{AllocError, Global};
 
 /// The greatest number of attributes of an element.
 pub const MOST_ATTRS: usize = 256;
+
+/// The bytes that may be made again for each byte of the page, and beside them.
+const COPIES_PER_BYTE: usize = 16;
+
+const SPARE_COPIES: usize = 0x1_0000;
 
 /// Returns whether so many attributes and so many more are too many.
 fn is_over(count: usize, more: usize) -> bool
@@ -52,8 +59,10 @@ pub struct Page {
     pub text: String,
     /// The open elements.
     pub stack: Stack,
-    /// The formatting elements that a tag of another name closed.
-    pub lost: Lost,
+    /// The active formatting elements.
+    pub formats: Formats,
+    /// The bytes of the tags of those elements that were made again.
+    pub(crate) copied: usize,
     /// What a table does to an open `p`.
     pub tables: TableRule,
     pub(crate) limit: usize,
@@ -75,7 +84,8 @@ impl Page {
             alloc,
             text: String::new(alloc),
             stack: Stack::new(alloc),
-            lost: Lost::new(alloc),
+            formats: Formats::new(alloc),
+            copied: 0,
             tables: TableRule::Unseen,
             limit,
             start: 0,
@@ -158,9 +168,7 @@ impl Page {
     fn push(&mut self, element: PageElement) -> Result<(), AllocError>
         ensures { OnOk result (page_of self.new ≡ pages.with_element (element_of element) (page_of self.old)) }
     {
-        if element.is(Kind::Marker) {
-            self.lost.push_marker()?;
-        }
+        self.formats.enter(&element, self.stack.len())?;
         self.stack.push(element)?;
         Ok(())
     }
@@ -179,8 +187,8 @@ impl Page {
             (pages.made destination space tag (attrs_view attrs) p.start) (pages.settled p))) }
     {
         self.settle()?;
-        let start = self.start;
-        self.push(PageElement::new(self.alloc, destination, space, tag, kinds, attrs, start))
+        let span = Span(self.start as u64);
+        self.push(PageElement::new(self.alloc, destination, space, tag, kinds, attrs, span))
     }
 
     /// Returns whether an element in the current node would be too deep.
@@ -283,21 +291,21 @@ impl Page {
         self.stack.merge_at(self.alloc, index, kind, others)
     }
 
-    /// Records what is lost when the current node is closed, by its own end tag or another.
-    fn lose_current(&mut self, own: bool) -> Result<(), AllocError>
-        ensures { OnOk result (page_of self.new ≡ (let p = page_of self.old in
-            record p { lost = pages.lost_with own p.stack p.lost })) }
+    /// Removes what the list of active formatting elements loses when the current node is closed, by
+    /// its own end tag or another.
+    fn leave_formats(&mut self, own: bool)
+        ensures { page_of self.new ≡ (let p = page_of self.old in
+            record p { formats = after_current own p.stack p.formats }) }
     {
-        let Some(element) = self.stack.items.last() else {
-            return Ok(());
+        let stack = &self.stack;
+        let Some((element, outer)) = stack.items.split_last() else {
+            return;
         };
         if element.is(Kind::Marker) {
-            self.lost.leave_marker();
-        } else if element.is(Kind::Formatting) && !own {
-            let tag = element.element.tag.try_clone()?;
-            self.lost.push(tag)?;
+            self.formats.remove_marker();
+        } else if element.is(Kind::Formatting) && own {
+            self.formats.remove(Entry::Of(element, outer.len()), 0);
         }
-        Ok(())
     }
 
     /// Closes the current node, by its own end tag or another.
@@ -307,7 +315,7 @@ impl Page {
         self.settle()?;
         let is_crossed = self.stack.is_at(Kind::Whole) && !own;
         self.refuse_if(is_crossed, PageRefusal::CrossedElement);
-        self.lose_current(own)?;
+        self.leave_formats(own);
         self.stack.close_current()?;
         Ok(())
     }
@@ -408,13 +416,133 @@ impl Page {
         }
     }
 
-    /// Refuses to make formatting elements again (HTML Standard 13.2.4.3), unless none is lost.
-    pub fn reconstruct(&mut self)
-        ensures { page_of self.new ≡ pages.reconstructed (page_of self.old) }
+    /// Opens an element for an entry again that takes so many bytes, and is not too deep.
+    fn reopen(&mut self, format: Format, size: usize) -> Result<(), AllocError>
+        requires size { size ≡ copy_size (format_of format) }
+        requires spare { self.old.copied + size < 2 ^ 64 }
+        ensures { OnOk result (page_of self.new
+            ≡ pages.reopened (format_of format) (pages.settled (page_of self.old))) }
     {
-        if self.lost.loses_some() {
-            self.lost.forget_all();
-            self.refuse(PageRefusal::Reconstruction);
+        self.settle()?;
+        self.copied += size;
+        let element = format.element(self.alloc)?;
+        let index = self.stack.len();
+        self.stack.push(element)?;
+        self.formats.push(Format { index, ..format })
+    }
+
+    /// Refuses the page, and leaves the entry as it is.
+    fn keep_closed(&mut self, refusal: PageRefusal, format: Format) -> Result<(), AllocError>
+        ensures { OnOk result (page_of self.new
+            ≡ pages.kept_closed refusal (format_of format) (page_of self.old)) }
+    {
+        self.refuse(refusal);
+        self.formats.push(format)
+    }
+
+    /// Returns the bytes that may still be made again.
+    fn spare(&self) -> usize
+        ensures { let p = page_of self.now in result ≡ spare_at p.start p.copied }
+    {
+        let most = self
+            .start
+            .saturating_mul(COPIES_PER_BYTE)
+            .saturating_add(SPARE_COPIES);
+        most.saturating_sub(self.copied)
+    }
+
+    /// Opens an element for an entry again, unless it would be too deep, or too much was made again:
+    /// then the page is refused.
+    fn open_again(&mut self, format: Format) -> Result<(), AllocError>
+        ensures { OnOk result (page_of self.new ≡ pages.opened_again (format_of format) (page_of self.old)) }
+    {
+        if self.is_full() {
+            return self.keep_closed(PageRefusal::TooDeep, format);
+        }
+        let spare = self.spare();
+        match format.spend(spare) {
+            None => self.keep_closed(PageRefusal::TooManyCopies, format),
+            Some(left) => self.reopen(format, spare - left),
+        }
+    }
+
+    /// Opens elements for entries again, the last entry first.
+    fn open_all_again(&mut self, closed: Vec<Format>) -> Result<(), AllocError>
+        ensures { OnOk result (page_of self.new ≡ pages.all_opened_again
+            (reverse (map format_of closed.items)) (page_of self.old)) }
+    {
+        let mut left = closed;
+        while let Some(format) = left.pop() {
+            self.open_again(format)?;
+        }
+        Ok(())
+    }
+
+    /// Makes the formatting elements again that other tags closed (HTML Standard 13.2.4.3).
+    pub fn reconstruct(&mut self) -> Result<(), AllocError>
+        ensures { OnOk result (page_of self.new ≡ pages.reconstructed (page_of self.old)) }
+    {
+        if !self.formats.ends_closed(&self.stack) {
+            return Ok(());
+        }
+        self.note(PageError::FormattingReopened)?;
+        let closed = self.formats.take_closed(self.alloc, &self.stack)?;
+        self.open_all_again(closed)
+    }
+
+    /// Moves a block whose copies take so many bytes.
+    fn move_block(
+        &mut self,
+        format: &Format,
+        block: usize,
+        kept: Vec<Format>,
+        size: usize,
+    ) -> Result<(), AllocError>
+        requires order { format.now.index < block }
+        requires within { block < length (page_of self.old).stack }
+        requires spare { self.old.copied + size < 2 ^ 64 }
+        ensures { OnOk result (page_of self.new ≡ (let p = page_of self.old in
+            let a = adoption (format_of format.now) block p.stack in
+            let kept = map format_of kept.items in record p {
+              stack = stack_after a kept;
+              formats = reverse (entries_after a (length kept) 0 (reverse p.formats));
+              copied = p.copied + size;
+            })) }
+    {
+        let stack = &self.stack;
+        let adoption = Adoption {
+            format,
+            block,
+            stack,
+        };
+        self.formats.adopt(self.alloc, adoption, kept.len())?;
+        self.copied += size;
+        self.stack.move_block(self.alloc, format, block, &kept)
+    }
+
+    /// Moves the furthest block at that index out of the formatting element of an entry, unless too
+    /// much was made again: then the page is refused (HTML Standard 13.2.6.4.7).
+    #[tactic(auto, using(crate::proofs::Adopting::reversed_twice))]
+    pub fn adopt(&mut self, format: &Format, block: usize) -> Result<(), AllocError>
+        requires order { format.now.index < block }
+        requires within { block < length (page_of self.old).stack }
+        ensures { OnOk result (page_of self.new
+            ≡ adopted_from (format_of format.now) block (page_of self.old)) }
+    {
+        self.settle()?;
+        let stack = &self.stack;
+        let adoption = Adoption {
+            format,
+            block,
+            stack,
+        };
+        let kept = adoption.kept_entries(self.alloc, &self.formats)?;
+        match copies_size(self.spare(), format, &kept) {
+            None => {
+                self.refuse(PageRefusal::TooManyCopies);
+                Ok(())
+            }
+            Some(size) => self.move_block(format, block, kept, size),
         }
     }
 

@@ -6,6 +6,7 @@ ghost use Rattle.html_page_stack.specs.PageViews.{bound_test, element_of, goal_t
 
 use crate::element::PageElement;
 use crate::modes::{Scope, Space};
+use html_dom_tree::Span;
 use html_names_core::HtmlTag;
 use html_page_names::Kind;
 
@@ -25,6 +26,8 @@ pub enum Target<'a> {
 pub enum Goal<'a> {
     /// An element of HTML that is meant.
     Of(Target<'a>),
+    /// An element of HTML with that name, which has that span.
+    Opened(&'a HtmlTag, Span),
     /// An element of SVG or MathML with that name, in lowercase.
     Foreign(&'a HtmlTag),
     /// An element in which start tags are read as HTML.
@@ -47,8 +50,6 @@ pub enum Bound {
     Scope(Scope),
     /// At a special element.
     Special,
-    /// At an element that hides formatting elements around it.
-    Marker,
     /// At an element that stops the search for an item that a new one closes.
     Item,
     /// At an element of HTML.
@@ -97,7 +98,7 @@ pub(crate) fn bounds(scope: Scope, element: &PageElement) -> bool
     }
 }
 
-fn is_special(element: &PageElement) -> bool
+pub(crate) fn is_special(element: &PageElement) -> bool
     ensures { result ≡ is_special (element_of element.now) }
 {
     element.is(Kind::Special) || is_foreign_bound(element)
@@ -109,6 +110,7 @@ impl Goal<'_> {
     {
         match self {
             Goal::Of(target) => element.is_target(target),
+            Goal::Opened(tag, span) => element.is_opened(tag, span),
             Goal::Foreign(tag) => element.is_foreign_of(tag),
             Goal::HoldsTags => element.holds_tags(),
         }
@@ -122,7 +124,6 @@ impl Bound {
         match self {
             Bound::Scope(scope) => bounds(scope, element),
             Bound::Special => is_special(element),
-            Bound::Marker => element.is(Kind::Marker),
             Bound::Item => is_special(element) && !element.is(Kind::PassedByItems),
             Bound::Html => element.is_html(),
             Bound::Nothing => false,

@@ -5,7 +5,10 @@ ghost use Rattle.html_page_stack.specs.Contexts.{AreKnown, contexts_are_set};
 
 use crate::context::Context;
 use crate::element::PageElement;
-use crate::elements::{at, attr_count_at, merge_at, own_mode, reaches, root_mode};
+use crate::elements::{
+    at, attr_count_at, furthest_block, is_open, merge_at, own_mode, reaches, root_mode,
+};
+use crate::formats::{Entry, Format, Formats};
 use crate::modes::{Mode, Scope, Space};
 use crate::search::{Bound, Goal, Target, While, bounds};
 use html_dom_tree::{HtmlAttrs, HtmlElement};
@@ -22,13 +25,17 @@ pub struct Stack {
 }
 
 impl Stack {
-    ghost use Rattle.std.specs.Prelude.{◌≡◌, ◌∷◌, [], IfOk, OnOk, length, option_map, reverse};
+    ghost use Rattle.std.specs.Prelude.{◌≡◌, ◌∷◌, [], IfOk, IfSome, OnOk, length, option_map, reverse};
     ghost use Rattle.html_dom_tree.specs.Views.{attrs_view, element_view, text_view};
     ghost use Rattle.html_page_names.specs.PageNames.{of};
     ghost use Rattle.html_page_names.specs.declared.kind.Kind.TheVariants as kind;
     ghost use Rattle.html_page_stack.specs.Contexts.{context};
+    ghost use Rattle.html_page_stack.specs.Endings.{Pops};
+    ghost use Rattle.html_page_stack.specs.Adoption.{furthest_block};
+    ghost use Rattle.html_page_stack.specs.AdoptionViews.{IsInside};
+    ghost use Rattle.html_page_stack.specs.Formats.{is_last, is_listed, is_open};
     ghost use Rattle.html_page_stack.specs.OpenElements.{at, attr_count_at, with_attrs_at, current_name, in_scope, is_at, is_in_foreign, current_space, mode, reaches, root_of, with_last_text, without_current};
-    ghost use Rattle.html_page_stack.specs.PageViews.{bound_test, element_of, goal_test, stack_of, target_test, while_test};
+    ghost use Rattle.html_page_stack.specs.PageViews.{bound_test, element_of, format_of, formats_of, goal_test, stack_of, target_test, while_test};
 
     /// Creates a stack without elements.
     pub fn new(alloc: Global) -> Stack
@@ -64,6 +71,44 @@ impl Stack {
         ensures { result ≡ at (goal_test goal.entry) (stack_of self.now) }
     {
         at(&self.items, goal)
+    }
+
+    /// Returns whether the element of the entry is open.
+    pub fn is_open(&self, format: &Format) -> bool
+        ensures { result ≡ is_open (format_of format.now) (stack_of self.now) }
+    {
+        is_open(&self.items, format)
+    }
+
+    /// Returns the index of the furthest block of the formatting element at that index.
+    pub fn furthest_block(&self, index: usize) -> Option<usize>
+        ensures block { result ≡ furthest_block index (stack_of self.now) }
+        ensures inside { IfSome result (λ block. IsInside index block (stack_of self.now)) }
+    {
+        furthest_block(&self.items, index)
+    }
+
+    /// Returns whether the list of active formatting elements has an entry of the current node.
+    #[tactic(auto, using(crate::proofs::OpenFormats::as_many, crate::proofs::Stacks::last_first))]
+    pub fn is_listed(&self, formats: &Formats) -> bool
+        ensures { result ≡ is_listed (stack_of self.now) (formats_of formats.now) }
+    {
+        match self.items.split_last() {
+            None => false,
+            Some((element, outer)) => formats.has(Entry::Of(element, outer.len())),
+        }
+    }
+
+    /// Returns whether the last entry of the list of active formatting elements is that of the
+    /// current node.
+    #[tactic(auto, using(crate::proofs::OpenFormats::as_many, crate::proofs::Stacks::last_first))]
+    pub fn is_last(&self, formats: &Formats) -> bool
+        ensures { result ≡ is_last (stack_of self.now) (formats_of formats.now) }
+    {
+        match self.items.split_last() {
+            None => false,
+            Some((element, outer)) => formats.ends_with(Entry::Of(element, outer.len())),
+        }
     }
 
     /// Returns whether more elements must be closed.
@@ -184,6 +229,14 @@ impl Stack {
             None => Ok(()),
             Some(element) => self.put(element.with_text(text)?),
         }
+    }
+
+    /// Takes the current node off, without completing it.
+    #[tactic(auto, using(crate::proofs::Contexts::rest_known, crate::proofs::Stacks::last_first))]
+    pub(crate) fn pop(&mut self) -> Option<PageElement>
+        ensures { Pops result (stack_of self.old) (stack_of self.new) }
+    {
+        self.items.pop()
     }
 
     /// Completes the current node, unless it is the root.

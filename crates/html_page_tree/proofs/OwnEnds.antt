@@ -1,19 +1,20 @@
 -- Where a page takes the end tag of the current node's name, the tag closes it.
-use Rattle.std.proofs.Common.{◌≡◌, arith, ℕ, Bool, true, false, not, ◌&&◌, ◌||◌, List, [], ◌∷◌, inl, inr, refl, sym, ap, subst, ◌∙◌}
-use Rattle.std.proofs.lemmas.Bool.{and_from, and_parts, and_right, cases_Bool, false≢true, not-true, or_left, or_parts}
+use Rattle.std.proofs.Common.{◌≡◌, arith, ℕ, Bool, true, false, not, ◌&&◌, ◌||◌, ◌==◌, List, [], ◌∷◌, length, inl, inr, refl, sym, ap, subst, ◌∙◌}
+use Rattle.std.proofs.lemmas.Bool.{and_from, and_parts, and_right, cases_Bool, eqb-true, false≢true, le-leb, not-true, or_left, or_parts}
 use Rattle.std.proofs.lemmas.{Option.{none-some, same_Some}, Slice.Eq.{bytes_eq-Decides}}
-use Rattle.std.specs.Prelude.{Option, Some, None, codes, if◌then◌else◌}
+use Rattle.std.specs.{Option.{option_or}, Prelude.{Option, Some, None, codes, if◌then◌else◌}}
 use Rattle.html_page_names.specs.PageNames.{is, of}
 use Rattle.html_page_names.specs.declared.kind.Kind.TheVariants as kind
-use Rattle.html_page_stack.specs.OpenElements.{OpenElement, bounds, current_name, in_scope, is_active, is_at, is_html, is_near, is_of, is_special, mode, reaches}
-use Rattle.html_page_stack.specs.Pages.{Page, Token, End, Taken, added_to, closed, closed_in, closed_named, closed_over, closed_to, implied_closed, is_lost, loses_some, no_name, noted, noted_if, refused, taken_with, without_lost}
+use Rattle.html_page_stack.specs.Adoption.{furthest_block}
+use Rattle.html_page_stack.specs.Formats.{Format, Formats, ends_with, is_entry_of, is_last, is_listed, is_named, is_open, last_entry}
+use Rattle.html_page_stack.specs.OpenElements.{OpenElement, at, bounds, current_name, in_scope, is_at, is_html, is_near, is_of, is_opened, is_special, mode, reaches}
+use Rattle.html_page_stack.specs.Pages.{Page, Token, End, Taken, added_to, closed, closed_in, closed_named, closed_over, closed_to, closed_to_goal, closed_while, implied_closed, no_name, noted, noted_if, taken_with}
 use Rattle.html_page_stack.specs.declared.error.PageError.TheVariants as error
-use Rattle.html_page_stack.specs.declared.fault.PageRefusal.TheVariants as refusal
 use Rattle.html_page_stack.specs.declared.modes.{Destination.TheVariants.{Parent}, Space.TheVariants.{Html}}
 use Rattle.html_page_stack.specs.declared.modes.{Mode.{Mode}, Scope.{Scope}, Mode.TheVariants.{InBody, InTable, InSection, InRow, InCell}}
 use Rattle.html_page_stack.specs.declared.modes.Scope.TheVariants as scope
 use Rattle.html_page_tree.specs.OwnEnds.{closes_in, closes_in_body, closes_in_cell, is_of_table, takes_own_end}
-use Rattle.html_page_tree.specs.PageBodies.{adopted, element_ended, in_body_end, other_closed, p_closed, p_ended}
+use Rattle.html_page_tree.specs.PageBodies.{Agency, Settled, adopted, agency, agency_run, behind_agency, element_ended, format_closed, format_ended, format_removed, format_taken, in_body_end, other_closed, p_closed, p_ended}
 use Rattle.html_page_tree.specs.PageTrees.{by_mode, in_cell, current_part_closed, in_foreign, is_unseen, part_closed, processed, token_read, turn}
 
 -- both branches are the same
@@ -21,11 +22,17 @@ pub either : {A : Type 0} (b : Bool) (x y r : A) → (b ≡ true → x ≡ r) �
     (if b then x else y) ≡ r
 either b x y r h k = grind arith
 
-none_lost : (name : List ℕ) (ls : List (Option (List ℕ))) → loses_some ls ≡ false →
-    is_lost name ls ≡ false
-none_lost name [] h = refl
-none_lost name (None ∷ ls) h = refl
-none_lost name (Some n ∷ ls) h = absurd (false≢true (sym h))
+-- the last entry is one that passes the test
+record EndsWith (test : Format → Bool) (fs : Formats) : Type 0 where
+  format : Format
+  rest : Formats
+  is : fs ≡ Some format ∷ rest
+  passes : test format ≡ true
+
+last_of : (test : Format → Bool) (fs : Formats) → ends_with test fs ≡ true → EndsWith test fs
+last_of test [] h = absurd (false≢true h)
+last_of test (None ∷ fs) h = absurd (false≢true h)
+last_of test (Some f ∷ fs) h = record { format = f; rest = fs; is = refl; passes = h }
 
 -- the current node, an element of HTML
 module _ (p : Page) (o : OpenElement) (os : List OpenElement) (html : is_html o.space ≡ true) where
@@ -88,22 +95,79 @@ module _ (p : Page) (o : OpenElement) (os : List OpenElement) (html : is_html o.
       (reached (is n) is_special named)
       ∙ over (is n) (is n) (is n) named named (but_named (is n) named)
 
-  pub end_formatting : loses_some p.lost ≡ false → adopted n q ≡ closed true q
-  end_formatting l = adopted_by (is_lost n q.lost) (is_active (is n) q.stack)
-      (in_scope scope.General (is n) q.stack) (is_near (is n) q.stack) (none_lost n p.lost l)
-      (reached (is n) (is_of (of kind.Marker)) named) (reached (is n) (bounds scope.General) named)
-      (reached (is n) is_special named) where
-        adopted_by : (lost active scoped near : Bool) → lost ≡ false → active ≡ true → scoped ≡ true →
-            near ≡ true →
-            (if lost then noted error.EndTagOfClosedElement (record q { lost = without_lost n q.lost })
-            else (if not active then other_closed n q
-            else (if not scoped then noted error.EndTagWithoutStart q
-            else (if not near then refused refusal.AdoptionAgency q
-            else closed_named (is n) (is n) q)))) ≡ closed true q
-        adopted_by lost active scoped near a b c d =
-            rw (a, b, c, d) (named_closed (is n) (is n) named named)
+  -- the entry of the current node is the last
+  module _ (f : Format) (rest : Formats) (its : is_entry_of o (length os) f ≡ true) where
+    opened : is_opened f.name f.span o ≡ true
+    opened = (and_parts (f.index == length os) _ its).1
 
-  end_element : closes_in_body n ≡ true → loses_some p.lost ≡ false →
+    same_name : n ≡ f.name
+    same_name = (bytes_eq-Decides n f.name).0
+        (and_parts (is_html o.space) _ (and_parts (is_of (is f.name) o) _ opened).0).1
+
+    named_so : is_named n f ≡ true
+    named_so = (bytes_eq-Decides f.name n).1 (sym same_name)
+
+    is_goal : is_opened n f.span o ≡ true
+    is_goal = and_from (is_of (is n) o) _ (at_name (is n) named)
+        (and_parts (is_of (is f.name) o) _ opened).1
+
+    open_still : is_open f (o ∷ os) ≡ true
+    open_still = or_left (is_entry_of o (length os) f) _ its
+
+    no_block : furthest_block f.index (o ∷ os) ≡ None
+    no_block = let here = eqb-true f.index (length os) (and_parts (f.index == length os) _ its).0 in
+        ap (λ b. if b then None else option_or (furthest_block f.index os)
+        (if is_special o then Some (length os) else None))
+        (le-leb (length os) f.index (omega (arith, here)))
+
+    closed_at_once : closed_to_goal (is_opened n f.span) q ≡ closed true q
+    closed_at_once = ap (λ b. closed true (if not b then
+        closed_while (λ s. not (at (is_opened n f.span) s)) (length os) (closed false q) else q))
+        is_goal
+
+    goal_closed : format_closed n f.span q ≡ closed true q
+    goal_closed = ap (λ b. closed_to_goal (is_opened n f.span)
+        (noted_if (not b) error.EndTagOverOpenElements q)) is_goal ∙ closed_at_once
+
+    in_scope_still : reaches (is_opened n f.span) (bounds scope.General) (o ∷ os) ≡ true
+    in_scope_still = or_left (is_opened n f.span o) _ is_goal
+
+    last_ended : format_ended n (Some f) q ≡ Settled (closed true q)
+    last_ended =
+        ap (λ b. if not b then Settled (noted error.EndTagOfClosedElement (format_removed n q))
+        else (if not (reaches (is_opened n f.span) (bounds scope.General) q.stack)
+        then Settled (noted error.EndTagWithoutStart q)
+        else format_taken n f (furthest_block f.index q.stack) q)) open_still
+        ∙ (ap (λ b. if not b then Settled (noted error.EndTagWithoutStart q)
+        else format_taken n f (furthest_block f.index q.stack) q) in_scope_still
+        ∙ (ap (λ b. format_taken n f b q) no_block ∙ ap Settled goal_closed))
+
+    entry_ended : (fs : Formats) → fs ≡ Some f ∷ rest → q.formats ≡ fs →
+        agency n q ≡ Settled (closed true q)
+    entry_ended fs e k =
+        ap (λ l. format_ended n (last_entry (is_named n) l) q) (k ∙ e)
+        ∙ (ap (λ b. format_ended n (if b then Some f else last_entry (is_named n) rest) q) named_so
+        ∙ last_ended)
+
+  -- the list does not keep the end tag of a formatting element from closing it
+  abbrev pub IsFree : Type 0
+  IsFree = (not (is_at (of kind.Formatting) (o ∷ os)) || is_last (o ∷ os) p.formats) ≡ true
+
+  run_once : (a : Agency) → a ≡ Settled (closed true q) →
+      behind_agency (agency_run 7 n) a ≡ closed true q
+  run_once a h = ap (behind_agency (agency_run 7 n)) h
+
+  pub end_formatting : of kind.Formatting n ≡ true → IsFree → adopted n q ≡ closed true q
+  unfolding agency_run
+  end_formatting formatting free =
+      let is_format = at_name (of kind.Formatting) formatting in
+      let last = last_of (is_entry_of o (length os)) p.formats (rw is_format at free) in
+      either (is_at (is n) q.stack && not (is_listed q.stack q.formats)) _ _ (closed true q)
+      (λ _. refl)
+      (λ _. run_once (agency n q)
+      (entry_ended last.format last.rest last.passes p.formats last.is refl))
+
+  end_element : closes_in_body n ≡ true → IsFree →
       element_ended n q ≡ closed true q
   end_element h l =
       let form : of kind.Form n ≡ false = grind arith in
@@ -119,9 +183,9 @@ module _ (p : Page) (o : OpenElement) (os : List OpenElement) (html : is_html o.
       either (of kind.ClosesInScope n) _ _ (closed true q)
       (λ h. within scope.General (is n) no_name named (grind arith)) (λ c.
       either (of kind.Formatting n) _ _ (closed true q)
-      (λ h. end_formatting l) (λ f. end_other)))))))
+      (λ h. end_formatting h l) (λ f. end_other)))))))
 
-  end_in_body : closes_in_body n ≡ true → loses_some p.lost ≡ false →
+  end_in_body : closes_in_body n ≡ true → IsFree →
       in_body_end n q ≡ Taken (closed true q)
   end_in_body h l =
       let root : of kind.Root n ≡ false = grind arith in
@@ -139,7 +203,7 @@ module _ (p : Page) (o : OpenElement) (os : List OpenElement) (html : is_html o.
       (at_name (of kind.Cell) cell)
       ∙ closes (of kind.Cell) cell)
 
-  end_in_cell : closes_in_cell n ≡ true → loses_some p.lost ≡ false →
+  end_in_cell : closes_in_cell n ≡ true → IsFree →
       in_cell (End n) q ≡ Taken (closed true q)
   end_in_cell h l = elim (cases_Bool (of kind.Cell n)) [
     | inl cell ↦
@@ -158,7 +222,7 @@ module _ (p : Page) (o : OpenElement) (os : List OpenElement) (html : is_html o.
         ∙ end_in_body both.1 l)
   ]
 
-  end_in_mode : (m : Mode) → closes_in m n ≡ true → loses_some p.lost ≡ false →
+  end_in_mode : (m : Mode) → closes_in m n ≡ true → IsFree →
       by_mode m (End n) q ≡ Taken (closed true q)
   end_in_mode InBody h l = end_in_body h l
   end_in_mode InCell h l = end_in_cell h l
@@ -172,11 +236,11 @@ module _ (p : Page) (o : OpenElement) (os : List OpenElement) (html : is_html o.
   unfolding takes_own_end processed token_read
   end_taken h =
       let seen = and_parts (not (is_unseen p.tables)) _ h in
-      let kept = and_parts (not (loses_some p.lost)) _ seen.1 in
-      let closes_itself = (and_parts (is_html o.space) _ kept.1).1 in
+      let kept = and_parts (is_at (closes_in (mode q.stack)) q.stack) _ seen.1 in
+      let closes_itself = (and_parts (is_html o.space) _ kept.0).1 in
       let turned : turn (End n) q ≡ Taken (closed true q) =
       ap (λ b. if not b then in_foreign (End n) q else by_mode (mode q.stack) (End n) q) html
-      ∙ end_in_mode (mode q.stack) closes_itself (not-true _ kept.0) in
+      ∙ end_in_mode (mode q.stack) closes_itself kept.1 in
       rw (seen.0, turned) refl
 
 is_html_at : (o : OpenElement) (os : List OpenElement) (p : Page) →

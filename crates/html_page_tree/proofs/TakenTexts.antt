@@ -1,17 +1,17 @@
 -- Where a page takes text, each character but U+0000 is added to the current node.
 use Rattle.std.proofs.Common.{◌≡◌, ℕ, Bool, true, false, not, ◌||◌, ◌==◌, List, [], ◌∷◌, refl, sym, ap, ◌∙◌}
 use Rattle.std.proofs.lemmas.Bool.{and_parts, false≢true, not-true}
-use Rattle.html_page_stack.specs.{OpenElements.{OpenElement, mode}, Pages.{Page, Char, Taken, loses_some, reconstructed, with_char}}
+use Rattle.html_page_stack.specs.{Formats.{ends_closed}, OpenElements.{OpenElement, mode}, Pages.{Page, Char, Taken, reconstructed, with_char}}
 use Rattle.html_page_stack.specs.declared.modes.Mode.{Mode}
 use Rattle.html_page_stack.specs.declared.modes.Mode.TheVariants.{BeforeHtml, BeforeHead, InHead, InHeadNoscript, AfterHead, InBody, InText, InTable, InCaption, InColumns, InSection, InRow, InCell}
 use Rattle.html_page_tree.specs.PageBodies.{char_in_body}
 use Rattle.html_page_tree.specs.PageTrees.{by_mode, is_foreign_token, is_unseen, processed, shown, token_read, turn}
 use Rattle.html_page_tree.specs.TakenTexts.{mode_takes_text, takes_text}
 
-kept : (p : Page) → not (loses_some p.lost) ≡ true → reconstructed p ≡ p
-kept p h = rw (not-true (loses_some p.lost) h) refl
+kept : (p : Page) → not (ends_closed p.stack p.formats) ≡ true → reconstructed p ≡ p
+kept p h = rw (not-true (ends_closed p.stack p.formats) h) refl
 
-body_text : (c : ℕ) (p : Page) → (c == 0) ≡ false → not (loses_some p.lost) ≡ true →
+body_text : (c : ℕ) (p : Page) → (c == 0) ≡ false → not (ends_closed p.stack p.formats) ≡ true →
     char_in_body c p ≡ with_char c p
 body_text c p some h = rw some (ap (with_char c) (kept p h))
 

@@ -1,5 +1,6 @@
--- Processing a token again, once more and no more.
-use Rattle.std.proofs.Common.{◌≡◌, ℕ, zero, suc, ◌+◌, ◌-◌, ◌<◌, ◌≤◌, ap, arith}
+-- Processing a token again, and moving another block, once more and no more.
+use Rattle.std.proofs.Common.{◌≡◌, ℕ, zero, suc, ◌+◌, ◌-◌, ◌<◌, ◌≤◌, List, ap, arith}
+use Rattle.html_page_tree.specs.PageBodies.{agency, agency_run, behind_agency}
 use Rattle.html_page_tree.specs.PageTrees.{behind_turn, processed, turn}
 use Rattle.html_page_stack.specs.{Pages.{Page, Token, refused}, declared.fault.PageRefusal.TheVariants.{Unsettled}}
 
@@ -13,3 +14,13 @@ pub processed_out : (n k : ℕ) (t : Token) (p : Page) → n ≤ k →
     processed (n - k) t p ≡ refused Unsettled p
 unfolding processed
 processed_out n k t p h = ap (λ m. processed m t p) {x = n - k} {y = zero} (omega (arith, h))
+
+pub agency_once : (n k : ℕ) (name : List ℕ) (p : Page) → k < n → agency_run (n - k) name p
+    ≡ behind_agency (agency_run (n - (k + 1)) name) (agency name p)
+unfolding agency_run
+agency_once n k name p h =
+    ap (λ m. agency_run m name p) {x = n - k} {y = suc (n - (k + 1))} (omega (arith, h))
+
+pub agency_out : (n k : ℕ) (name : List ℕ) (p : Page) → n ≤ k → agency_run (n - k) name p ≡ p
+unfolding agency_run
+agency_out n k name p h = ap (λ m. agency_run m name p) {x = n - k} {y = zero} (omega (arith, h))

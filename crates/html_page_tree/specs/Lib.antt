@@ -1,3 +1,4 @@
+pub mod Agencies
 pub mod BodyStarts
 pub mod OwnEnds
 pub mod PageBodies

@@ -1,10 +1,12 @@
 -- The steps of a token in a body (HTML Standard 13.2.6.4.7), and before it (13.2.6.4.2 to
 -- 13.2.6.4.6).
-use Rattle.std.specs.Prelude.{ℕ, Bool, true, false, not, ◌&&◌, ◌||◌, ◌==◌, List, [], length, if◌then◌else◌, codes, map}
+use Rattle.std.specs.Prelude.{ℕ, zero, suc, Bool, true, false, not, ◌&&◌, ◌||◌, ◌==◌, List, [], length, if◌then◌else◌, codes, map, Option, Some, None}
 use Rattle.html_dom_tree.specs.Tree.{TextPair}
 use Rattle.html_page_names.specs.{ForeignNames.{svg_names, svg_attrs, math_attrs, with_capitals}, PageNames.{is, of}}
-use Rattle.html_page_stack.specs.OpenElements.{is_at, has, in_scope, is_near, is_active, has_item}
-use Rattle.html_page_stack.specs.Pages.{Page, StartTag, Token, Char, Start, End, Finish, merged, refused, refused_if, noted, noted_if, with_char, added_in, added_to, opened, opened_in, opened_to, closed, closed_named, closed_to, implied_closed, no_name, closed_over, closed_in, is_lost, without_lost, reconstructed, Turn, Taken, Again, taken_with}
+use Rattle.html_page_stack.specs.Adoption.{adopted_from, furthest_block}
+use Rattle.html_page_stack.specs.Formats.{Format, is_listed, is_named, is_open, is_same, last_entry, without_entry}
+use Rattle.html_page_stack.specs.OpenElements.{at, bounds, is_at, is_opened, has, in_scope, is_near, reaches, has_item}
+use Rattle.html_page_stack.specs.Pages.{Page, StartTag, Token, Char, Start, End, Finish, merged, refused, refused_if, noted, noted_if, with_char, added_in, added_to, opened, opened_in, opened_to, closed, closed_named, closed_to, closed_to_goal, implied_closed, no_name, closed_over, closed_in, reconstructed, Turn, Taken, Again, taken_with}
 use Rattle.html_page_stack.specs.declared.error.PageError.TheVariants as error
 use Rattle.html_page_stack.specs.declared.fault.PageRefusal.TheVariants as refusal
 use Rattle.html_page_names.specs.declared.kind.Kind.{Kind}
@@ -62,15 +64,51 @@ abbrev pub other_closed : (name : List ℕ) → Page → Page
 other_closed name p = if is_near (is name) p.stack then closed_over (is name) (is name) (is name) p
     else noted error.EndTagWithoutStart p
 
--- runs the adoption agency algorithm, as long as nothing moves (13.2.6.4.7)
+-- takes the last entry of that name behind the last marker off
+abbrev pub format_removed : (name : List ℕ) → Page → Page
+format_removed name p = record p { formats = without_entry (is_named name) 0 p.formats }
+
+-- what is done with the element of an entry, and whether it is to be looked for again
+pub data Agency : Type 0 where
+  Settled : Page → Agency
+  Moved : Page → Agency
+
+-- closes the element of an entry with that name and span, and takes the entry off
+abbrev pub format_closed : (name : List ℕ) (span : ℕ) → Page → Page
+format_closed name span p = let goal = is_opened name span in
+    closed_to_goal goal (noted_if (not (at goal p.stack)) error.EndTagOverOpenElements p)
+
+-- handles an entry whose element is in scope, given its furthest block
+abbrev pub format_taken : (name : List ℕ) → Format → (block : Option ℕ) → Page → Agency
+format_taken name f None p = Settled (format_closed name f.span p)
+format_taken name f (Some block) p =
+    Moved (adopted_from f block (noted error.NodesAdopted p))
+
+abbrev pub format_ended : (name : List ℕ) → Option Format → Page → Agency
+format_ended name None p = Settled (other_closed name p)
+format_ended name (Some f) p = if not (is_open f p.stack)
+    then Settled (noted error.EndTagOfClosedElement (format_removed name p))
+    else (if not (reaches (is_opened name f.span) (bounds scope.General) p.stack)
+    then Settled (noted error.EndTagWithoutStart p)
+    else format_taken name f (furthest_block f.index p.stack) p)
+
+-- handles the last entry of that name
+abbrev pub agency : (name : List ℕ) → Page → Agency
+agency name p = format_ended name (last_entry (is_named name) p.formats) p
+
+abbrev pub behind_agency : (Page → Page) → Agency → Page
+behind_agency again (Settled p) = p
+behind_agency again (Moved p) = again p
+
+-- runs the adoption agency algorithm, at most so many times
+unfoldable pub agency_run : (times : ℕ) → (name : List ℕ) → Page → Page
+agency_run zero name p = p
+agency_run (suc n) name p = behind_agency (agency_run n name) (agency name p)
+
+-- handles the end tag of a formatting element (13.2.6.4.7)
 abbrev pub adopted : (name : List ℕ) → Page → Page
-adopted name p = if is_lost name p.lost
-    then noted error.EndTagOfClosedElement (record p { lost = without_lost name p.lost })
-    else (if not (is_active (is name) p.stack) then other_closed name p
-    else (if not (in_scope scope.General (is name) p.stack)
-    then noted error.EndTagWithoutStart p
-    else (if not (is_near (is name) p.stack) then refused refusal.AdoptionAgency p
-    else closed_named (is name) (is name) p)))
+adopted name p = if is_at (is name) p.stack && not (is_listed p.stack p.formats) then closed true p
+    else agency_run 8 name p
 
 -- closes an element of that name before the next, and records an error
 abbrev pub nested_closed : (name : List ℕ) → Page → Page
@@ -81,13 +119,20 @@ abbrev pub select_closed : Page → Page
 select_closed p = if in_scope scope.General (of kind.Select) p.stack
     then closed_to (of kind.Select) (noted error.NestedElement p) else p
 
--- refuses an `a` that is still open, and would be removed
-abbrev pub anchor_left : Page → Page
-anchor_left p = refused_if (is_active (of kind.A) p.stack) refusal.OpenAnchorRemoved p
+-- takes the entry of an `a` off that is closed, and refuses the page if it is open still, since the
+-- element would be removed
+abbrev pub anchor_left : Format → Page → Page
+anchor_left f p = record (refused_if (is_open f p.stack) refusal.OpenAnchorRemoved p) {
+  formats = without_entry (is_same f) 0 p.formats;
+}
+
+-- closes an `a` before the next, given the entry of the last one
+abbrev pub anchor_ended : (name : List ℕ) → Option Format → Page → Page
+anchor_ended name None p = p
+anchor_ended name (Some f) p = anchor_left f (adopted name (noted error.NestedElement p))
 
 abbrev pub anchor_closed : (name : List ℕ) → Page → Page
-anchor_closed name p = if is_active (of kind.A) p.stack || is_lost name p.lost
-    then anchor_left (adopted name (noted error.NestedElement p)) else p
+anchor_closed name p = anchor_ended name (last_entry (is_named name) p.formats) p
 
 abbrev pub p_closed : Page → Page
 p_closed p = if in_scope scope.Button (of kind.P) p.stack

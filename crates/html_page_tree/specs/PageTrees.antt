@@ -3,7 +3,7 @@
 use Rattle.std.specs.{List.{list_any}, Prelude.{ℕ, zero, suc, Bool, true, false, not, ◌&&◌, ◌||◌, ◌==◌, List, [], ◌∷◌, length, if◌then◌else◌, codes}}
 use Rattle.html_page_names.specs.{ForeignNames.{is_font_attr}, PageNames.{is, of}}
 use Rattle.html_page_stack.specs.OpenElements.{OpenElement, at, holds_html_in, holds_tags, holds_text_in, is_html, reaches, is_at, has, in_scope, mode, current_space, is_foreign_of}
-use Rattle.html_page_stack.specs.Pages.{Page, StartTag, Token, Char, Start, End, Finish, refused, noted, noted_if, with_char, opened, closed, closed_to, closed_to_goal, closed_while, implied_closed, no_name, without_lost, Turn, Taken, Again, taken_with}
+use Rattle.html_page_stack.specs.Pages.{Page, StartTag, Token, Char, Start, End, Finish, refused, noted, noted_if, with_char, opened, closed, closed_to, closed_to_goal, closed_while, implied_closed, no_name, Turn, Taken, Again, taken_with}
 use Rattle.html_page_tree.specs.PageBodies.{is_space, leaf, repeated, head_element, entered, in_body, in_body_start, in_body_end, left, before, in_head, in_head_noscript, after_head, in_text}
 use Rattle.html_page_stack.specs.declared.error.PageError.TheVariants as error
 use Rattle.html_page_stack.specs.declared.fault.PageRefusal.TheVariants as refusal
@@ -45,7 +45,8 @@ in_table_end name p = if of kind.Table name then Taken (closed_to (of kind.Table
     else (if of kind.P name || of kind.Br name then Taken (refused refusal.FosterParenting p)
     else (if of kind.Form name && has (of kind.Form) p.stack
     then Taken (refused refusal.CrossedElement p)
-    else taken_with error.EndTagWithoutStart (record p { lost = without_lost name p.lost })))
+    else (if of kind.Root name then taken_with error.EndTagWithoutStart p
+    else in_body_end name p)))
 
 abbrev pub in_table : Token → Page → Turn
 in_table (Char c) p = if is_space c then Taken (with_char c p)

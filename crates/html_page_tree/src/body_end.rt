@@ -6,7 +6,8 @@ ghost use Rattle.html_page_stack.specs.Pages as pages;
 ghost use Rattle.html_page_stack.specs.declared.modes.{Destination.TheVariants.{Parent}, Space.TheVariants.{Html}};
 ghost use Rattle.html_page_tree.specs.PageBodies as bodies;
 
-use crate::body_start::{adopt, close_other, close_p, in_body_start};
+use crate::adoption::{adopt, close_other};
+use crate::body_start::{close_p, in_body_start};
 use html_dom_tree::HtmlAttrs;
 use html_names_core::tag;
 use html_page_names::Kind;
@@ -120,7 +121,7 @@ fn add_char_to_body(page: &mut Page, c: char) -> Result<(), AllocError>
     if c == '\0' {
         return Ok(());
     }
-    page.reconstruct();
+    page.reconstruct()?;
     page.add_char(c)
 }
 

@@ -3,10 +3,11 @@
 ghost use Rattle.std.specs.Prelude.{◌≡◌, [], OnOk, codes};
 ghost use Rattle.html_dom_tree.specs.Views.{attrs_view};
 ghost use Rattle.html_page_names.specs.PageNames.{of};
-ghost use Rattle.html_page_stack.specs.{Endings.{Turns}, OpenElements.{is_active}, PageViews.{page_of, start_of}};
+ghost use Rattle.html_page_stack.specs.{Endings.{Turns}, PageViews.{page_of, start_of}};
 ghost use Rattle.html_page_stack.specs.Pages as pages;
 ghost use Rattle.html_page_tree.specs.PageBodies as bodies;
 
+use crate::adoption::{adopt, close_anchor};
 use crate::foreign::enter;
 use html_dom_tree::HtmlAttrs;
 use html_names_core::{HtmlTag, tag};
@@ -102,40 +103,6 @@ pub(crate) fn add_to_head(
     page.open_to(destination, Space::Html, name.tag, name.kinds, attrs)
 }
 
-/// Handles any other end tag.
-pub(crate) fn close_other(page: &mut Page, name: &TagName) -> Result<(), AllocError>
-    ensures { OnOk result (page_of page.new ≡ bodies.other_closed name.now.tag (page_of page.old)) }
-{
-    let named = Target::Named(&name.tag);
-    if page.stack.reaches(Goal::Of(named), Bound::Special) {
-        page.close_over(named, named, named)
-    } else {
-        page.note(PageError::EndTagWithoutStart)
-    }
-}
-
-/// Runs the adoption agency algorithm, as long as nothing moves (HTML Standard 13.2.6.4.7).
-pub(crate) fn adopt(page: &mut Page, name: &TagName) -> Result<(), AllocError>
-    ensures { OnOk result (page_of page.new ≡ bodies.adopted name.now.tag (page_of page.old)) }
-{
-    let named = Target::Named(&name.tag);
-    if page.lost.holds(&name.tag) {
-        page.lost.forget(&name.tag);
-        return page.note(PageError::EndTagOfClosedElement);
-    }
-    if !page.stack.reaches(Goal::Of(named), Bound::Marker) {
-        return close_other(page, name);
-    }
-    if !page.in_scope(Scope::General, named) {
-        return page.note(PageError::EndTagWithoutStart);
-    }
-    if !page.stack.reaches(Goal::Of(named), Bound::Special) {
-        page.refuse(PageRefusal::AdoptionAgency);
-        return Ok(());
-    }
-    page.close_named(named, named)
-}
-
 /// Closes an element with that name before the next.
 fn close_nested(page: &mut Page, name: &TagName) -> Result<(), AllocError>
     ensures { OnOk result (page_of page.new
@@ -159,34 +126,6 @@ fn close_select(page: &mut Page) -> Result<(), AllocError>
     }
     page.note(PageError::NestedElement)?;
     page.close_to(select)
-}
-
-fn has_active_anchor(page: &Page) -> bool
-    ensures { result ≡ is_active (of Kind.A) (page_of page.now).stack }
-{
-    page.stack
-        .reaches(Goal::Of(Target::Kind(Kind::A)), Bound::Marker)
-}
-
-/// Refuses an `a` that is still open, and would be removed.
-fn refuse_open_anchor(page: &mut Page)
-    ensures { page_of page.new ≡ bodies.anchor_left (page_of page.old) }
-{
-    let is_open = has_active_anchor(page);
-    page.refuse_if(is_open, PageRefusal::OpenAnchorRemoved);
-}
-
-fn close_anchor(page: &mut Page, name: &TagName) -> Result<(), AllocError>
-    ensures { OnOk result (page_of page.new
-        ≡ bodies.anchor_closed name.now.tag (page_of page.old)) }
-{
-    if !has_active_anchor(page) && !page.lost.holds(&name.tag) {
-        return Ok(());
-    }
-    page.note(PageError::NestedElement)?;
-    adopt(page, name)?;
-    refuse_open_anchor(page);
-    Ok(())
 }
 
 pub(crate) fn close_p(page: &mut Page) -> Result<(), AllocError>
@@ -324,7 +263,7 @@ fn close_nobr(page: &mut Page, name: &TagName) -> Result<(), AllocError>
     }
     page.note(PageError::NestedElement)?;
     adopt(page, name)?;
-    page.reconstruct();
+    page.reconstruct()?;
     Ok(())
 }
 
@@ -335,7 +274,7 @@ fn format(page: &mut Page, name: &TagName) -> Result<(), AllocError>
     if name.is(Kind::Unformatted) {
         return Ok(());
     }
-    page.reconstruct();
+    page.reconstruct()?;
     close_nobr(page, name)?;
     Ok(())
 }

@@ -1,7 +1,8 @@
 //! Tree construction: the element that the tokens of a page make, as in a browser (HTML Standard
-//! 13.2.6). A page is refused if nodes would be moved or made a second time.
+//! 13.2.6). A page is refused if nodes would be moved out of a table, or elements closed late.
 #![tactic(auto)]
 
+mod adoption;
 mod body_end;
 mod body_start;
 mod foreign;

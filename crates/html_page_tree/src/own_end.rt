@@ -56,11 +56,15 @@ fn closes_in(mode: Mode, element: &PageElement) -> bool
 pub fn takes_own_end(page: &Page) -> bool
     ensures { result ≡ takes_own_end (page_of page.now) }
 {
-    if is_unseen(page) || page.lost.loses_some() {
+    if is_unseen(page) {
         return false;
     }
     match page.stack.items.last() {
         None => false,
-        Some(element) => element.is_html() && closes_in(page.stack.mode(), element),
+        Some(element) => {
+            element.is_html()
+                && closes_in(page.stack.mode(), element)
+                && (!page.stack.is_at(Kind::Formatting) || page.stack.is_last(&page.formats))
+        }
     }
 }

@@ -115,9 +115,11 @@ fn end_in_table(page: &mut Page, name: TagName) -> Result<Option<Token>, AllocEr
         page.refuse(PageRefusal::CrossedElement);
         return Ok(None);
     }
-    page.lost.forget(&name.tag);
-    page.note(PageError::EndTagWithoutStart)?;
-    Ok(None)
+    if name.is(Kind::Root) {
+        page.note(PageError::EndTagWithoutStart)?;
+        return Ok(None);
+    }
+    in_body_end(page, name)
 }
 
 /// Handles a token in a table, if the current node is the table or one of its parts other than a

@@ -151,7 +151,7 @@ pub fn takes_text(page: &Page) -> bool
     }
     match page.stack.mode() {
         Mode::InText => true,
-        Mode::InBody | Mode::InCaption | Mode::InCell => !page.lost.loses_some(),
+        Mode::InBody | Mode::InCaption | Mode::InCell => { !page.formats.ends_closed(&page.stack) }
         _ => false,
     }
 }

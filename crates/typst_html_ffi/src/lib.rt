@@ -240,8 +240,8 @@ pub fn typst_html_unused(alloc: Global, limit: u32, input: &[u8], output: &mut [
 ///
 /// [`read_page_bytes`](html_page_read::read_page_bytes) reads the page as a browser does (HTML
 /// Standard 13.2, with scripting disabled). It refuses a page in which a browser would move nodes
-/// or make them a second time, one that holds what no element can have here, and one in which an
-/// element would stand deeper than the limit. The reply then has the number of the refusal
+/// out of a table or close elements late, and one in which an element would stand deeper than the
+/// limit. The reply then has the number of the refusal
 /// ([`PageRefusal`](html_page_stack::PageRefusal)) and the place of the tag or character. A
 /// page that is not UTF-8 is bad input, with the place of the first byte that is invalid. A limit
 /// that is not from 1 to 1,000 is bad input without a place. Buffers and replies are those of

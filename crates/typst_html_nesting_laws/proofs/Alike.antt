@@ -6,12 +6,11 @@ use Rattle.html_dom_tree.specs.Tree.{Head}
 use Rattle.html_page_nesting.specs.Ancestors.{Ancestor, bounds_scope, bounds_button_scope, foreign_space, hides_formatting, is_in, is_point, is_read_as_html, place_of, reading_in, reading_of, space_of}
 use Rattle.html_page_nesting.specs.declared.reading.Space.{Space, TheVariants.{Html, Svg, MathMl}}
 use Rattle.html_page_nesting.specs.Ancestors as nest
-use Rattle.html_page_nesting.specs.declared.reading.Place.TheVariants as place
 use Rattle.html_page_nesting.specs.declared.reading.Reading.TheVariants as reading
 use Rattle.html_page_names.specs.PageNames.{of}
 use Rattle.html_page_names.specs.declared.kind.Kind.TheVariants as kind
 use Rattle.html_page_stack.specs.{Pages.{StartTag, Start}, declared.modes.{Mode.{Mode}, Scope.TheVariants.{General, Button}}}
-use Rattle.html_page_stack.specs.OpenElements.{OpenElement, at, bounds, bounds_general, current_space, in_scope, is_active, is_at, is_foreign_bound, has_item, holds_html_in, holds_text_in, mode, named_mode, says_html}
+use Rattle.html_page_stack.specs.OpenElements.{OpenElement, at, bounds, bounds_general, current_space, in_scope, is_at, is_foreign_bound, has_item, holds_html_in, holds_text_in, mode, named_mode, says_html}
 use Rattle.html_page_stack.specs.OpenElements as open_elements
 use Rattle.html_page_stack.specs.declared.modes.Space.TheVariants as spaces
 use Rattle.html_page_tree.specs.PageTrees.{holds_svg_in, is_foreign_token}
@@ -107,21 +106,15 @@ pub in_button_scope_is : (test : List ℕ → Bool) (above : List Ancestor) (os 
 in_button_scope_is test above os s = reaches_is (nest.is_of test) bounds_button_scope
     (open_elements.is_of test) (bounds Button) (of_is test) button_scope_is above os s
 
--- a formatting element
-pub none_active : (test : List ℕ → Bool) (above : List Ancestor) (os : List OpenElement) →
-    AreAlike above os → HaveNoTemplate above →
-    nest.reaches (nest.is_of test) hides_formatting above ≡ false → is_active test os ≡ false
-none_active test above os s plain h = unreached (nest.is_of test) hides_formatting
-    (open_elements.is_of test) (open_elements.is_of (of kind.Marker))
-    (λ a o t k e. sym (of_is test a o t) ∙ e) marks_it above os s plain h where
-      marked : (html marker template : Bool) → template ≡ false →
-          (html && (marker || template)) ≡ true → (html && marker) ≡ true
-      marked html marker template k e = grind arith
+-- an element that hides formatting elements
+marked : (html marker template : Bool) → template ≡ false →
+    (html && (marker || template)) ≡ true → (html && marker) ≡ true
+marked html marker template k e = grind arith
 
-      marks_it : (a : Ancestor) (o : OpenElement) → IsAlike a o → of kind.Template a.head.name
-          ≡ false → hides_formatting a ≡ true → open_elements.is_of (of kind.Marker) o ≡ true
-      marks_it a o t k e = of_is (of kind.Marker) a o t ∙ marked (nest.is_html a.space)
-          (of kind.Marker a.head.name) (of kind.Template a.head.name) k e
+pub marker_is : (a : Ancestor) (o : OpenElement) → IsAlike a o →
+    of kind.Template a.head.name ≡ false → hides_formatting a ≡ true → open_elements.is_of (of kind.Marker) o ≡ true
+marker_is a o t k e = of_is (of kind.Marker) a o t ∙ marked (nest.is_html a.space)
+    (of kind.Marker a.head.name) (of kind.Template a.head.name) k e
 
 -- an item
 pub none_item : (test : List ℕ → Bool) (above : List Ancestor) (os : List OpenElement) →

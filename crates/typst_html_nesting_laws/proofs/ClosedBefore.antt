@@ -1,24 +1,23 @@
 -- The start tag of an element that breaks no rule closes nothing before it.
 use Rattle.std.proofs.Common.{◌≡◌, ℕ, zero, suc, Bool, true, false, not, ◌&&◌, ◌||◌, List, [], ◌∷◌, length, refl, sym, ap, ◌∙◌, arith}
-use Rattle.std.proofs.lemmas.Bool.{and_from, and_left, and_parts, and_right, or_from, or_left, or_parts, or_right}
+use Rattle.std.proofs.lemmas.Bool.{and_from, and_left, and_parts, and_right, or_left, or_parts, or_right}
 use Rattle.std.specs.Prelude.{if◌then◌else◌, None}
-use Rattle.html_page_nesting.specs.{Ancestors.{Ancestor, bounds_scope, is_in, is_template}, Surroundings.{open_of, surroundings_of}}
+use Rattle.html_page_nesting.specs.{Ancestors.{Ancestor, bounds_scope, hides_formatting, is_in, is_template}, Surroundings.{open_of, surroundings_of}}
 use Rattle.html_page_nesting.specs.NestingRules.{closes_item, closes_option, closes_paragraph, closes_ruby_part, closes_same, closing_misnesting, is_option_part}
 use Rattle.html_page_nesting.specs.declared.surroundings.{Open.{Open}, Surroundings.{Surroundings}}
 use Rattle.html_page_nesting.specs.Ancestors as nest
 use Rattle.html_page_nesting.specs.declared.misnesting.Misnesting.TheVariants as why
 use Rattle.html_page_names.specs.{PageNames.{is, kind_names, of}, declared.kind.Kind.{Kind}}
 use Rattle.html_page_names.specs.declared.kind.Kind.TheVariants as kind
-use Rattle.html_page_stack.specs.OpenElements.{OpenElement, bounds, has, in_scope, is_at}
-use Rattle.html_page_stack.specs.Pages.{Page, closed_while, implied_closed, is_lost, loses_some, no_name, reconstructed}
-use Rattle.html_page_stack.specs.declared.modes.Scope.TheVariants.{General, Button}
+use Rattle.html_page_stack.specs.OpenElements.{OpenElement, bounds, has, in_scope, is_at, reaches}
+use Rattle.html_page_stack.specs.Pages.{Page, closed_while, implied_closed, no_name, reconstructed}
+use Rattle.html_page_stack.specs.declared.modes.Scope.TheVariants.{General}
 use Rattle.html_page_stack.specs.OpenElements as elements
-use Rattle.html_page_stack.specs.declared.error.PageError.TheVariants as error
-use Rattle.html_page_tree.specs.PageBodies.{anchor_closed, closed_before, closed_before_block, formatted, heading_closed, item_closed, nobr_closed, option_closed, p_closed, p_closed_by_table, ruby_closed}
+use Rattle.html_page_tree.specs.PageBodies.{anchor_closed, anchor_ended, closed_before, closed_before_block, formatted, heading_closed, item_closed, nobr_closed, option_closed, p_closed, p_closed_by_table, ruby_closed}
 use Rattle.html_names_core.proofs.Basics.{bytes_eq-same}
-use Rattle.typst_html_nesting_laws.proofs.Alike.{at_is, in_button_scope_is, in_scope_is, none_active, none_item, of_is, scope_is, unreached}
+use Rattle.typst_html_nesting_laws.proofs.Alike.{at_is, in_button_scope_is, in_scope_is, marker_is, none_item, of_is, scope_is, unreached}
 use Rattle.typst_html_nesting_laws.proofs.Branches.{either, first_false, if_none, second_false, skip, decide}
-use Rattle.typst_html_nesting_laws.proofs.{Closed.{marks_hold_none, marks_lose_none}, KindFacts.{AllPass, names, passes_of}}
+use Rattle.typst_html_nesting_laws.proofs.{KindFacts.{AllPass, names, passes_of}, ListedFormats.{none_closed, none_named}}
 use Rattle.typst_html_nesting_laws.proofs.Ways.{AreAlike, HaveNoTemplate, IsAlike, IsCalm}
 
 -- a search for elements of a name, where there are none of its kind
@@ -46,6 +45,15 @@ none_same_open k n above os it s plain h =
           of kind.Template a.head.name ≡ false → is_template a ≡ true → false ≡ true
       unbound a o t k e =
           sym k ∙ (and_parts (nest.is_html a.space) (of kind.Template a.head.name) e).1
+
+none_same_active : (k : Kind) (n : List ℕ) (above : List Ancestor) (os : List OpenElement) →
+    of k n ≡ true → AreAlike above os → HaveNoTemplate above →
+    nest.reaches (nest.is_of (of k)) hides_formatting above ≡ false →
+    reaches (elements.is_of (is n)) (elements.is_of (of kind.Marker)) os ≡ false
+none_same_active k n above os it s plain h =
+    unreached (nest.is_of (of k)) hides_formatting (elements.is_of (is n))
+    (elements.is_of (of kind.Marker)) (λ a o t e i. same_kind k n a o it t i) marker_is
+    above os s plain h
 
 -- what a start tag would close, and does not
 pub record ClosesNone (n : List ℕ) (around : Surroundings) : Type 0 where
@@ -126,9 +134,9 @@ module _ (n : List ℕ) (above : List Ancestor) (p : Page) (calm : IsCalm above 
       (c.0, c.1, b.1, a.1)
 
   anchor_kept : of kind.A n ≡ true → anchor_closed n p ≡ p
-  anchor_kept h = skip _ (or_from _ _
-      (none_active (of kind.A) above p.stack calm.alike calm.plain (second_false same_none.0 h))
-      (ap (is_lost n) calm.lost ∙ marks_hold_none n p.stack)) refl
+  anchor_kept h = ap (λ f. anchor_ended n f p) (none_named n p.stack p.formats calm.ordered
+      (none_same_active kind.A n above p.stack h calm.alike calm.plain
+      (second_false same_none.0 h)))
 
   -- elements whose end tag is implied
   implied_but : (but : List ℕ → Bool) →
@@ -214,7 +222,7 @@ module _ (n : List ℕ) (above : List Ancestor) (p : Page) (calm : IsCalm above 
       (second_false same_none.2 h))) (and_left _ _)
 
   kept_whole : reconstructed p ≡ p
-  kept_whole = skip _ (ap loses_some calm.lost ∙ marks_lose_none p.stack) refl
+  kept_whole = skip _ (none_closed p.stack p.formats calm.ordered) refl
 
   -- and makes no formatting element again
   pub nothing_formatted : formatted n p ≡ p

@@ -1,6 +1,6 @@
 -- An end tag of the current node's name closes it, where nothing is misnested.
 use Rattle.std.proofs.Common.{◌≡◌, ℕ, Bool, true, false, not, ◌&&◌, ◌||◌, List, ◌∷◌, inl, inr, refl, sym, ap, subst, ◌∙◌}
-use Rattle.std.proofs.lemmas.{Bool.{and_from, and_parts, false≢true, or_from, or_left, or_parts}, Slice.Eq.{bytes_eq-Decides}}
+use Rattle.std.proofs.lemmas.{Bool.{and_from, and_parts, false≢true, or_from, or_left, or_parts, or_right}, Slice.Eq.{bytes_eq-Decides}}
 use Rattle.std.specs.Prelude.{None}
 use Rattle.html_names_core.specs.Kinds.{is_void}
 use Rattle.html_dom_tree.specs.Tree.{Head, NodesView}
@@ -12,20 +12,18 @@ use Rattle.html_page_nesting.specs.declared.reading.Place.TheVariants as place
 use Rattle.html_page_names.specs.{ForeignNames.{keeps_case, lowered}, PageNames.{is, kind_names, of}, declared.kind.Kind.{Kind}}
 use Rattle.html_page_names.specs.declared.kind.Kind.TheVariants as kind
 use Rattle.html_page_stack.specs.OpenElements.{OpenElement, bounds, is_at, is_foreign_of, is_html, mode, named_mode}
-use Rattle.html_page_stack.specs.Pages.{Page, End, closed, closed_in, closed_to_goal, loses_some, no_name, Taken}
+use Rattle.html_page_stack.specs.Pages.{Page, End, closed, closed_in, closed_to_goal, no_name, Taken}
 use Rattle.html_page_stack.specs.declared.modes.{Mode.{Mode}, Scope.{Scope}}
 use Rattle.html_page_stack.specs.declared.modes.Mode.TheVariants.{InHead, InHeadNoscript, InBody, InText, InTable, InCaption, InColumns, InSection, InRow, InCell}
-use Rattle.html_page_stack.specs.declared.error.PageError.TheVariants as error
-use Rattle.html_page_stack.specs.declared.fault.PageRefusal.TheVariants as refusal
 use Rattle.html_page_stack.specs.declared.modes.Scope.TheVariants as scope
-use Rattle.html_page_tree.specs.PageBodies.{element_ended, form_closed}
+use Rattle.html_page_tree.specs.PageBodies.{adopted, element_ended, form_closed}
 use Rattle.html_page_tree.specs.PageTrees.{by_mode, foreign_closed, in_foreign_end, part_closed, token_read, turn}
 use Rattle.html_page_tree.proofs.OwnEnds as own
 use Rattle.typst_html_nesting_laws.proofs.{Alike.{space_html}, Branches.{either, pick, decide, skip}, Capitals.{fails_small}}
-use Rattle.typst_html_nesting_laws.proofs.{KeptTags.{small_html}, Closed.{at_stack, marks_lose_none}, Modes.{brings, own_mode}}
+use Rattle.typst_html_nesting_laws.proofs.{KeptTags.{small_html}, ListedFormats.{IsInOrder, unlisted_or_last}, Modes.{brings, own_mode}}
 use Rattle.typst_html_nesting_laws.proofs.{KindFacts.{AllFail, fails_of, names, outside_of}, Rules.{foreign_fits, tag_fits}}
 use Rattle.typst_html_nesting_laws.proofs.{Stands.{Stands, html_stands, parts}, Steady.{around_steady}, Turns.{turn_taken}}
-use Rattle.typst_html_nesting_laws.proofs.Ways.{AreAlike, IsAlike, IsCalm, IsSteady, ends_at_once, is_body_mode, is_page_place, marks}
+use Rattle.typst_html_nesting_laws.proofs.Ways.{AreAlike, IsAlike, IsCalm, IsSteady, ends_at_once, is_body_mode, is_page_place}
 
 -- the current node, an element of HTML
 module _ (p : Page) (o : OpenElement) (os : List OpenElement) (html : is_html o.space ≡ true) where
@@ -59,7 +57,16 @@ module _ (p : Page) (o : OpenElement) (os : List OpenElement) (html : is_html o.
   end_scoped test h implied = own.within p o os html scope.General test no_name h
       (ap (λ b. b && true) implied)
 
-  end_element : loses_some p.lost ≡ false → element_ended n q ≡ closed true q
+  end_formatting : of kind.Formatting n ≡ true → IsInOrder (o ∷ os) p.formats →
+      adopted n q ≡ closed true q
+  end_formatting h ordered = elim (unlisted_or_last o os p.formats ordered) [
+    | inl none ↦
+        pick _ (and_from _ _ (own.at_name p o os html (is n) named) (ap not none)) refl
+    | inr last ↦ own.end_formatting p o os html h
+        (or_right (not (is_at (of kind.Formatting) (o ∷ os))) _ last)
+  ]
+
+  end_element : IsInOrder (o ∷ os) p.formats → element_ended n q ≡ closed true q
   end_element l =
       either (of kind.Form n) end_form (λ f.
       either (of kind.P n) (own.end_p p o os html) (λ x.
@@ -70,7 +77,7 @@ module _ (p : Page) (o : OpenElement) (os : List OpenElement) (html : is_html o.
       either (of kind.ClosesInScope n)
       (λ h. end_scoped (is n) named (unimplied kind.ClosesInScope (unfold names in refl) h)) (λ c.
       either (of kind.Formatting n)
-      (λ h. own.end_formatting p o os html l) (λ f. own.end_other p o os html)))))))
+      (λ h. end_formatting h l) (λ f. own.end_other p o os html)))))))
 
   part_ended : (test : List ℕ → Bool) → test n ≡ true → of kind.Implied n ≡ false →
       part_closed test q ≡ closed true q
@@ -102,7 +109,7 @@ module _ (p : Page) (o : OpenElement) (os : List OpenElement) (html : is_html o.
   -- in the mode of the body around it, where it is no part of a table
   end_around : (m : Mode) → is_body_mode m ≡ true → of kind.TablePart n ≡ false →
       of kind.Table n ≡ false → of kind.Root n ≡ false → of kind.Br n ≡ false →
-      loses_some p.lost ≡ false → by_mode m (End n) q ≡ Taken (closed true q)
+      IsInOrder (o ∷ os) p.formats → by_mode m (End n) q ≡ Taken (closed true q)
   end_around InBody h part table root br l = rw (root, br) (ap Taken (end_element l))
   end_around InCaption h part table root br l =
       let x = parts n os part in
@@ -113,7 +120,7 @@ module _ (p : Page) (o : OpenElement) (os : List OpenElement) (html : is_html o.
   end_around _ h part table root br l = absurd (false≢true h)
 
   -- either way
-  end_html : (l : Place) → is_void n ≡ false → loses_some p.lost ≡ false → Stands n os l →
+  end_html : (l : Place) → is_void n ≡ false → IsInOrder (o ∷ os) p.formats → Stands n os l →
       (l ≡ place.Body → named_mode n os ≡ None → is_body_mode (mode (o ∷ os)) ≡ true) →
       by_mode (mode q.stack) (End n) q ≡ Taken (closed true q)
   end_html l filled kept (inl s) steady =
@@ -156,7 +163,7 @@ foreign_unbroken s n h b = fails_small breaks (capital_tags s) n h (capitals_unb
 
 module _ (above : List Ancestor) (h : Head) (kids : NodesView) (p : Page) (o : OpenElement)
     (os : List OpenElement) (same : IsAlike (ancestor h above) o)
-    (kept : loses_some p.lost ≡ false) (page : is_page_place (place_of above) ≡ false)
+    (kept : IsInOrder (o ∷ os) p.formats) (page : is_page_place (place_of above) ≡ false)
     (rules : element_misnesting h kids (surroundings_of above) ≡ None) where
   abbrev s : Space
   s = space_of (reading_of above) h.name
@@ -198,12 +205,11 @@ pub end_taken : (above : List Ancestor) (h : Head) (kids : NodesView) (p : Page)
 end_taken above h kids p o os e calm steady page rules once =
     let alike : AreAlike (ancestor h above ∷ above) (o ∷ os) =
     subst (AreAlike (ancestor h above ∷ above)) e calm.alike in
-    let kept = marks_lose_none (o ∷ os) in
-    let quiet : Page = record p { lost = marks (o ∷ os) } in
-    at_stack (λ q. token_read (End (lowered h.name)) q ≡ closed true q) p
-    (o ∷ os) (marks (o ∷ os)) e (calm.lost ∙ ap marks e)
-    (turn_taken (End (lowered h.name)) (record quiet { stack = o ∷ os })
-    (closed true (record quiet { stack = o ∷ os })) calm.tables
+    let kept = subst (λ s. IsInOrder s p.formats) e calm.ordered in
+    subst (λ s. token_read (End (lowered h.name)) (record p { stack = s })
+    ≡ closed true (record p { stack = s })) (sym e)
+    (turn_taken (End (lowered h.name)) (record p { stack = o ∷ os })
+    (closed true (record p { stack = o ∷ os })) calm.tables
     (decide (nest.is_html (space_of (reading_of above) h.name))
-    (λ html. turn_html above h kids quiet o os alike.0 kept page rules alike.1 steady
-    calm.plain.0 once html) (turn_foreign above h kids quiet o os alike.0 kept page rules)))
+    (λ html. turn_html above h kids p o os alike.0 kept page rules alike.1 steady
+    calm.plain.0 once html) (turn_foreign above h kids p o os alike.0 kept page rules)))

@@ -1,5 +1,5 @@
 -- An element is opened, filled and closed: what stands in it leads to a page with one child more.
-use Rattle.std.proofs.Common.{◌≡◌, ℕ, ◌+◌, Bool, true, false, ◌&&◌, ◌||◌, List, [], ◌∷◌, ◌++◌, Option, codes, refl, sym, ap, ◌∙◌, arith}
+use Rattle.std.proofs.Common.{◌≡◌, ℕ, ◌+◌, Bool, true, false, ◌&&◌, ◌||◌, List, [], ◌∷◌, ◌++◌, codes, refl, sym, ap, ◌∙◌, arith}
 use Rattle.std.proofs.lemmas.Bool.{and_from, and_parts, and_right, both_ways, false_from_ne_true, false≢true, not_from_false}
 use Rattle.std.specs.{List.{fold}, Prelude.{if◌then◌else◌}}
 use Rattle.html_names_core.specs.{Characters.{IsOf, all, is_tag_char, is_text_char}, Kinds.{is_escapable_raw, is_raw}}
@@ -18,7 +18,7 @@ use Rattle.typst_html_encode.specs.declared.fault.ExportFault.TheVariants as fau
 use Rattle.html_text.specs.ClosingTags.{holds_closing}
 use Rattle.html_page_names.specs.{ForeignNames.{lowered}, PageNames.{of}}
 use Rattle.html_page_names.specs.declared.kind.Kind.TheVariants as kind
-use Rattle.html_page_stack.specs.Pages.{Page, StartTag, End, Start, closed}
+use Rattle.html_page_stack.specs.{Formats.{Formats, after_current}, Pages.{Page, StartTag, End, Start, closed}}
 use Rattle.html_page_stack.specs.OpenElements.{OpenElement, is_at, is_of, placed, with_text}
 use Rattle.html_page_stack.specs.OpenElements as open_elements
 use Rattle.html_page_stack.specs.declared.modes.Space.TheVariants as spaces
@@ -26,10 +26,11 @@ use Rattle.html_page_tree.specs.PageTrees.{token_read}
 use Rattle.html_page_read.specs.{PageReading.{run}, PageTokens.{PageReader}}
 use Rattle.typst_html_nesting_laws.proofs.{Alike.{html_is, html_space}, Branches.{second_false, of_two}, Closed.{closed_is}}
 use Rattle.typst_html_nesting_laws.proofs.{EndTags.{end_emits}, RawTexts.{IsWithin, escapable_emits, raw_emits}}
-use Rattle.typst_html_nesting_laws.proofs.Forms.{AreGathered, IsFilled, are_texts, filled_normal, on, put_last, put_nodes, put_texted, put_texts, texted_children, texts_by_faults, with_text_is}
+use Rattle.typst_html_nesting_laws.proofs.Forms.{AreGathered, IsFilled, Moment, are_texts, filled_normal, later, on, put_last, put_nodes, put_texted, put_texts, texted_children, texts_by_faults, with_text_is}
 use Rattle.typst_html_nesting_laws.proofs.InnerTexts.{feed_is, first_feed, none_closes, plain_texts, plains_written, states_of, texts_clean, texts_good, texts_written}
 use Rattle.typst_html_nesting_laws.proofs.KindFacts.{dropped_feed, escapable_same, feed_dropped, not_escapable, raw_keeps, script_or_style}
-use Rattle.typst_html_nesting_laws.proofs.{Rules.{ContentFits, ForeignFits}, Ways.{begun, begun_element, marks}}
+use Rattle.typst_html_nesting_laws.proofs.ListedFormats.{IsInOrder, order_closed, order_without_text}
+use Rattle.typst_html_nesting_laws.proofs.{Rules.{ContentFits, ForeignFits}, Ways.{begun, begun_element}}
 use Rattle.typst_html_nesting_laws.proofs.Readers.{Emits, Takes, behind, data_at, raw_at, run_on, written_tag}
 
 -- whether a line feed is still dropped behind a node, and behind nodes
@@ -54,43 +55,52 @@ behind_raw : (tag : StartTag) (place : ℕ) (p : Page) → is_at (of kind.Raw) p
 behind_raw tag place p h = rw h refl
 
 module _ (above : List Ancestor) (h : Head) (p : Page) (o : OpenElement) (os : List OpenElement)
-    (c : NodesView) (t : List ℕ) (s : ℕ) where
+    (c : NodesView) (t : List ℕ) (m : Moment) where
   -- the page behind the start tag, the element, and those around it
   abbrev pub opened_page : Page
-  opened_page = begun h above (on p o os c t s)
+  opened_page = begun h above (on p o os c t m)
 
   abbrev pub opened : OpenElement
-  opened = begun_element h above s
+  opened = begun_element h above m.start
 
   abbrev pub around : List OpenElement
   around = with_text t (record o { children = c }) ∷ os
+
+  abbrev pub opened_moment : Moment
+  opened_moment = record { start = m.start; formats = opened_page.formats }
+
+  -- behind its end tag, which begins at that moment
+  abbrev pub closed_moment : Moment → Moment
+  closed_moment n = record n { formats = after_current true (opened ∷ around) n.formats }
+
+  pub order_behind : (fs : Formats) → IsInOrder (opened ∷ around) fs →
+      IsInOrder (o ∷ os) (after_current true (opened ∷ around) fs)
+  order_behind fs h = order_without_text t (record o { children = c }) os _
+      (order_closed opened around fs h)
 
   -- as a child, once it is filled
   abbrev pub with_child : (children : NodesView) → NodesView
   with_child children =
       with_last (texted_children o.head.span c t) (element_node opened.head children)
 
-  abbrev page_of : (inner outer : OpenElement) → List (Option (List ℕ)) → (start : ℕ) → Page
-  page_of x y ls start = record p {
+  abbrev page_of : (inner outer : OpenElement) → Moment → Page
+  page_of x y n = record p {
     text = [];
     stack = placed x y ∷ os;
-    lost = ls;
-    start = start;
+    start = n.start;
+    formats = n.formats;
   }
 
-  pub closes : (children : NodesView) (words : List ℕ) (start : ℕ) → p.lost ≡ marks (o ∷ os) →
-      opened_page.lost ≡ marks (opened ∷ around) →
-      closed true (on opened_page opened around children words start)
-      ≡ on p o os (with_child (texted_children s children words)) [] start
-  closes children words start lost inner_lost =
+  pub closes : (children : NodesView) (words : List ℕ) (n : Moment) →
+      closed true (on opened_page opened around children words n)
+      ≡ on p o os (with_child (texted_children m.start children words)) [] (closed_moment n)
+  closes children words n =
       let y : OpenElement = with_text t (record o { children = c }) in
-      let z : OpenElement = record o { children = texted_children o.head.span c t } in
-      let x : OpenElement = record opened { children = texted_children s children words } in
-      closed_is (on opened_page opened around children words start)
-      (record opened { children = children }) around refl inner_lost
-      ∙ (ap (λ w. page_of w y (marks (y ∷ os)) start) (with_text_is words opened children)
-      ∙ (ap (λ w. page_of x w (marks (w ∷ os)) start) (with_text_is t o c)
-      ∙ ap (λ ls. page_of x z ls start) (sym lost)))
+      let x : OpenElement = record opened { children = texted_children m.start children words } in
+      closed_is (record opened { children = children }) around
+      (on opened_page opened around children words n)
+      ∙ (ap (λ w. page_of w y (closed_moment n)) (with_text_is words opened children)
+      ∙ ap (λ w. page_of x w (closed_moment n)) (with_text_is t o c))
 
   pub child_normal : (children kids : NodesView) → nodes_normal children ≡ nodes_normal kids →
       (k : Plains) → put_nodes (with_child children) k
@@ -102,50 +112,54 @@ module _ (above : List Ancestor) (h : Head) (p : Page) (o : OpenElement) (os : L
 
   -- from the start tag to the end tag
   abbrev pub element_closed : (q behind_start : PageReader) (rest : List ℕ) (kids : NodesView) →
-      p.lost ≡ marks (o ∷ os) → opened_page.lost ≡ marks (opened ∷ around) →
       run q (start_tag_text h) ≡ behind_start →
       IsFilled behind_start rest h.name kids opened_page opened around →
-      ((children : NodesView) (words : List ℕ) (start : ℕ) →
-      token_read (End (lowered h.name)) (on opened_page opened around children words start)
-      ≡ closed true (on opened_page opened around children words start)) →
+      ((children : NodesView) (words : List ℕ) (n : Moment) →
+      IsInOrder (opened ∷ around) n.formats →
+      token_read (End (lowered h.name)) (on opened_page opened around children words n)
+      ≡ closed true (on opened_page opened around children words n)) →
       AreGathered q (start_tag_text h ++ rest) false p o os c t (node (element_node h kids) none)
-  element_closed q behind_start rest kids lost inner_lost starts f ends =
-      let kept = texted_children s f.children f.words in
-      let after : Page = on p o os (with_child kept) [] f.start in
+  element_closed q behind_start rest kids starts f ends =
+      let kept = texted_children m.start f.children f.words in
+      let after : Page = on p o os (with_child kept) [] (closed_moment f.moment) in
       record {
         children = with_child kept;
         words = [];
         place = f.place;
-        start = f.start;
+        moment = closed_moment f.moment;
+        ordered = order_behind f.moment.formats f.ordered;
         is = run_on q behind_start _ (start_tag_text h) rest starts (f.is after
-            (ends f.children f.words f.start ∙ closes f.children f.words f.start lost inner_lost));
-        same = child_normal kept kids (filled_normal s f);
+            (ends f.children f.words f.moment f.ordered ∙ closes f.children f.words f.moment));
+        same = child_normal kept kids (filled_normal m.start f);
       }
 
 -- the nodes are read, whatever text stands before
 abbrev pub KidsAreGathered : Frames → (level : ℕ) → NodesView → Page → OpenElement →
     List OpenElement → Type 0
-KidsAreGathered frames level kids p o os = (pre_span fresh : Bool) (place start : ℕ) →
-    nodes_faults frames pre_span false kids ≡ [] → (fresh ≡ true → begin_with_feed kids ≡ false) →
-    AreGathered (data_at fresh place (on p o os none [] start)) (nodes_text frames pre_span true
+KidsAreGathered frames level kids p o os = (pre_span fresh : Bool) (place : ℕ) (m : Moment) →
+    IsInOrder (o ∷ os) m.formats → nodes_faults frames pre_span false kids ≡ [] →
+    (fresh ≡ true → begin_with_feed kids ≡ false) →
+    AreGathered (data_at fresh place (on p o os none [] m)) (nodes_text frames pre_span true
     (shut level) kids) (fresh_behind fresh kids) p o os none [] kids
 
 module _ (frames : Frames) (level : ℕ) (name : List ℕ) (kids : NodesView) (p : Page)
     (o : OpenElement) (os : List OpenElement) where
   -- nodes, and the end tag
   pub nodes_filled : IsOf is_tag_char name → begins_with_letter name ≡ true →
-      KidsAreGathered frames level kids p o os → (pre_span fresh : Bool) (place start : ℕ) →
-      nodes_faults frames pre_span false kids ≡ [] → (fresh ≡ true → begin_with_feed kids ≡ false) →
-      IsFilled (data_at fresh place (on p o os none [] start))
+      KidsAreGathered frames level kids p o os → (pre_span fresh : Bool) (place : ℕ) (m : Moment) →
+      IsInOrder (o ∷ os) m.formats → nodes_faults frames pre_span false kids ≡ [] →
+      (fresh ≡ true → begin_with_feed kids ≡ false) →
+      IsFilled (data_at fresh place (on p o os none [] m))
       (nodes_text frames pre_span true (shut level) kids ++ end_tag_text name) name kids p o os
-  nodes_filled n l all pre_span fresh place start f first =
-      let g = all pre_span fresh place start f first in
+  nodes_filled n l all pre_span fresh place m order f first =
+      let g = all pre_span fresh place m order f first in
       let last = fresh_behind fresh kids in
-      let e = end_emits name n l last g.place (on p o os g.children g.words g.start) in
+      let e = end_emits name n l last g.place (on p o os g.children g.words g.moment) in
       record {
         children = g.children;
         words = g.words;
-        start = e.start;
+        moment = later e.start g.moment;
+        ordered = g.ordered;
         place = e.place + 1;
         is = λ after r. run_on _ _ _ (nodes_text frames pre_span true (shut level) kids)
             (end_tag_text name) g.is (e.is after r);
@@ -153,23 +167,25 @@ module _ (frames : Frames) (level : ℕ) (name : List ℕ) (kids : NodesView) (p
       }
 
   -- a line feed that is added is dropped, and no other
-  fed : (x f : Bool) (text : List ℕ) (place start : ℕ) → (x ≡ true → f ≡ true) →
-      (x ≡ false → f ≡ true → begin_with_feed kids ≡ false) →
-      ((fresh : Bool) (place start : ℕ) → (fresh ≡ true → begin_with_feed kids ≡ false) →
-      IsFilled (data_at fresh place (on p o os none [] start)) text name kids p o os) →
-      IsFilled (data_at f place (on p o os none [] start))
+  fed : (x f : Bool) (text : List ℕ) (place : ℕ) (m : Moment) → IsInOrder (o ∷ os) m.formats →
+      (x ≡ true → f ≡ true) → (x ≡ false → f ≡ true → begin_with_feed kids ≡ false) →
+      ((fresh : Bool) (place : ℕ) (m : Moment) → IsInOrder (o ∷ os) m.formats →
+      (fresh ≡ true → begin_with_feed kids ≡ false) →
+      IsFilled (data_at fresh place (on p o os none [] m)) text name kids p o os) →
+      IsFilled (data_at f place (on p o os none [] m))
       ((if x then codes "\n" else []) ++ text) name kids p o os
-  fed true true text place start h k fill =
-      let g = fill false (place + 1) place (λ e. absurd (false≢true e)) in record {
+  fed true true text place m order h k fill =
+      let g = fill false (place + 1) (later place m) order (λ e. absurd (false≢true e)) in record {
         children = g.children;
         words = g.words;
-        start = g.start;
+        moment = g.moment;
+        ordered = g.ordered;
         place = g.place;
         is = g.is;
         same = g.same;
       }
-  fed true false text place start h k fill = absurd (false≢true (h refl))
-  fed false f text place start h k fill = fill f place start (k refl)
+  fed true false text place m order h k fill = absurd (false≢true (h refl))
+  fed false f text place m order h k fill = fill f place m order (k refl)
 
 -- what stands between the tags, in plain writing
 abbrev pub inside : Frames → (level : ℕ) → Head → NodesView → List ℕ
@@ -204,18 +220,20 @@ raw_chars h ns f = let clean = left_empty _ (closing_faults h ns) f in
     first_of (search (raw_good, clean), grind (arith, raw_good, clean))
 
 module _ (frames : Frames) (level : ℕ) (above : List Ancestor) (h : Head) (kids : NodesView)
-    (p : Page) (o : OpenElement) (os : List OpenElement) (c : NodesView) (t : List ℕ) (s : ℕ)
+    (p : Page) (o : OpenElement) (os : List OpenElement) (c : NodesView) (t : List ℕ) (m : Moment)
+    (order : IsInOrder (opened above h p o os c t m ∷ around above h p o os c t m)
+    (opened_page above h p o os c t m).formats)
     (named : IsOf is_tag_char h.name) (letter : begins_with_letter h.name ≡ true)
     (returns : has_return (nodes_raw_text kids) ≡ false)
     (faultless : inside_faults frames h kids ≡ []) where
   abbrev page : Page
-  page = opened_page above h p o os c t s
+  page = opened_page above h p o os c t m
 
   abbrev it : OpenElement
-  it = opened above h p o os c t s
+  it = opened above h p o os c t m
 
   abbrev outer : List OpenElement
-  outer = around above h p o os c t s
+  outer = around above h p o os c t m
 
   -- whether a line feed is dropped
   abbrev drops : Bool
@@ -233,9 +251,10 @@ module _ (frames : Frames) (level : ℕ) (above : List Ancestor) (h : Head) (kid
       drops ≡ true → begin_with_feed kids ≡ false) → (place : ℕ) → Filled place
   data_filled raw all pre_span f same x y place = rw (raw, same)
       (fed frames level h.name kids page it outer (is_fed h kids) drops
-      (nodes_text frames pre_span true (shut level) kids ++ end_tag_text h.name) (place + 1) s x y
-      (λ fresh place start first. nodes_filled frames level h.name kids page it outer named letter
-      all pre_span fresh place start f first))
+      (nodes_text frames pre_span true (shut level) kids ++ end_tag_text h.name) (place + 1)
+      (opened_moment above h p o os c t m) order x y (λ fresh place n ordered first.
+      nodes_filled frames level h.name kids page it outer named letter all pre_span fresh place n
+      ordered f first))
 
   -- of an element of HTML
   module _ (html : is_html (space_of (reading_of above) h.name) ≡ true)
@@ -283,11 +302,13 @@ module _ (frames : Frames) (level : ℕ) (above : List Ancestor) (h : Head) (kid
       text_filled place texts e = record {
         children = none;
         words = nodes_raw_text kids;
-        start = e.start;
+        moment = later e.start (opened_moment above h p o os c t m);
+        ordered = order;
         place = e.place + 1;
         is = λ after r. ap (λ q. run q (filling frames level h kids))
             (behind_raw (written_tag h) place page raw_it) ∙ e.is after (sym (ap (λ n. token_read
-            (End n) (on page it outer none (nodes_raw_text kids) e.start)) small) ∙ r);
+            (End n) (on page it outer none (nodes_raw_text kids)
+            (later e.start (opened_moment above h p o os c t m)))) small) ∙ r);
         same = put_texts kids texts;
       }
 

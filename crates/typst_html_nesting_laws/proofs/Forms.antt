@@ -4,10 +4,10 @@ use Rattle.html_dom_tree.{proofs.Basics.{put_twice}, specs.PlainTree.{branch, Pl
 use Rattle.html_dom_tree.specs.Tree.{NodeView, tag_node, text_node, element_node, NodesView, none, node, with_last}
 use Rattle.typst_html_encode.{proofs.Runs.{right_empty}, specs.{ExportFaults.{nodes_raw_faults, void_faults}, Text.{nodes_raw_text}}}
 use Rattle.html_page_names.specs.ForeignNames.{lowered}
-use Rattle.html_page_stack.specs.{OpenElements.{OpenElement, with_text}, Pages.{Page, End}}
+use Rattle.html_page_stack.specs.{Formats.{Formats}, OpenElements.{OpenElement, with_text}, Pages.{Page, End}}
 use Rattle.html_page_tree.specs.PageTrees.{token_read}
 use Rattle.html_page_read.specs.{PageReading.{run}, PageTokens.{PageReader}}
-use Rattle.typst_html_nesting_laws.proofs.Readers.{data_at, run_on}
+use Rattle.typst_html_nesting_laws.proofs.{ListedFormats.{IsInOrder}, Readers.{data_at, run_on}}
 
 -- plain nodes behind a node, and behind nodes
 abbrev pub put_node : NodeView → Plains → Plains
@@ -73,10 +73,23 @@ pub no_children : (span : ℕ) (ns : NodesView) → void_faults span ns ≡ [] �
 no_children span none h = refl
 no_children span (node n ns) h = cc
 
+-- where the last token began, and the active formatting elements
+pub record Moment : Type 0 where
+  pub start : ℕ
+  pub formats : Formats
+
+-- at another token
+abbrev pub later : (start : ℕ) → Moment → Moment
+later s m = record m { start = s }
+
 -- a page with these children of the current node, and that text since
-abbrev pub on : Page → OpenElement → List OpenElement → NodesView → (text : List ℕ) → (start : ℕ) →
-    Page
-on p o os c t s = record p { text = t; stack = record o { children = c } ∷ os; start = s }
+abbrev pub on : Page → OpenElement → List OpenElement → NodesView → (text : List ℕ) → Moment → Page
+on p o os c t m = record p {
+  text = t;
+  stack = record o { children = c } ∷ os;
+  start = m.start;
+  formats = m.formats;
+}
 
 -- nodes are read, behind children and a text
 pub record AreGathered (q : PageReader) (text : List ℕ) (fresh : Bool) (p : Page) (o : OpenElement)
@@ -84,8 +97,9 @@ pub record AreGathered (q : PageReader) (text : List ℕ) (fresh : Bool) (p : Pa
   pub children : NodesView
   pub words : List ℕ
   pub place : ℕ
-  pub start : ℕ
-  pub is : run q text ≡ data_at fresh place (on p o os children words start)
+  pub moment : Moment
+  pub ordered : IsInOrder (o ∷ os) moment.formats
+  pub is : run q text ≡ data_at fresh place (on p o os children words moment)
   pub same : (k : Plains) →
       put_nodes children (put_words words k) ≡ put_nodes c (put_words t (put_nodes ns k))
 
@@ -93,13 +107,14 @@ pub record AreGathered (q : PageReader) (text : List ℕ) (fresh : Bool) (p : Pa
 pub gathered_on : {q : PageReader} {xs ys : List ℕ} {fresh last : Bool} {p : Page} {o : OpenElement}
     {os : List OpenElement} {c : NodesView} {t : List ℕ} {n : NodeView} {ns : NodesView}
     (g : AreGathered q xs fresh p o os c t (node n none)) →
-    AreGathered (data_at fresh g.place (on p o os g.children g.words g.start)) ys last p o os
+    AreGathered (data_at fresh g.place (on p o os g.children g.words g.moment)) ys last p o os
     g.children g.words ns → AreGathered q (xs ++ ys) last p o os c t (node n ns)
 gathered_on {xs = xs} {ys = ys} {ns = ns} g h = record {
   children = h.children;
   words = h.words;
   place = h.place;
-  start = h.start;
+  moment = h.moment;
+  ordered = h.ordered;
   is = run_on _ _ _ xs ys g.is h.is;
   same = λ k. h.same k ∙ g.same (put_nodes ns k);
 }
@@ -109,9 +124,10 @@ pub record IsFilled (q : PageReader) (text name : List ℕ) (kids : NodesView) (
     (o : OpenElement) (os : List OpenElement) : Type 0 where
   pub children : NodesView
   pub words : List ℕ
-  pub start : ℕ
+  pub moment : Moment
+  pub ordered : IsInOrder (o ∷ os) moment.formats
   pub place : ℕ
-  pub is : (after : Page) → token_read (End (lowered name)) (on p o os children words start)
+  pub is : (after : Page) → token_read (End (lowered name)) (on p o os children words moment)
       ≡ after → run q text ≡ data_at false place after
   pub same : (k : Plains) → put_nodes children (put_words words k) ≡ put_nodes kids k
 

@@ -14,6 +14,7 @@ pub mod Forms
 pub mod InnerTexts
 pub mod KeptTags
 pub mod KindFacts
+pub mod ListedFormats
 pub mod Modes
 pub mod Nodes
 pub mod Opened

@@ -23,19 +23,21 @@ use Rattle.html_page_read.specs.{PageReading.{run}, PageTokens.{PageReader}}
 use Rattle.html_page_stack.specs.Pages.{most_attrs}
 use Rattle.typst_html_nesting_laws.proofs.{Alike.{html_is, html_space}, Begun.{start_taken}, Branches.{else_none, if_none, decide}}
 use Rattle.typst_html_nesting_laws.proofs.{Closed.{calm_begun}, Ended.{end_taken}, InnerTexts.{all_pass, no_return, no_returns}}
-use Rattle.typst_html_nesting_laws.proofs.Fillings.{KidsAreGathered, alone_filled, around, behind_data, child_normal, closes, element_closed, foreign_filled, fresh_behind, html_filled, filling, inside_faults, opened, opened_page, with_child}
-use Rattle.typst_html_nesting_laws.proofs.Forms.{AreGathered, IsFilled, gathered_on, no_children, on, put_nodes, texted_children, with_text_is}
+use Rattle.typst_html_nesting_laws.proofs.Fillings.{KidsAreGathered, alone_filled, around, behind_data, child_normal, closed_moment, closes, element_closed, foreign_filled, fresh_behind, html_filled, filling, inside_faults, opened, opened_moment, opened_page, order_behind, with_child}
+use Rattle.typst_html_nesting_laws.proofs.Forms.{AreGathered, IsFilled, Moment, gathered_on, later, no_children, on, put_nodes, texted_children, with_text_is}
 use Rattle.typst_html_nesting_laws.proofs.{KeptTags.{lowered_differ, small_html}, KindFacts.{escapable_of, once_keeps, raw_of}}
+use Rattle.typst_html_nesting_laws.proofs.ListedFormats.{IsInOrder}
 use Rattle.typst_html_nesting_laws.proofs.{Readers.{Emits, Takes, behind, data_at, written_tag}, StartTags.{start_emits}}
 use Rattle.typst_html_nesting_laws.proofs.Rules.{ContentFits, TagFits, content_fits, foreign_fits, found_none, html_read, still_no_page, tag_fits}
 use Rattle.typst_html_nesting_laws.proofs.{Steady.{steady_begun}, Taken.{body_takes, raw_takes, white_takes}}
 use Rattle.typst_html_nesting_laws.{proofs.Texts.{begins_with_lf, text_leads}, specs.TreesStay.{NodeIsReadable, NodesAreReadable}}
-use Rattle.typst_html_nesting_laws.proofs.Ways.{AreAlike, IsCalm, IsSteady, ends_at_once, is_page_place, marks}
+use Rattle.typst_html_nesting_laws.proofs.Ways.{AreAlike, IsCalm, IsSteady, ends_at_once, is_page_place}
 
 -- a page in whose current node nodes are read
 pub record IsInside (above : List Ancestor) (p : Page) (o : OpenElement) (os : List OpenElement) :
     Type 0 where
-  pub calm : (c : NodesView) (t : List ℕ) (s : ℕ) → IsCalm above (on p o os c t s)
+  pub calm : (c : NodesView) (t : List ℕ) (m : Moment) → IsInOrder (o ∷ os) m.formats →
+      IsCalm above (on p o os c t m)
   pub steady : (c : NodesView) → IsSteady above (record o { children = c } ∷ os)
   pub place : is_page_place (place_of above) ≡ false
   pub raw : is_of (of kind.Raw) o ≡ false
@@ -105,11 +107,11 @@ text_fits f = found_none _ _ _ (left_empty _ _ f.nested)
 
 -- a calm page stays so, whatever children the current node has
 pub calm_on : (above : List Ancestor) (p : Page) (o : OpenElement) (os : List OpenElement)
-    (c : NodesView) (t : List ℕ) (s : ℕ) → p.stack ≡ o ∷ os → IsCalm above p →
-    IsCalm above (on p o os c t s)
-calm_on above p o os c t s e calm = record {
+    (c : NodesView) (t : List ℕ) (m : Moment) → p.stack ≡ o ∷ os → IsCalm above p →
+    IsInOrder (o ∷ os) m.formats → IsCalm above (on p o os c t m)
+calm_on above p o os c t m e calm order = record {
   alike = alike_with above (subst (AreAlike above) e calm.alike);
-  lost = calm.lost ∙ ap marks e;
+  ordered = order;
   tables = calm.tables;
   plain = calm.plain;
 } where
@@ -141,20 +143,22 @@ taken_in w above p s e calm steady n m = record {
 }
 
 pub text_gathered : (above : List Ancestor) (p : Page) (o : OpenElement) (os : List OpenElement)
-    (c : NodesView) (t : List ℕ) (s : ℕ) (pre_span fresh : Bool) (place : ℕ) (text : List ℕ)
-    (span : ℕ) (passes : ℕ → Bool) → Takes passes (on p o os c t s) → list_all passes text ≡ true →
+    (c : NodesView) (t : List ℕ) (m : Moment) (pre_span fresh : Bool) (place : ℕ) (text : List ℕ)
+    (span : ℕ) (passes : ℕ → Bool) → IsInOrder (o ∷ os) m.formats →
+    Takes passes (on p o os c t m) → list_all passes text ≡ true →
     text_faults (escaping_of pre_span) span text ≡ [] → text_misnesting text (surroundings_of above)
     ≡ None → (fresh ≡ true → begins_with_lf text ≡ false) →
-    AreGathered (data_at fresh place (on p o os c t s)) (escaped_text (escaping_of pre_span) text)
+    AreGathered (data_at fresh place (on p o os c t m)) (escaped_text (escaping_of pre_span) text)
     (fresh && is_empty text) p o os c t (node (text_node text span) none)
-text_gathered above p o os c t s pre_span fresh place text span passes takes all f m first =
-    let l = text_leads pre_span text span passes f (no_return text (surroundings_of above) m) all
-    fresh place (on p o os c t s) takes first in
+text_gathered above p o os c t m pre_span fresh place text span passes order takes all f n first =
+    let l = text_leads pre_span text span passes f (no_return text (surroundings_of above) n) all
+    fresh place (on p o os c t m) takes first in
     record {
       children = c;
       words = t ++ text;
       place = l.place;
-      start = l.start;
+      moment = later l.start m;
+      ordered = order;
       is = l.is;
       same = λ k. ap (put_nodes c) (sym (put_twice t text k));
     }
@@ -185,17 +189,18 @@ element_starts {above} {h} {kids} f values fresh place p =
 abbrev pub AreLed : Frames → NodesView → Type 0
 AreLed frames ns = (pre_span due : Bool) (level : ℕ) (above : List Ancestor) (p : Page)
     (o : OpenElement) (os : List OpenElement) (fresh : Bool) (place : ℕ) (c : NodesView)
-    (t : List ℕ) (s : ℕ) → IsInside above p o os → NodesFit above ns →
-    nodes_faults frames pre_span false ns ≡ [] → (fresh ≡ true → begin_with_feed ns ≡ false) →
-    AreGathered (data_at fresh place (on p o os c t s))
+    (t : List ℕ) (m : Moment) → IsInside above p o os → IsInOrder (o ∷ os) m.formats →
+    NodesFit above ns → nodes_faults frames pre_span false ns ≡ [] →
+    (fresh ≡ true → begin_with_feed ns ≡ false) →
+    AreGathered (data_at fresh place (on p o os c t m))
     (nodes_text frames pre_span due (shut level) ns) (fresh_behind fresh ns) p o os c t ns
 
 -- the nodes of an element in which they can be read
 pub kids_gathered : (frames : Frames) (level : ℕ) (above : List Ancestor) (p : Page)
     (o : OpenElement) (os : List OpenElement) (kids : NodesView) → AreLed frames kids →
     IsInside above p o os → NodesFit above kids → KidsAreGathered frames level kids p o os
-kids_gathered frames level above p o os kids led there fit pre_span fresh place start clean first =
-    led pre_span true level above p o os fresh place none [] start there fit clean first
+kids_gathered frames level above p o os kids led there fit pre_span fresh place m order clean =
+    led pre_span true level above p o os fresh place none [] m there order fit clean
 
 -- what follows a start tag
 abbrev pub rest : Frames → (level : ℕ) → Head → NodesView → List ℕ
@@ -205,27 +210,28 @@ module _ (frames : Frames) (level : ℕ) {above : List Ancestor} {h : Head} {kid
     {p : Page} {o : OpenElement} {os : List OpenElement} (there : IsInside above p o os)
     (f : ElementFits above h kids) (values : attrs_faults h.span h.attrs ≡ [])
     (c : NodesView) (t : List ℕ) where
-  -- behind the start tag, which begins there
-  module _ (s : ℕ) where
+  -- behind the start tag, which begins at that moment
+  module _ (m : Moment) (order : IsInOrder (o ∷ os) m.formats) where
     abbrev page : Page
-    page = opened_page above h p o os c t s
+    page = opened_page above h p o os c t m
 
     abbrev it : OpenElement
-    it = opened above h p o os c t s
+    it = opened above h p o os c t m
 
     abbrev space : Space
     space = space_of (reading_of above) h.name
 
     abbrev outer : List OpenElement
-    outer = around above h p o os c t s
+    outer = around above h p o os c t m
 
     calm_page : IsCalm (ancestor h above ∷ above) page
-    calm_page = calm_begun above h (on p o os c t s) (there.calm c t s) f.template
+    calm_page = calm_begun above h (on p o os c t m) (there.calm c t m order) f.template
 
-    calm_filled : (children : NodesView) (words : List ℕ) (start : ℕ) →
-        IsCalm (ancestor h above ∷ above) (on page it outer children words start)
-    calm_filled children words start =
-        calm_on (ancestor h above ∷ above) page it outer children words start refl calm_page
+    calm_filled : (children : NodesView) (words : List ℕ) (n : Moment) →
+        IsInOrder (it ∷ outer) n.formats →
+        IsCalm (ancestor h above ∷ above) (on page it outer children words n)
+    calm_filled children words n x =
+        calm_on (ancestor h above ∷ above) page it outer children words n refl calm_page x
 
     steady_outer : IsSteady above outer
     steady_outer = subst (λ x. IsSteady above (x ∷ os)) (sym (with_text_is t o c))
@@ -243,12 +249,13 @@ module _ (frames : Frames) (level : ℕ) {above : List Ancestor} {h : Head} {kid
       limit = there.limit;
     }
 
-    ends_it : ends_at_once h ≡ false → (children : NodesView) (words : List ℕ) (start : ℕ) →
-        token_read (End (lowered h.name)) (on page it outer children words start)
-        ≡ closed true (on page it outer children words start)
-    ends_it e children words start = end_taken above h kids (on page it outer children words start)
+    ends_it : ends_at_once h ≡ false → (children : NodesView) (words : List ℕ) (n : Moment) →
+        IsInOrder (it ∷ outer) n.formats →
+        token_read (End (lowered h.name)) (on page it outer children words n)
+        ≡ closed true (on page it outer children words n)
+    ends_it e children words n x = end_taken above h kids (on page it outer children words n)
         (record it { children = children }) outer refl
-        (calm_filled children words start) steady_outer there.place f.fits e
+        (calm_filled children words n x) steady_outer there.place f.fits e
 
     fill : AreLed frames kids → ends_at_once h ≡ false → inside_faults frames h kids ≡ [] →
         (place : ℕ) → IsFilled (behind (Start (written_tag h)) place page)
@@ -275,50 +282,56 @@ module _ (frames : Frames) (level : ℕ) {above : List Ancestor} {h : Head} {kid
           IsFilled (behind (Start (written_tag h)) place page) (filling frames level h kids) h.name
           kids page it outer
       by_kind true true x y =
-          alone_filled frames level above h kids p o os c t s f.named.0 tag.letter returns g x
-          (small x) (content x) y (raw_takes (ancestor h above ∷ above) page it outer calm_page refl
-          (html_space _ x) y) (is_raw h.name) (is_escapable_raw h.name) refl refl place
+          alone_filled frames level above h kids p o os c t m calm_page.ordered f.named.0
+          tag.letter returns g x (small x) (content x) y
+          (raw_takes (ancestor h above ∷ above) page it outer calm_page refl (html_space _ x) y)
+          (is_raw h.name) (is_escapable_raw h.name) refl refl place
       by_kind true false x y =
-          html_filled frames level above h kids p o os c t s f.named.0 tag.letter returns g x
-          (small x) (content x) y (false_from_ne_true _ (λ r. both_ways _ y (raw_of h.name r)))
+          html_filled frames level above h kids p o os c t m calm_page.ordered f.named.0
+          tag.letter returns g x (small x) (content x) y
+          (false_from_ne_true _ (λ r. both_ways _ y (raw_of h.name r)))
           (false_from_ne_true _ (λ r. both_ways _ y (escapable_of h.name r)))
           (gathered (and_right _ _ y)) place
       by_kind false raw x y =
-          foreign_filled frames level above h kids p o os c t s f.named.0 tag.letter returns g x
-          (foreign_fits h kids (surroundings_of above) f.fits x)
+          foreign_filled frames level above h kids p o os c t m calm_page.ordered f.named.0
+          tag.letter returns g x (foreign_fits h kids (surroundings_of above) f.fits x)
           (gathered (ap (λ b. b && of kind.Raw h.name) x))
           (is_raw h.name) (is_escapable_raw h.name) refl refl place
 
-  module _ (fresh : Bool) (place s : ℕ) where
+  module _ (fresh : Bool) (place : ℕ) (m : Moment) (order : IsInOrder (o ∷ os) m.formats) where
     abbrev before : PageReader
-    before = data_at fresh place (on p o os c t s)
+    before = data_at fresh place (on p o os c t m)
 
-    starts : Emits before (start_tag_text h) (Start (written_tag h)) (on p o os c t s)
-    starts = element_starts f values fresh place (on p o os c t s)
+    starts : Emits before (start_tag_text h) (Start (written_tag h)) (on p o os c t m)
+    starts = element_starts f values fresh place (on p o os c t m)
 
     -- where its start tag begins
-    abbrev at_start : ℕ
-    at_start = starts.start
+    abbrev at_start : Moment
+    at_start = later starts.start m
 
     begins : token_read (Start (written_tag h)) (on p o os c t at_start)
-        ≡ (if ends_at_once h then closed true (page at_start) else page at_start)
-    begins = start_taken above h kids (on p o os c t at_start) (there.calm c t at_start)
+        ≡ (if ends_at_once h then closed true (page at_start order) else page at_start order)
+    begins = start_taken above h kids (on p o os c t at_start) (there.calm c t at_start order)
         (there.steady c) there.place f.fits f.template (omega (arith, f.shallow, there.limit))
 
     -- an element that is its start tag alone
     once : ends_at_once h ≡ true → void_faults h.span kids ≡ [] → AreGathered before
         (start_tag_text h ++ []) false p o os c t (node (element_node h kids) none)
     once e clean =
-        let after : Page = on p o os (with_child above h p o os c t at_start none) [] at_start in
+        let last = closed_moment above h p o os c t at_start
+        (opened_moment above h p o os c t at_start) in
+        let after : Page = on p o os (with_child above h p o os c t at_start none) [] last in
         let ends : token_read (Start (written_tag h)) (on p o os c t at_start) ≡ after = begins
-        ∙ (ap (λ b. if b then closed true (page at_start) else page at_start) e
-        ∙ closes above h p o os c t at_start none [] at_start (there.calm c t s).lost
-        (calm_page at_start).lost) in
+        ∙ (ap (λ b. if b then closed true (page at_start order) else page at_start order) e
+        ∙ closes above h p o os c t at_start none []
+        (opened_moment above h p o os c t at_start)) in
         record {
           children = with_child above h p o os c t at_start none;
           words = [];
           place = starts.place + 1;
-          start = at_start;
+          moment = last;
+          ordered = order_behind above h p o os c t at_start (page at_start order).formats
+              (calm_page at_start order).ordered;
           is = ap (run before) (append-nil (start_tag_text h)) ∙ (starts.is after ends
               ∙ (behind_data (written_tag h) starts.place after there.raw
               ∙ ap (λ b. data_at b (starts.place + 1) after)
@@ -331,10 +344,10 @@ module _ (frames : Frames) (level : ℕ) {above : List Ancestor} {h : Head} {kid
         AreGathered before (start_tag_text h ++ filling frames level h kids) false p o os c t
         (node (element_node h kids) none)
     whole led e g = element_closed above h p o os c t at_start before
-        (behind (Start (written_tag h)) starts.place (page at_start)) (filling frames level h kids)
-        kids (there.calm c t s).lost (calm_page at_start).lost (starts.is (page at_start) (begins
-        ∙ ap (λ b. if b then closed true (page at_start) else page at_start) e))
-        (fill at_start led e g starts.place) (ends_it at_start e)
+        (behind (Start (written_tag h)) starts.place (page at_start order)) (filling frames level h kids)
+        kids (starts.is (page at_start order) (begins
+        ∙ ap (λ b. if b then closed true (page at_start order) else page at_start order) e))
+        (fill at_start order led e g starts.place) (ends_it at_start order e)
 
     pub element_gathered : AreLed frames kids →
         (if ends_at_once h then void_faults h.span kids else inside_faults frames h kids) ≡ [] →
@@ -345,31 +358,47 @@ module _ (frames : Frames) (level : ℕ) {above : List Ancestor} {h : Head} {kid
 
 pub nodes_lead : (frames : Frames) (ns : NodesView) → AreLed frames ns
 unfolding node_text nodes_text node_faults nodes_faults NodeIsFrameFree NodesAreFrameFree
-nodes_lead frames none pre_span due level above p o os fresh place c t s there f clean first =
-    record { children = c; words = t; place = place; start = s; is = refl; same = λ k. refl }
-nodes_lead frames (node (tag_node m) ns)
-    pre_span due level above p o os fresh place c t s there f clean first = gathered_on {xs = []}
-    (record { children = c; words = t; place = place; start = s; is = refl; same = λ k. refl })
-    (nodes_lead frames ns pre_span due level above p o os fresh place c t s there
+nodes_lead frames none pre_span due level above p o os fresh place c t m there order f clean first =
+    record {
+      children = c;
+      words = t;
+      place = place;
+      moment = m;
+      ordered = order;
+      is = refl;
+      same = λ k. refl;
+    }
+nodes_lead frames (node (tag_node tag) ns)
+    pre_span due level above p o os fresh place c t m there order f clean first =
+    gathered_on {xs = []} (record {
+      children = c;
+      words = t;
+      place = place;
+      moment = m;
+      ordered = order;
+      is = refl;
+      same = λ k. refl;
+    }) (nodes_lead frames ns pre_span due level above p o os fresh place c t m there order
     (rest_fits f) clean first)
-nodes_lead frames (node (text_node text span) ns) pre_span due level above p o os fresh place c t s
-    there f clean first =
-    let m = text_fits f in
-    let x = taken_in (place_of above) above (on p o os c t s) text refl
-    (there.calm c t s) (there.steady c) there.place m in
-    let g = text_gathered above p o os c t s pre_span fresh place text span x.passes x.takes x.all
-    (left_empty _ _ clean) m (first_in fresh text span ns first) in
+nodes_lead frames (node (text_node text span) ns) pre_span due level above p o os fresh place c t m
+    there order f clean first =
+    let fits = text_fits f in
+    let x = taken_in (place_of above) above (on p o os c t m) text refl
+    (there.calm c t m order) (there.steady c) there.place fits in
+    let g = text_gathered above p o os c t m pre_span fresh place text span x.passes order x.takes
+    x.all (left_empty _ _ clean) fits (first_in fresh text span ns first) in
     gathered_on g (nodes_lead frames ns pre_span false level above p o os
-    (fresh && is_empty text) g.place g.children g.words g.start there (rest_fits f)
+    (fresh && is_empty text) g.place g.children g.words g.moment there g.ordered (rest_fits f)
     (right_empty _ _ clean) (first_behind fresh text span ns first))
 nodes_lead frames (node (frame_node b) ns)
-    pre_span due level above p o os fresh place c t s there f clean first = absurd f.frame_free.0
-nodes_lead frames (node (element_node h kids) ns) pre_span due level above p o os fresh place c t s
-    there f clean first =
+    pre_span due level above p o os fresh place c t m there order f clean first =
+    absurd f.frame_free.0
+nodes_lead frames (node (element_node h kids) ns) pre_span due level above p o os fresh place c t m
+    there order f clean first =
     let g = element_gathered frames (level + 1) there (element_fits f)
-    (left_empty _ _ (left_empty _ _ clean)) c t fresh place s (nodes_lead frames kids)
+    (left_empty _ _ (left_empty _ _ clean)) c t fresh place m order (nodes_lead frames kids)
     (right_empty _ _ (left_empty _ _ clean)) in
     gathered_on g
     (nodes_lead frames ns pre_span (due_after due (element_node h kids)) level above p o os false
-    g.place g.children g.words g.start there (rest_fits f) (right_empty _ _ clean)
+    g.place g.children g.words g.moment there g.ordered (rest_fits f) (right_empty _ _ clean)
     (λ e. absurd (false≢true e)))

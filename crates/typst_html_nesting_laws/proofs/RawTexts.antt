@@ -14,7 +14,6 @@ use Rattle.html_text.specs.{ClosingTags.{is_tag_end, closing, holds_closing, end
 use Rattle.html_page_names.specs.PageNames.{of}
 use Rattle.html_page_names.specs.declared.kind.Kind.TheVariants as kind
 use Rattle.html_page_stack.specs.{OpenElements.{current_name, is_at}, Pages.{Page, Token, End}}
-use Rattle.html_page_stack.specs.declared.modes.Space.TheVariants as spaces
 use Rattle.html_page_tree.specs.PageTrees.{token_read}
 use Rattle.html_page_read.{proofs.PageStretches.{other}, specs.PageReading.{run}}
 use Rattle.html_page_read.specs.PageTokens.{Raw, Reference, PageReader, depth_behind, ended_name, ended_of, is_name, step}

@@ -8,9 +8,8 @@ use Rattle.typst_html_encode.specs.Reader.{drops_feed}
 use Rattle.html_page_names.specs.{ForeignNames.{lowered}, PageNames.{kind_names, of}, declared.kind.Kind.{Kind}}
 use Rattle.html_page_names.specs.declared.kind.Kind.TheVariants as kind
 use Rattle.html_page_stack.specs.{OpenElements.{OpenElement, html_mode, mode, named_mode}, Pages.{Page, StartTag, Start, opened, Taken}}
-use Rattle.html_page_stack.specs.OpenElements as open_elements
 use Rattle.html_page_stack.specs.declared.modes.Space.TheVariants as spaces
-use Rattle.html_page_tree.specs.PageBodies.{before as before_element, implied, repeated}
+use Rattle.html_page_tree.specs.PageBodies.{before as before_element}
 use Rattle.typst_html_nesting_laws.proofs.KindFacts.{AllFail, agree_in, agree_of, names}
 
 -- what is known of the names `html`, `head` and `body`

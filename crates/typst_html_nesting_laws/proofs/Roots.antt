@@ -7,7 +7,6 @@ use Rattle.html_dom_tree.specs.Tree.{Head, tag_node, text_node, element_node, fr
 use Rattle.html_page_nesting.specs.Ancestors.{Ancestor, ancestor, is_in, place_in, place_inside, place_of, reading_in, reading_of, space_of}
 use Rattle.html_page_nesting.specs.{PageRoots.{is_complete, stage_behind_nodes}, Surroundings.{surroundings_of}}
 use Rattle.html_page_nesting.specs.{WrittenTexts.{is_white, is_white_char}, declared.{page.Stage.{Stage}, reading.Place.{Place}}}
-use Rattle.html_page_nesting.specs.declared.misnesting.Misnesting.TheVariants as why
 use Rattle.html_page_nesting.specs.declared.page.Stage.TheVariants as stage
 use Rattle.html_page_nesting.specs.declared.reading.Place.TheVariants as places
 use Rattle.html_page_nesting.specs.declared.reading.Reading.TheVariants as reading
@@ -21,18 +20,18 @@ use Rattle.html_page_stack.{proofs.Children.{element_counts}, specs.declared.mod
 use Rattle.html_page_stack.specs.OpenElements.{OpenElement, all_completed, completed, has_elements, mode, with_text}
 use Rattle.html_page_stack.specs.Pages.{Notes, Page, Token, Char, Start, End, Finish, closed, first_page, opened, settled, Taken}
 use Rattle.html_page_stack.specs.declared.modes.Mode.TheVariants.{BeforeHtml, BeforeHead, InHead, AfterHead, InBody}
-use Rattle.html_page_stack.specs.OpenElements as open_elements
 use Rattle.html_page_stack.specs.declared.modes.Space.TheVariants as spaces
 use Rattle.html_page_stack.specs.declared.modes.TableRule.TheVariants as rule
 use Rattle.html_page_tree.specs.PageTrees.{by_mode, token_read}
 use Rattle.html_page_read.specs.{DocumentTypes.{table_rule}, PageReading.{PageResult, answered, first_reader, page_result, run}}
 use Rattle.html_page_read.specs.PageTokens.{PageReader, finished}
 use Rattle.typst_html_nesting_laws.proofs.{Branches.{else_none}, Closed.{calm_begun}, EndTags.{end_emits}, InnerTexts.{no_return}}
-use Rattle.typst_html_nesting_laws.proofs.Fillings.{around, behind_data, element_closed, inside_faults, nodes_filled, opened as opened_element, opened_page}
-use Rattle.typst_html_nesting_laws.proofs.Forms.{AreGathered, IsFilled, filled_normal, normal_is, on, put_last, put_nodes, put_texted, texted_children, with_text_is}
+use Rattle.typst_html_nesting_laws.proofs.Fillings.{around, behind_data, element_closed, inside_faults, nodes_filled, opened as opened_element, opened_moment, opened_page}
+use Rattle.typst_html_nesting_laws.proofs.Forms.{AreGathered, IsFilled, Moment, filled_normal, later, normal_is, on, put_last, put_nodes, put_texted, texted_children, with_text_is}
 use Rattle.typst_html_nesting_laws.proofs.{KeptTags.{opened_back}, KindFacts.{names}, Rules.{found_none, tag_fits}, Texts.{text_leads}}
+use Rattle.typst_html_nesting_laws.proofs.ListedFormats.{IsInOrder, order_opened}
 use Rattle.typst_html_nesting_laws.proofs.Nodes.{ElementFits, IsInside, NodesFit, calm_on, element_fits, element_starts, kids_gathered, nodes_lead, rest, rest_fits, text_fits}
-use Rattle.typst_html_nesting_laws.proofs.Readers.{Emits, Takes, data_at, lowered_attrs, reading_at, run_on, started, written_tag}
+use Rattle.typst_html_nesting_laws.proofs.Readers.{Emits, Takes, data_at, lowered_attrs, run_on, started, written_tag}
 use Rattle.typst_html_nesting_laws.proofs.RootParts.{IsPart, begins_named, mode_of, name_of, part_names, part_of}
 use Rattle.typst_html_nesting_laws.{proofs.Turns.{html_token, mode_taken}, specs.TreesStay.{NodeIsReadable, TreesStay, no_notes}}
 use Rattle.typst_html_nesting_laws.proofs.Ways.{IsCalm, begun, begun_element, ends_at_once, is_body_mode, is_page_place, open_space}
@@ -82,13 +81,14 @@ module _ {frames : Frames} {above : List Ancestor} {h : Head} {kids : NodesView}
 
   -- its children, and its end tag
   part_filled : (p : Page) (o : OpenElement) (os : List OpenElement) →
-      IsInside (ancestor h above ∷ above) p o os → (place start : ℕ) → IsFilled
-      (data_at false place (on p o os none [] start)) (rest frames level h kids) h.name kids p o os
-  part_filled p o os there place start = rw part_rest
+      IsInside (ancestor h above ∷ above) p o os → (place : ℕ) (m : Moment) →
+      IsInOrder (o ∷ os) m.formats → IsFilled (data_at false place (on p o os none [] m))
+      (rest frames level h kids) h.name kids p o os
+  part_filled p o os there place m order = rw part_rest
       (nodes_filled frames level h.name kids p o os x.fits.named.0
       (tag_fits h kids (surroundings_of above) x.fits.fits).letter
       (kids_gathered frames level (ancestor h above ∷ above) p o os kids (nodes_lead frames kids)
-      there x.fits.below) h.pre_span false place start part_faults (λ e. absurd (false≢true e)))
+      there x.fits.below) h.pre_span false place m order part_faults (λ e. absurd (false≢true e)))
 
 -- the end of a text is read as a root, with children that have this normal form
 pub record RootIsRead (r : PageReader) (o : OpenElement) (k : Plains) : Type 0 where
@@ -120,7 +120,9 @@ made_at u v notes = Ok (root_at u v, notes)
 
 -- the page within `html`
 pub record InRoot (above : List Ancestor) (p : Page) (o : OpenElement) : Type 0 where
-  pub calm : (c : NodesView) (t : List ℕ) (s : ℕ) → IsCalm above (on p o [] c t s)
+  pub calm : (c : NodesView) (t : List ℕ) (m : Moment) → IsInOrder (o ∷ []) m.formats →
+      IsCalm above (on p o [] c t m)
+  pub tables : p.tables ≡ rule.ClosesP
   pub limit : 512 < p.limit
   pub notes : p.notes ≡ no_notes
   pub refusal : p.refusal ≡ None
@@ -153,26 +155,27 @@ nothing_behind frames pre_span due level (node n ns) h k = absurd (both_ways _ (
 
 module _ {above : List Ancestor} {p : Page} {o : OpenElement} (inner : InRoot above p o) where
   -- tokens within `html`, whose mode is by whether it has the head
-  root_taken : (token : Token) (c : NodesView) (t : List ℕ) (s : ℕ) (b : Bool) (r : Page) →
-      has_elements c ≡ b → by_mode (if b then AfterHead else BeforeHead) token (on p o [] c t s)
-      ≡ Taken r → token_read token (on p o [] c t s) ≡ r
-  root_taken token c t s b r has h =
+  root_taken : (token : Token) (c : NodesView) (t : List ℕ) (m : Moment) (b : Bool) (r : Page) →
+      has_elements c ≡ b → by_mode (if b then AfterHead else BeforeHead) token (on p o [] c t m)
+      ≡ Taken r → token_read token (on p o [] c t m) ≡ r
+  root_taken token c t m b r has h =
       let it : OpenElement = record o { children = c } in
-      mode_taken token (on p o [] c t s) (if b then AfterHead else BeforeHead) r
-      (inner.calm c t s).tables (html_token token it [] inner.space)
+      mode_taken token (on p o [] c t m) (if b then AfterHead else BeforeHead) r
+      inner.tables (html_token token it [] inner.space)
       (unfold names in (mode_of (codes "html") it [] inner.name inner.space)
       ∙ ap (λ x. if x then AfterHead else BeforeHead) has) h
 
   -- white space behind the head
-  white_there : (c : NodesView) (t : List ℕ) (s : ℕ) → has_elements c ≡ true →
-      Takes is_white_char (on p o [] c t s)
-  white_there c t s has x text start passes some = root_taken (Char x) c text start true
-      (on p o [] c (text ++ x ∷ []) start) has (rw passes refl)
+  white_there : (c : NodesView) (t : List ℕ) (m : Moment) → has_elements c ≡ true →
+      Takes is_white_char (on p o [] c t m)
+  white_there c t m has x text start passes some = root_taken (Char x) c text (later start m) true
+      (on p o [] c (text ++ x ∷ []) (later start m)) has (rw passes refl)
 
 -- the head or the body in the root, which its start tag opens, and the mode that it brings
 module _ {frames : Frames} {above : List Ancestor} {h : Head} {kids : NodesView} {p : Page}
     {o : OpenElement} (level : ℕ) (x : PartFits frames above h kids) (inner : InRoot above p o)
-    (c : NodesView) (t : List ℕ) (s here : ℕ) (has : Bool) (elements : has_elements c ≡ has)
+    (c : NodesView) (t : List ℕ) (m : Moment) (order : IsInOrder (o ∷ []) m.formats) (here : ℕ)
+    (has : Bool) (elements : has_elements c ≡ has)
     (opens : (q : Page) → by_mode (if has then AfterHead else BeforeHead) (Start (written_tag h)) q
     ≡ Taken (opened (lowered h.name) (lowered_attrs h.attrs) q))
     (own : Mode) (brings : (it : OpenElement) (os : List OpenElement) → it.head.name ≡ h.name →
@@ -180,24 +183,27 @@ module _ {frames : Frames} {above : List Ancestor} {h : Head} {kids : NodesView}
     (l : Place) (stands : place_of (ancestor h above ∷ above) ≡ l)
     (inside : is_page_place l ≡ false) (steady : l ≡ places.Body → is_body_mode own ≡ true) where
   abbrev reader : PageReader
-  reader = data_at false here (on p o [] c t s)
+  reader = data_at false here (on p o [] c t m)
 
-  abbrev begins : Emits reader (start_tag_text h) (Start (written_tag h)) (on p o [] c t s)
-  begins = part_starts x level here (on p o [] c t s)
+  abbrev begins : Emits reader (start_tag_text h) (Start (written_tag h)) (on p o [] c t m)
+  begins = part_starts x level here (on p o [] c t m)
+
+  abbrev at_start : Moment
+  at_start = later begins.start m
 
   -- behind its start tag, the page, the element, and those around it
   abbrev page : Page
-  page = opened_page above h p o [] c t begins.start
+  page = opened_page above h p o [] c t at_start
 
   abbrev it : OpenElement
-  it = opened_element above h p o [] c t begins.start
+  it = opened_element above h p o [] c t at_start
 
   abbrev outer : List OpenElement
-  outer = around above h p o [] c t begins.start
+  outer = around above h p o [] c t at_start
 
   calm_page : IsCalm (ancestor h above ∷ above) page
-  calm_page = calm_begun above h (on p o [] c t begins.start) (inner.calm c t begins.start)
-      x.fits.template
+  calm_page = calm_begun above h (on p o [] c t at_start)
+      (inner.calm c t at_start order) x.fits.template
 
   html_it : it.space ≡ spaces.Html
   html_it = ap open_space (part_space x level)
@@ -206,16 +212,16 @@ module _ {frames : Frames} {above : List Ancestor} {h : Head} {kids : NodesView}
   mode_it children = brings (record it { children = children }) outer refl html_it
 
   begun_there : run reader (start_tag_text h) ≡ data_at false (begins.place + 1) page
-  begun_there = part_begun x level here (on p o [] c t s)
+  begun_there = part_begun x level here (on p o [] c t m)
       (omega (arith, inner.limit)) (λ start. root_taken inner (Start (written_tag h)) c t
-      start has (opened (lowered h.name) (lowered_attrs h.attrs) (on p o [] c t start)) elements
-      (opens (on p o [] c t start)))
+      (later start m) has (opened (lowered h.name) (lowered_attrs h.attrs)
+      (on p o [] c t (later start m))) elements (opens (on p o [] c t (later start m))))
 
   -- nodes are read in it
   there : IsInside (ancestor h above ∷ above) page it outer
   there = record {
-    calm = λ children words start.
-        calm_on (ancestor h above ∷ above) page it outer children words start refl calm_page;
+    calm = λ children words n order_in.
+        calm_on (ancestor h above ∷ above) page it outer children words n refl calm_page order_in;
     steady = λ children e. ap is_body_mode (mode_it children) ∙ steady (sym stands ∙ e);
     place = ap is_page_place stands ∙ inside;
     raw = and_right _ _ x.part.raw;
@@ -224,14 +230,15 @@ module _ {frames : Frames} {above : List Ancestor} {h : Head} {kids : NodesView}
 
   filled : IsFilled (data_at false (begins.place + 1) page) (rest frames level h kids) h.name kids
       page it outer
-  filled = part_filled x level page it outer there (begins.place + 1) begins.start
+  filled = part_filled x level page it outer there (begins.place + 1)
+      (opened_moment above h p o [] c t at_start) calm_page.ordered
 
   -- a token in it
-  own_taken : (token : Token) (children : NodesView) (words : List ℕ) (start : ℕ) (r : Page) →
-      by_mode own token (on page it outer children words start) ≡ Taken r →
-      token_read token (on page it outer children words start) ≡ r
-  own_taken token children words start r h = mode_taken token
-      (on page it outer children words start) own r calm_page.tables
+  own_taken : (token : Token) (children : NodesView) (words : List ℕ) (n : Moment) (r : Page) →
+      by_mode own token (on page it outer children words n) ≡ Taken r →
+      token_read token (on page it outer children words n) ≡ r
+  own_taken token children words n r h = mode_taken token
+      (on page it outer children words n) own r calm_page.tables
       (html_token token (record it { children = children }) outer html_it) (mode_it children) h
 
   -- the head, whose end tag closes it
@@ -239,11 +246,11 @@ module _ {frames : Frames} {above : List Ancestor} {h : Head} {kids : NodesView}
       (g : AreGathered reader (start_tag_text h ++ rest frames level h kids) false p o [] c t
       (node (element_node h kids) none)) × (has_elements g.children ≡ true)
   head_read closes = (
-    element_closed above h p o [] c t begins.start reader (data_at false (begins.place + 1) page)
-        (rest frames level h kids) kids (inner.calm c t s).lost calm_page.lost begun_there filled
-        (λ children words start. own_taken (End (lowered h.name)) children words start
-        (closed true (on page it outer children words start))
-        (closes (on page it outer children words start))),
+    element_closed above h p o [] c t at_start reader (data_at false (begins.place + 1) page)
+        (rest frames level h kids) kids begun_there filled
+        (λ children words n order_in. own_taken (End (lowered h.name)) children words n
+        (closed true (on page it outer children words n))
+        (closes (on page it outer children words n))),
     element_counts (texted_children o.head.span c t) it.head
         (texted_children begins.start filled.children filled.words),
   )
@@ -259,21 +266,22 @@ module _ {frames : Frames} {above : List Ancestor} {h : Head} {kids : NodesView}
   body_read stays finishes is_own root is_root ends =
       let children = filled.children in
       let words = filled.words in
-      let last : ℕ → Page = λ start. on page it outer children words start in
-      let e = ends false filled.place (last filled.start) in
+      let last : ℕ → Page = λ start. on page it outer children words (later start filled.moment) in
+      let first = filled.moment.start in
+      let e = ends false filled.place (last first) in
       let y : OpenElement = with_text t (record o { children = c }) in
       let z : OpenElement = record it { children = texted_children begins.start children words } in
       let w : OpenElement = record o { children = texted_children o.head.span c t } in
       let ended : (n : List ℕ) (start : ℕ) → of kind.Root n ≡ true → token_read (End n) (last start)
-      ≡ last start = λ n start k. own_taken (End n) children words start (last start)
-      (stays n k (last start)) in
+      ≡ last start = λ n start k. own_taken (End n) children words (later start filled.moment)
+      (last start) (stays n k (last start)) in
       let whole =
       run_on reader _ _ (start_tag_text h ++ rest frames level h kids) (end_tag_text root)
       (run_on reader _ _ (start_tag_text h) (rest frames level h kids) begun_there
-      (filled.is (last filled.start) (ended (lowered h.name) filled.start is_own)))
+      (filled.is (last first) (ended (lowered h.name) first is_own)))
       (e.is (last e.start) (ended (lowered root) e.start is_root)) in
-      let over = own_taken Finish children words (e.place + 1) (last (e.place + 1))
-      (finishes (last (e.place + 1))) in
+      let over = own_taken Finish children words (later (e.place + 1) filled.moment)
+      (last (e.place + 1)) (finishes (last (e.place + 1))) in
       record {
         root = root_at z w;
         is = ap (λ r. page_result (finished r).page) whole ∙ (ap page_result over
@@ -298,15 +306,16 @@ module _ (frames : Frames) (pre_span : Bool) (level : ℕ) {above : List Ancesto
     {o : OpenElement} (inner : InRoot above p o) (root : List ℕ)
     (is_root : of kind.Root (lowered root) ≡ true) (ends : (fresh : Bool) (place : ℕ) (q : Page) →
     Emits (data_at fresh place q) (end_tag_text root) (End (lowered root)) q) where
-  abbrev before : (place : ℕ) → NodesView → (t : List ℕ) → (s : ℕ) → PageReader
-  before place c t s = data_at false place (on p o [] c t s)
+  abbrev before : (place : ℕ) → NodesView → (t : List ℕ) → Moment → PageReader
+  before place c t m = data_at false place (on p o [] c t m)
 
   abbrev contents : Head → NodesView → List ℕ
   contents h kids = start_tag_text h ++ rest frames (level + 1) h kids
 
   module _ (h : Head) (kids ns : NodesView) (f : ElementFits above h kids)
       (clean : nodes_faults frames pre_span false (node (element_node h kids) ns) ≡ [])
-      (c : NodesView) (t : List ℕ) (s place : ℕ) where
+      (c : NodesView) (t : List ℕ) (m : Moment) (order : IsInOrder (o ∷ []) m.formats)
+      (place : ℕ) where
     part_fits : stands_in part_names h.name ≡ true → PartFits frames above h kids
     unfolding node_faults nodes_faults
     part_fits name = record {
@@ -324,7 +333,7 @@ module _ (frames : Frames) (pre_span : Bool) (level : ℕ) {above : List Ancesto
         (part_space x level) ∙ ap (place_in (is_in (of kind.Head) above)) e
 
     body_behind : h.name ≡ codes "body" → has_elements c ≡ true →
-        RootIsRead (run (before place c t s) (contents h kids ++ end_tag_text root)) o
+        RootIsRead (run (before place c t m) (contents h kids ++ end_tag_text root)) o
         (put_nodes c (put_words t (plain (branch h.name h.attrs (nodes_normal kids)) no_plains)))
     unfolding names
     body_behind name has =
@@ -332,85 +341,88 @@ module _ (frames : Frames) (pre_span : Bool) (level : ℕ) {above : List Ancesto
         let low : lowered h.name ≡ codes "body" = x.part.small ∙ name in
         let no_html = ap (of kind.Html) low in
         let is_body = ap (of kind.Body) low in
-        body_read (level + 1) x inner c t s place true has (λ q. rw (no_html, is_body) refl) InBody
+        body_read (level + 1) x inner c t m order place true has
+        (λ q. rw (no_html, is_body) refl) InBody
         (λ it os e html. mode_of (codes "body") it os (e ∙ name) html) places.Body
         (place_part (codes "body") x name) refl (λ e. refl) root_stays (λ q. refl)
         (ap (of kind.Root) low) root is_root ends
 
     head_first : h.name ≡ codes "head" → has_elements c ≡ false →
-        (g : AreGathered (before place c t s) (contents h kids) false p o [] c t
+        (g : AreGathered (before place c t m) (contents h kids) false p o [] c t
         (node (element_node h kids) none)) × (has_elements g.children ≡ true)
     unfolding names
     head_first name none_yet =
         let x = part_fits (ap (stands_in part_names) name) in
         let low : lowered h.name ≡ codes "head" = x.part.small ∙ name in
         let is_head = ap (of kind.Head) low in
-        head_read (level + 1) x inner c t s place false none_yet
+        head_read (level + 1) x inner c t m order place false none_yet
         (λ q. begins_named (codes "head") (written_tag h) q low) InHead
         (λ it os e html. mode_of (codes "head") it os (e ∙ name) html) places.Head
         (place_part (codes "head") x name) refl (λ e. absurd (cc)) (λ q. rw is_head refl)
 
   -- behind the head
-  behind_head : (ns : NodesView) (due : Bool) (place : ℕ) (c : NodesView) (t : List ℕ) (s : ℕ) →
-      has_elements c ≡ true → is_complete (stage_behind_nodes stage.BehindHead ns) ≡ true →
+  behind_head : (ns : NodesView) (due : Bool) (place : ℕ) (c : NodesView) (t : List ℕ)
+      (m : Moment) → IsInOrder (o ∷ []) m.formats → has_elements c ≡ true →
+      is_complete (stage_behind_nodes stage.BehindHead ns) ≡ true →
       NodesFit above ns → nodes_faults frames pre_span false ns ≡ [] →
-      RootIsRead (run (before place c t s) (nodes_text frames pre_span due
+      RootIsRead (run (before place c t m) (nodes_text frames pre_span due
       (shut level) ns ++ end_tag_text root)) o (put_nodes c (put_words t (put_nodes ns no_plains)))
   unfolding node_text nodes_text node_faults nodes_faults
-  behind_head none due place c t s has done f clean = absurd (false≢true done)
-  behind_head (node (tag_node m) ns) due place c t s has done f clean =
-      behind_head ns due place c t s has done (rest_fits f) clean
-  behind_head (node (text_node text span) ns) due place c t s has done f clean =
+  behind_head none due place c t m order has done f clean = absurd (false≢true done)
+  behind_head (node (tag_node tag) ns) due place c t m order has done f clean =
+      behind_head ns due place c t m order has done (rest_fits f) clean
+  behind_head (node (text_node text span) ns) due place c t m order has done f clean =
       let white = stage_by (is_white text) stage.BehindHead ns done in
       let l = text_leads pre_span text span is_white_char (left_empty _ _ clean)
       (no_return text (surroundings_of above) (text_fits f)) white.0 false place
-      (on p o [] c t s) (white_there inner c t s has) (λ k. absurd (false≢true k)) in
+      (on p o [] c t m) (white_there inner c t m has) (λ k. absurd (false≢true k)) in
       let written = escaped_text (escaping_of pre_span) text in
-      let later = nodes_text frames pre_span false (shut level) ns in
-      root_as (before place c t s) _ _ (append_assoc written later (end_tag_text root))
-      (root_on (before place c t s) _ written (later ++ end_tag_text root) l.is
+      let more = nodes_text frames pre_span false (shut level) ns in
+      root_as (before place c t m) _ _ (append_assoc written more (end_tag_text root))
+      (root_on (before place c t m) _ written (more ++ end_tag_text root) l.is
       (root_same (ap (put_nodes c) (sym (put_twice t text _)))
-      (behind_head ns false l.place c (t ++ text) l.start has white.1 (rest_fits f)
-      (right_empty _ _ clean))))
-  behind_head (node (element_node h kids) ns) due place c t s has done f clean =
+      (behind_head ns false l.place c (t ++ text) (later l.start m) order has white.1
+      (rest_fits f) (right_empty _ _ clean))))
+  behind_head (node (element_node h kids) ns) due place c t m order has done f clean =
       let body = stage_by (of kind.Body h.name) stage.BehindBody ns done in
       let behind = due_after due (element_node h kids) in
       let nothing = nothing_behind frames pre_span behind level ns body.1 no_plains in
       let it = branch h.name h.attrs (nodes_normal kids) in
-      root_as (before place c t s) _ _ (ap (λ l. (contents h kids ++ l) ++ end_tag_text root)
+      root_as (before place c t m) _ _ (ap (λ l. (contents h kids ++ l) ++ end_tag_text root)
       nothing.0 ∙ ap (λ l. l ++ end_tag_text root) (append-nil (contents h kids)))
       (root_same (ap (λ k. put_nodes c (put_words t (plain it k))) (sym nothing.1))
-      (body_behind h kids ns (element_fits f) clean c t s place
+      (body_behind h kids ns (element_fits f) clean c t m order place
       (name_of kind.Body (codes "body") h.name refl body.0) has))
-  behind_head (node (frame_node b) ns) due place c t s has done f clean =
+  behind_head (node (frame_node b) ns) due place c t m order has done f clean =
       absurd (both_ways _ (other_stays ns) done)
 
   -- before it
-  first_read : (ns : NodesView) (due : Bool) (place s : ℕ) →
-      is_complete (stage_behind_nodes stage.First ns) ≡ true → NodesFit above ns →
-      nodes_faults frames pre_span false ns ≡ [] → RootIsRead (run (before place none [] s)
+  first_read : (ns : NodesView) (due : Bool) (place : ℕ) (m : Moment) →
+      IsInOrder (o ∷ []) m.formats → is_complete (stage_behind_nodes stage.First ns) ≡ true →
+      NodesFit above ns →
+      nodes_faults frames pre_span false ns ≡ [] → RootIsRead (run (before place none [] m)
       (nodes_text frames pre_span due (shut level) ns ++ end_tag_text root)) o
       (put_nodes ns no_plains)
   unfolding node_text nodes_text node_faults nodes_faults
-  first_read none due place s done f clean = absurd (false≢true done)
-  first_read (node (tag_node m) ns) due place s done f clean =
-      first_read ns due place s done (rest_fits f) clean
-  first_read (node (text_node [] span) ns) due place s done f clean =
-      first_read ns false place s done (rest_fits f) clean
-  first_read (node (element_node h kids) ns) due place s done f clean =
+  first_read none due place m order done f clean = absurd (false≢true done)
+  first_read (node (tag_node tag) ns) due place m order done f clean =
+      first_read ns due place m order done (rest_fits f) clean
+  first_read (node (text_node [] span) ns) due place m order done f clean =
+      first_read ns false place m order done (rest_fits f) clean
+  first_read (node (element_node h kids) ns) due place m order done f clean =
       let head = stage_by (of kind.Head h.name) stage.BehindHead ns done in
-      let x = head_first h kids ns (element_fits f) clean none [] s place
+      let x = head_first h kids ns (element_fits f) clean none [] m order place
       (name_of kind.Head (codes "head") h.name refl head.0) refl in
       let g = x.0 in
       let behind = due_after due (element_node h kids) in
-      let later = nodes_text frames pre_span behind (shut level) ns in
-      root_as (before place none [] s) _ _
-      (append_assoc (contents h kids) later (end_tag_text root))
-      (root_on (before place none [] s) _ (contents h kids) (later ++ end_tag_text root) g.is
+      let more = nodes_text frames pre_span behind (shut level) ns in
+      root_as (before place none [] m) _ _
+      (append_assoc (contents h kids) more (end_tag_text root))
+      (root_on (before place none [] m) _ (contents h kids) (more ++ end_tag_text root) g.is
       (root_same (g.same (put_nodes ns no_plains))
-      (behind_head ns behind g.place g.children g.words g.start x.1
+      (behind_head ns behind g.place g.children g.words g.moment g.ordered x.1
       head.1 (rest_fits f) (right_empty _ _ clean))))
-  first_read (node n ns) due place s done f clean = absurd (both_ways _ (other_stays ns) done)
+  first_read (node n ns) due place m order done f clean = absurd (both_ways _ (other_stays ns) done)
 
 -- the root
 
@@ -438,12 +450,13 @@ module _ (frames : Frames) (limit : ℕ) (h : Head) (kids : NodesView) (deep : 5
 
   in_root : InRoot (ancestor h [] ∷ []) root_page (begun_element h [] starts.start)
   in_root = record {
-    calm = λ c t s. record {
+    calm = λ c t m order. record {
       alike = (record { name = refl; attrs = refl; space = refl }, tt);
-      lost = refl;
+      ordered = order;
       tables = refl;
       plain = (x.fits.template, tt);
     };
+    tables = refl;
     limit = deep;
     notes = refl;
     refusal = refl;
@@ -475,7 +488,9 @@ module _ (frames : Frames) (limit : ℕ) (h : Head) (kids : NodesView) (deep : 5
       (part_begun x 0 15 (typed limit) (omega (arith, deep)) begins)
       (first_read frames h.pre_span 0 in_root h.name (ap (of kind.Root) low)
       (λ fresh at q. end_emits h.name x.fits.named.0 tag.letter fresh at q) kids true
-      (starts.place + 1) starts.start complete x.fits.below (part_faults x 0))))
+      (starts.place + 1) (record { start = starts.start; formats = root_page.formats })
+      (order_opened (begun_element h [] starts.start) [] [] refl) complete x.fits.below
+      (part_faults x 0))))
 
 pub trees_stay : TreesStay
 unfolding NodeIsNamed NodeIsReadable node_text node_faults names

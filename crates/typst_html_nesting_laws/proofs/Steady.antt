@@ -4,7 +4,7 @@ use Rattle.std.{proofs.lemmas.Bool.{and_parts, both_ways, false≢true}, specs.P
 use Rattle.html_dom_tree.specs.Tree.{Head, NodesView}
 use Rattle.html_page_nesting.specs.{NestingRules.{element_misnesting, has_place}, Surroundings.{surroundings_of}}
 use Rattle.html_page_nesting.specs.Ancestors.{Ancestor, ancestor, is_in, is_read_as_html, place_in, place_inside, place_of, reading_in, reading_of, space_of}
-use Rattle.html_page_nesting.specs.declared.reading.{Place.{Place}, Space.{Space, TheVariants.{Html, Svg}}}
+use Rattle.html_page_nesting.specs.declared.reading.{Place.{Place}, Space.{Space, TheVariants.{Html}}}
 use Rattle.html_page_nesting.specs.Ancestors as nest
 use Rattle.html_page_nesting.specs.declared.reading.Place.TheVariants as place
 use Rattle.html_page_names.specs.{PageNames.{kind_names, of}, declared.kind.Kind.{Kind}}

@@ -5,22 +5,22 @@ use Rattle.html_page_nesting.specs.{Ancestors.{Ancestor, place_of}, WrittenTexts
 use Rattle.html_page_nesting.specs.declared.reading.Place.TheVariants as place
 use Rattle.html_page_names.specs.PageNames.{of}
 use Rattle.html_page_names.specs.declared.kind.Kind.TheVariants as kind
-use Rattle.html_page_stack.specs.{OpenElements.{OpenElement, is_html, mode}, Pages.{Page, Char, Taken, loses_some, with_char}}
+use Rattle.html_page_stack.specs.{Formats.{ends_closed}, OpenElements.{OpenElement, is_html, mode}, Pages.{Page, Char, Taken, with_char}}
 use Rattle.html_page_stack.specs.declared.modes.Mode.{Mode, TheVariants.{InBody, InText, InCaption, InCell}}
 use Rattle.html_page_stack.specs.declared.modes.Space.TheVariants as spaces
 use Rattle.html_page_tree.{proofs.TakenTexts.{text_taken}, specs.PageTrees.{by_mode, is_foreign_token, is_unseen}}
 use Rattle.html_page_tree.specs.TakenTexts.{mode_takes_text, takes_text}
-use Rattle.typst_html_nesting_laws.proofs.{Alike.{html_space, mode_is, placed_html}, Closed.{marks_lose_none}, Modes.{mode_in, own_mode}}
+use Rattle.typst_html_nesting_laws.proofs.{Alike.{html_space, mode_is, placed_html}, ListedFormats.{none_closed}, Modes.{mode_in, own_mode}}
 use Rattle.typst_html_nesting_laws.proofs.{Readers.{Takes, texted}, Turns.{html_token, mode_taken}}
 use Rattle.typst_html_nesting_laws.proofs.Ways.{AreAlike, IsCalm, IsSteady, is_body_mode, is_page_place}
 
--- the modes that take any text, where no formatting element is lost
+-- the modes that take any text, where no formatting element is made again
 abbrev is_text_mode : Mode → Bool
 is_text_mode InText = true
 is_text_mode m = is_body_mode m
 
-mode_takes : (m : Mode) (p : Page) → is_text_mode m ≡ true → loses_some p.lost ≡ false →
-    mode_takes_text m p ≡ true
+mode_takes : (m : Mode) (p : Page) → is_text_mode m ≡ true →
+    ends_closed p.stack p.formats ≡ false → mode_takes_text m p ≡ true
 mode_takes InText p h l = refl
 mode_takes InBody p h l = ap not l
 mode_takes InCaption p h l = ap not l
@@ -33,8 +33,8 @@ mode_text : (above : List Ancestor) (p : Page) → IsCalm above p →
 unfolding takes_text
 mode_text above p calm h c text start passes some = text_taken c (texted text start p) some
     (and_from _ _ (ap (λ r. not (is_unseen r)) calm.tables)
-    (or_right _ _ (mode_takes (mode p.stack) (texted text start p) h (ap loses_some calm.lost
-    ∙ marks_lose_none p.stack))))
+    (or_right _ _ (mode_takes (mode p.stack) (texted text start p) h
+    (none_closed p.stack p.formats calm.ordered))))
 
 body_text : (m : Mode) → is_body_mode m ≡ true → is_text_mode m ≡ true
 body_text InText h = refl

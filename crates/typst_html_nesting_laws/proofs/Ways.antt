@@ -1,5 +1,5 @@
 -- The way from the root to a node, as its list of ancestors and as the stack of open elements.
-use Rattle.std.{proofs.Common.{◌≡◌, ℕ, Bool, true, false, ◌||◌, List, [], ◌∷◌}, specs.Prelude.{if◌then◌else◌, Option, None}}
+use Rattle.std.proofs.Common.{◌≡◌, ℕ, Bool, true, false, ◌||◌, List, [], ◌∷◌}
 use Rattle.html_names_core.specs.Kinds.{is_foreign_self_closing, is_void}
 use Rattle.html_dom_tree.specs.Tree.{Head, none}
 use Rattle.html_page_nesting.specs.{Ancestors.{Ancestor, place_of, reading_of, space_of}, declared.reading.{Place.{Place}, Space.{Space}}}
@@ -7,11 +7,12 @@ use Rattle.html_page_nesting.specs.declared.reading.Place.TheVariants as place
 use Rattle.html_page_nesting.specs.declared.reading.Space.TheVariants as nest
 use Rattle.html_page_names.specs.PageNames.{of}
 use Rattle.html_page_names.specs.declared.kind.Kind.TheVariants as kind
-use Rattle.html_page_stack.specs.{OpenElements.{OpenElement, is_of, mode}, Pages.{Page, page_head, settled, with_element}}
+use Rattle.html_page_stack.specs.{OpenElements.{OpenElement, mode}, Pages.{Page, page_head, settled, with_element}}
 use Rattle.html_page_stack.specs.declared.modes.Destination.TheVariants.{Parent}
 use Rattle.html_page_stack.specs.declared.modes.{Mode.{Mode, TheVariants.{InBody, InCaption, InCell}}, Space.Space as OpenSpace}
 use Rattle.html_page_stack.specs.declared.modes.Space.TheVariants as spaces
 use Rattle.html_page_stack.specs.declared.modes.TableRule.TheVariants as rule
+use Rattle.typst_html_nesting_laws.proofs.ListedFormats.{IsInOrder}
 
 -- a namespace, as the reader names it
 abbrev pub open_space : Space → OpenSpace
@@ -30,11 +31,6 @@ AreAlike [] [] = Unit {0}
 AreAlike (a ∷ above) (o ∷ os) = IsAlike a o × AreAlike above os
 AreAlike above os = ⊥
 
--- what is lost where no formatting element is: what stands for the elements that hide others
-abbrev pub marks : List OpenElement → List (Option (List ℕ))
-marks [] = []
-marks (o ∷ os) = if is_of (of kind.Marker) o then None ∷ marks os else marks os
-
 abbrev pub HaveNoTemplate : List Ancestor → Type 0
 HaveNoTemplate [] = Unit {0}
 HaveNoTemplate (a ∷ above) = (of kind.Template a.head.name ≡ false) × HaveNoTemplate above
@@ -42,7 +38,7 @@ HaveNoTemplate (a ∷ above) = (of kind.Template a.head.name ≡ false) × HaveN
 -- a page in which these elements are open, and nothing else is out of order
 pub record IsCalm (above : List Ancestor) (p : Page) : Type 0 where
   pub alike : AreAlike above p.stack
-  pub lost : p.lost ≡ marks p.stack
+  pub ordered : IsInOrder p.stack p.formats
   pub tables : p.tables ≡ rule.ClosesP
   pub plain : HaveNoTemplate above
 

@@ -8,6 +8,6 @@ returns c =
     let p = page_of c.args.page.now in
     let n = c.args.name.now.tag in
     c.in_ok-close_nobr.ensures
-    ∙ (ap (nobr_closed n) c.reconstruct.ensures
+    ∙ (ap (nobr_closed n) c.in_ok-reconstruct.ensures
     ∙ ap (λ b. if b then p else nobr_closed n (reconstructed p))
     (sym (sym c.is.ensures ∙ c.if-is.false)))
