@@ -64,7 +64,6 @@ kind_names kind.Formatting =
 -- elements that hide the formatting elements around them
 kind_names kind.Marker = listed_names (codes "applet caption marquee object td th")
 -- elements that only their own end tag closes
-kind_names kind.Whole = listed_names (codes "applet form marquee object")
 -- elements in the body without an end tag
 kind_names kind.Leaf =
     listed_names (codes "area br embed hr img input keygen param source track wbr")

@@ -48,7 +48,6 @@ pub enum Kind {
     NoscriptContent,
     Formatting,
     Marker,
-    Whole,
     Leaf,
     Heading,
     ClosesInScope,

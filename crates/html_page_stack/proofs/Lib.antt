@@ -6,3 +6,4 @@ pub mod Copies
 pub mod Merging
 pub mod OpenFormats
 pub mod Stacks
+pub mod Uncovering

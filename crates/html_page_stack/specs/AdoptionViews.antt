@@ -1,5 +1,5 @@
 -- The program's adoption as that of the definition.
-use Rattle.std.specs.Prelude.{ℕ, ◌<◌, ◌^◌, List, length}
+use Rattle.std.specs.Prelude.{ℕ, ◌<◌, ◌≤◌, ◌^◌, List, length}
 use Rattle.html_page_stack.specs.Adoption as adoptions
 use Rattle.html_page_stack.specs.OpenElements.{OpenElement}
 use Rattle.html_page_stack.specs.PageViews.{format_of, stack_of}
@@ -10,6 +10,8 @@ adoption_of a = record {
   format = format_of a.format.now;
   block = a.block;
   stack = stack_of a.stack.now;
+  third = a.third;
+  base = a.base;
 }
 
 -- the block is an open element inside the formatting element, by their indices
@@ -21,5 +23,6 @@ pub record IsInside (index block : ℕ) (os : List OpenElement) : Type 0 where
 pub record IsInReach (a : adoptions.Adoption) (count : ℕ) : Type 0 where
   pub order : a.format.index < a.block
   pub within : a.block < length a.stack
+  pub base : a.base ≤ a.format.index
   pub few : length a.stack < 2 ^ 63
   pub made : count < 2 ^ 63

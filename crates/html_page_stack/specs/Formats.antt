@@ -117,7 +117,7 @@ entered o index fs = if is_of (of kind.Marker) o then None ∷ fs
 -- the list once the current node is closed, by its own end tag or another
 abbrev pub after_current : (own : Bool) → List OpenElement → Formats → Formats
 after_current own [] fs = fs
-after_current own (o ∷ os) fs = if is_of (of kind.Marker) o then before_marker fs
+after_current own (o ∷ os) fs = if is_of (of kind.Marker) o && own then before_marker fs
     else (if is_of (of kind.Formatting) o && own
     then without_entry (is_entry_of o (length os)) 0 fs else fs)
 

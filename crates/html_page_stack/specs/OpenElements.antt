@@ -10,7 +10,7 @@ use Rattle.html_page_stack.specs.declared.modes.{Destination.{Destination}, Mode
 use Rattle.html_page_stack.specs.declared.modes.Destination.TheVariants as to
 use Rattle.html_page_stack.specs.declared.modes.Mode.TheVariants.{BeforeHtml, BeforeHead, InHead, InHeadNoscript, AfterHead, InBody, InText, InTable, InCaption, InColumns, InSection, InRow, InCell}
 use Rattle.html_page_stack.specs.declared.modes.Scope.TheVariants.{General, ListItem, Button, Table}
-use Rattle.html_page_stack.specs.declared.modes.Space.TheVariants.{Html, Svg, MathMl}
+use Rattle.html_page_stack.specs.declared.modes.Space.TheVariants.{Html, Svg, MathMl, Removed}
 
 -- an open element, and its children so far
 pub record OpenElement : Type 0 where
@@ -24,6 +24,16 @@ abbrev pub is_html : Space → Bool
 is_html Html = true
 is_html space = false
 
+abbrev pub is_removed : Space → Bool
+is_removed Removed = true
+is_removed space = false
+
+-- whether it is the namespace of SVG or MathML
+abbrev pub is_foreign : Space → Bool
+is_foreign Svg = true
+is_foreign MathMl = true
+is_foreign space = false
+
 -- whether the element is one of HTML whose name passes the test
 abbrev pub is_of : (test : List ℕ → Bool) → OpenElement → Bool
 is_of test o = is_html o.space && test o.head.name
@@ -34,7 +44,7 @@ is_opened name span o = is_of (is name) o && (o.head.span == span)
 
 -- whether the element is one of SVG or MathML with that name, in lowercase
 abbrev pub is_foreign_of : (name : List ℕ) → OpenElement → Bool
-is_foreign_of name o = not (is_html o.space) && bytes_eq (lowered o.head.name) name
+is_foreign_of name o = is_foreign o.space && bytes_eq (lowered o.head.name) name
 
 -- whether the current node is a goal
 abbrev pub at : (goal : OpenElement → Bool) → List OpenElement → Bool
@@ -65,9 +75,9 @@ has test = reaches (is_of test) (λ o. false)
 
 -- whether an element of SVG or MathML bounds scopes, and is special
 abbrev pub is_foreign_bound : Space → (name : List ℕ) → Bool
-is_foreign_bound Html name = false
 is_foreign_bound Svg name = of kind.SvgHtml name
 is_foreign_bound MathMl name = of kind.MathText name || of kind.AnnotationXml name
+is_foreign_bound space name = false
 
 -- whether the attribute makes an `annotation-xml` hold HTML
 abbrev pub says_html : TextPair → Bool
@@ -78,6 +88,7 @@ abbrev pub holds_html_in : Space → OpenElement → Bool
 holds_html_in Html o = true
 holds_html_in Svg o = of kind.SvgHtml o.head.name
 holds_html_in MathMl o = of kind.AnnotationXml o.head.name && list_any says_html o.head.attrs
+holds_html_in Removed o = false
 
 -- whether it is a MathML text integration point
 abbrev pub holds_text_in : Space → OpenElement → Bool
@@ -194,6 +205,21 @@ abbrev pub without_current : List OpenElement → List OpenElement
 without_current [] = []
 without_current (o ∷ []) = o ∷ []
 without_current (o ∷ p ∷ ps) = placed o p ∷ ps
+
+-- the open elements, of which the innermost is completed as long as it was removed
+abbrev pub uncovered_in : OpenElement → List OpenElement → List OpenElement
+uncovered_in o [] = o ∷ []
+uncovered_in o (p ∷ ps) = if is_removed o.space then uncovered_in (placed o p) ps else o ∷ p ∷ ps
+
+abbrev pub uncovered : List OpenElement → List OpenElement
+uncovered [] = []
+uncovered (o ∷ os) = uncovered_in o os
+
+-- the open elements, of which the nearest goal is removed: it is open no longer, and complete once
+-- nothing in it is open
+abbrev pub removed : (goal : OpenElement → Bool) → List OpenElement → List OpenElement
+removed goal [] = []
+removed goal (o ∷ os) = if goal o then record o { space = Removed } ∷ os else o ∷ removed goal os
 
 -- the root, with all open elements complete
 abbrev pub all_completed : OpenElement → List OpenElement → ElementView

@@ -1,5 +1,5 @@
 -- The program's page, tokens and searches as those of the definition.
-use Rattle.std.specs.Prelude.{ℕ, Bool, false, not, ◌&&◌, List, reverse}
+use Rattle.std.specs.Prelude.{ℕ, Bool, false, not, ◌&&◌, List, option_map, reverse}
 use Rattle.html_dom_tree.specs.Views.{attrs_view, text_view}
 use Rattle.html_page_names.specs.PageNames.{is, of}
 pub use Rattle.html_page_stack.specs.ElementViews.{element_of, list_of}
@@ -34,6 +34,7 @@ page_of p = record {
   stack = stack_of p.stack;
   formats = formats_of p.formats;
   copied = p.copied;
+  form = option_map (λ span. span.0) p.form;
   tables = p.tables;
   limit = p.limit;
   start = p.start;

@@ -4,7 +4,7 @@ use Rattle.std.specs.Prelude.{ℕ, zero, suc, ◌+◌, min, Bool, true, false, n
 use Rattle.html_dom_tree.specs.Tree.{TextPair, Head, none}
 use Rattle.html_page_stack.specs.Copies.{copy_size, spare_at}
 use Rattle.html_page_stack.specs.Formats.{Format, Formats, after_current, before_closed, closed_entries, ends_closed, entered}
-use Rattle.html_page_stack.specs.OpenElements.{OpenElement, at, attr_count_at, with_attrs_at, is_of, is_at, in_scope, with_last_text, without_current}
+use Rattle.html_page_stack.specs.OpenElements.{OpenElement, at, attr_count_at, with_attrs_at, is_of, is_at, in_scope, removed, uncovered, with_last_text, without_current}
 use Rattle.html_page_names.specs.PageNames.{of}
 use Rattle.html_page_names.specs.declared.kind.Kind.TheVariants as kind
 use Rattle.html_page_stack.specs.declared.error.PageError.{PageError}
@@ -36,6 +36,8 @@ pub record Page : Type 0 where
   pub formats : Formats
   -- the bytes of the tags of those elements that were made again
   pub copied : ℕ
+  -- the span of the `form` that was begun last, unless its end tag ended it (13.2.4.4)
+  pub form : Option ℕ
   pub tables : TableRule
   -- the greatest depth of elements
   pub limit : ℕ
@@ -52,6 +54,7 @@ first_page limit = record {
   stack = [];
   formats = [];
   copied = 0;
+  form = None;
   tables = rule.Unseen;
   limit = limit;
   start = 0;
@@ -85,9 +88,6 @@ refused_at r place p = record p { refusal = first_of p.refusal (r, place) }
 abbrev pub refused : PageRefusal → Page → Page
 refused r p = refused_at r p.start p
 
-abbrev pub refused_if : Bool → PageRefusal → Page → Page
-refused_if is_refused r p = if is_refused then refused r p else p
-
 -- records an error at the token
 abbrev pub noted : PageError → Page → Page
 noted e p = record p { notes = with_note e p.start p.notes }
@@ -109,6 +109,7 @@ abbrev pub with_element : OpenElement → Page → Page
 with_element o p = record p {
   stack = o ∷ p.stack;
   formats = entered o (length p.stack) p.formats;
+  form = if is_of (of kind.Form) o then Some o.head.span else p.form;
 }
 
 -- the head of an element that a tag makes; its span is the offset in bytes of the token that opens
@@ -166,16 +167,26 @@ merged index test others p =
     then refused refusal.TooManyAttributes p
     else record p { stack = reverse (with_attrs_at index test others (reverse p.stack)) }
 
--- closes the current node, whose text is already a child of it
+-- the form that is begun once the current node is closed, by its own end tag or another
+abbrev pub form_after : (own : Bool) → List OpenElement → Option ℕ → Option ℕ
+form_after own os form = if is_at (of kind.Form) os && own then None else form
+
+-- closes the current node, whose text is already a child of it, by its own end tag or another
 abbrev pub settled_closed : (own : Bool) → Page → Page
-settled_closed own p =
-    record (refused_if (is_at (of kind.Whole) p.stack && not own) refusal.CrossedElement p) {
-      stack = without_current p.stack;
-      formats = after_current own p.stack p.formats;
-    }
+settled_closed own p = record p {
+  stack = uncovered (without_current p.stack);
+  formats = after_current own p.stack p.formats;
+  form = form_after own p.stack p.form;
+}
 
 abbrev pub closed : (own : Bool) → Page → Page
 closed own p = settled_closed own (settled p)
+
+-- closes the nearest element that is a goal, but nothing that is open in it (13.2.6.4.7, end tags of
+-- `form` and start tags of `a`)
+abbrev pub closed_around : (goal : OpenElement → Bool) → Page → Page
+closed_around goal p = if at goal p.stack then closed true p
+    else record p { stack = removed goal p.stack }
 
 -- appends an element without children, unless it is too deep
 abbrev pub added_to : Destination → Space → (name : List ℕ) → List TextPair → Page → Page

@@ -1,11 +1,12 @@
 //! The adoption agency algorithm: a block moves out of the formatting element around it (HTML
 //! Standard 13.2.6.4.7).
 
-ghost use Rattle.std.specs.Prelude.{◌≡◌, ◌∷◌, [], ◌++◌, ◌^◌, ◌<◌, IfOk, OnOk, map, option_map};
+ghost use Rattle.std.specs.Prelude.{◌≡◌, ◌∷◌, [], ◌++◌, ◌^◌, ◌<◌, IfOk, OnOk, length, map, option_map};
 ghost use Rattle.html_page_stack.specs.Adoption as adoptions;
 ghost use Rattle.html_page_stack.specs.AdoptionViews.{IsInReach, adoption_of};
-ghost use Rattle.html_page_stack.specs.PageViews.{entries_of, format_of};
+ghost use Rattle.html_page_stack.specs.PageViews.{entries_of, format_of, stack_of};
 
+use crate::elements::{index_outwards, shown_count};
 use crate::formats::{Format, Formats};
 use crate::stack::Stack;
 use std::alloc::{AllocError, Global};
@@ -16,9 +17,13 @@ const MOST_KEPT: usize = 3;
 /// A formatting element and its furthest block, by its entry and the index of the block.
 #[derive(Clone, Copy)]
 pub(crate) struct Adoption<'a> {
-    pub(crate) format: &'a Format,
-    pub(crate) block: usize,
-    pub(crate) stack: &'a Stack,
+    format: &'a Format,
+    block: usize,
+    stack: &'a Stack,
+    /// The index of the third element around the block.
+    third: usize,
+    /// How many elements stay open around the formatting element.
+    base: usize,
 }
 
 fn put(entries: &mut Vec<Option<Format>>, entry: Option<Format>) -> Result<(), AllocError>
@@ -29,7 +34,24 @@ fn put(entries: &mut Vec<Option<Format>>, entry: Option<Format>) -> Result<(), A
     Ok(())
 }
 
-impl Adoption<'_> {
+impl<'a> Adoption<'a> {
+    /// Creates the adoption of the block at that index.
+    pub(crate) fn new(format: &'a Format, block: usize, stack: &'a Stack) -> Adoption<'a>
+        requires order { format.now.index < block }
+        requires within { block < length (stack_of stack.now) }
+        ensures { adoption_of result
+            ≡ adoptions.adoption (format_of format.now) block (stack_of stack.now) }
+    {
+        let items = &stack.items;
+        Adoption {
+            format,
+            block,
+            stack,
+            third: index_outwards(&items[..block], MOST_KEPT),
+            base: shown_count(&items[..format.index]),
+        }
+    }
+
     /// Returns whether the element of the entry stands between them.
     fn is_between(self, format: &Format) -> bool
         ensures { result ≡ adoptions.is_between (adoption_of self.entry) (format_of format.now) }
@@ -41,7 +63,7 @@ impl Adoption<'_> {
     fn is_kept(self, format: &Format) -> bool
         ensures { result ≡ adoptions.is_kept (adoption_of self.entry) (format_of format.now) }
     {
-        self.is_between(format) && self.block - format.index <= MOST_KEPT
+        self.is_between(format) && self.third <= format.index
     }
 
     /// Returns the entries of the elements that are made again, the first entry first.
@@ -71,7 +93,7 @@ impl Adoption<'_> {
             ≡ adoptions.new_entry (adoption_of self.entry) count) }
     {
         let mut entry = self.format.try_clone()?;
-        entry.index = self.format.index + count + 1;
+        entry.index = self.base + count + 1;
         Ok(entry)
     }
 
@@ -102,7 +124,7 @@ impl Adoption<'_> {
         if !self.stack.is_open(&format) || format.index <= self.block {
             return format;
         }
-        let index = self.format.index + count + 2 + (format.index - self.block - 1);
+        let index = self.base + count + 2 + (format.index - self.block - 1);
         Format { index, ..format }
     }
 
@@ -128,7 +150,7 @@ impl Adoption<'_> {
             return self.put_new(entries, count == 0, count);
         }
         if self.is_kept(&format) {
-            let index = self.format.index + before;
+            let index = self.base + before;
             put(entries, Some(Format { index, ..format }))?;
             return self.put_new(entries, before + 1 == count, count);
         }

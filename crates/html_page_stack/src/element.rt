@@ -113,7 +113,7 @@ impl PageElement {
     ghost use Rattle.std.specs.Prelude.{bytes_eq};
     ghost use Rattle.html_dom_tree.specs.Views.{text_view};
     ghost use Rattle.html_page_names.specs.PageNames.{of};
-    ghost use Rattle.html_page_stack.specs.OpenElements.{holds_html_in, holds_tags, holds_text_in, is_foreign_of, is_opened, is_html, is_of, placed, with_attrs, with_last_child, with_text};
+    ghost use Rattle.html_page_stack.specs.OpenElements.{holds_html_in, holds_tags, holds_text_in, is_foreign, is_foreign_of, is_opened, is_html, is_of, is_removed, placed, with_attrs, with_last_child, with_text};
     ghost use Rattle.html_dom_tree.specs.declared.node.HtmlNode.TheVariants.{Element};
     ghost use Rattle.html_page_stack.specs.Adoption.{emptied};
     ghost use Rattle.html_page_stack.specs.{Contexts.{known_part}, Formats.{entry_of}, PageViews.{element_of, format_of, target_test}, Pages.{made}};
@@ -148,6 +148,20 @@ impl PageElement {
         ensures { result ≡ is_html (element_of self.now).space }
     {
         matches!(self.space, Space::Html)
+    }
+
+    /// Returns whether it was removed from the open elements, while what is in it is open.
+    pub(crate) fn is_removed(&self) -> bool
+        ensures { result ≡ is_removed (element_of self.now).space }
+    {
+        matches!(self.space, Space::Removed)
+    }
+
+    /// Returns whether it is an element of SVG or MathML.
+    fn is_foreign(&self) -> bool
+        ensures { result ≡ is_foreign (element_of self.now).space }
+    {
+        matches!(self.space, Space::Svg | Space::MathMl)
     }
 
     /// Returns whether its name is of the kind, in any namespace.
@@ -210,7 +224,7 @@ impl PageElement {
     pub(crate) fn is_foreign_of(&self, tag: &HtmlTag) -> bool
         ensures { result ≡ is_foreign_of tag.now (element_of self.now) }
     {
-        !self.is_html() && is_same_lowered(self.element.tag.resolve(), tag.resolve())
+        self.is_foreign() && is_same_lowered(self.element.tag.resolve(), tag.resolve())
     }
 
     /// Returns whether its content is read as HTML: that of an element of HTML, or of an HTML
@@ -222,6 +236,7 @@ impl PageElement {
             Space::Html => true,
             Space::Svg => self.has_kind(Kind::SvgHtml),
             Space::MathMl => self.has_kind(Kind::AnnotationXml) && says_html(&self.element.attrs),
+            Space::Removed => false,
         }
     }
 

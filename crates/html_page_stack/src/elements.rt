@@ -3,7 +3,7 @@
 ghost use Rattle.std.specs.Prelude.{◌≡◌, OnOk, map};
 ghost use Rattle.html_dom_tree.specs.Views.{attrs_view};
 ghost use Rattle.html_page_names.specs.PageNames.{of};
-ghost use Rattle.html_page_stack.specs.{Adoption.{furthest_block}, Contexts.{known_part, own_mode, root_mode}, Formats.{is_open}, OpenElements.{at, attr_count_at, html_mode, named_mode, reaches, with_attrs_at}};
+ghost use Rattle.html_page_stack.specs.{Adoption.{furthest_block, index_outwards, shown_count}, Contexts.{known_part, own_mode, root_mode}, Formats.{is_open}, OpenElements.{at, attr_count_at, html_mode, named_mode, reaches, with_attrs_at}};
 ghost use Rattle.html_page_stack.specs.PageViews.{bound_test, element_of, format_of, goal_test, list_of};
 
 use crate::element::PageElement;
@@ -67,6 +67,39 @@ pub(crate) fn furthest_block(elements: &[PageElement], index: usize) -> Option<u
         outer = rest;
     }
     block
+}
+
+/// Returns the index of the last of so many elements, from the innermost outwards, but for those that
+/// were removed.
+pub(crate) fn index_outwards(elements: &[PageElement], count: usize) -> usize
+    ensures { result ≡ index_outwards count (list_of elements.now) }
+{
+    let mut outer = elements;
+    let mut left = count;
+    while let Some((element, rest)) = outer.split_last() {
+        if left == 0 {
+            break;
+        }
+        if !element.is_removed() {
+            left -= 1;
+        }
+        outer = rest;
+    }
+    outer.len()
+}
+
+/// Returns the number of elements without the innermost that were removed.
+pub(crate) fn shown_count(elements: &[PageElement]) -> usize
+    ensures { result ≡ shown_count (list_of elements.now) }
+{
+    let mut outer = elements;
+    while let Some((element, rest)) = outer.split_last() {
+        if !element.is_removed() {
+            break;
+        }
+        outer = rest;
+    }
+    outer.len()
 }
 
 /// Returns the number of the attributes of the element at that index, if it is one of HTML of the

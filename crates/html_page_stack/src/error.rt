@@ -118,6 +118,9 @@ pub enum PageError {
     /// A `noscript` in the head is closed before content that can't stand in it.
     #[error("a noscript of the head that ends early")]
     UnexpectedInNoscript,
+    /// A `form` or a hidden `input` stands in a table, outside its cells, and stays there.
+    #[error("a form or a hidden input in a table")]
+    UnexpectedInTable,
     /// A cell stands outside a row.
     #[error("a cell outside of a row")]
     CellWithoutRow,

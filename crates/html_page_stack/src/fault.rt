@@ -16,19 +16,12 @@ pub enum PageRefusal {
     /// are more.
     #[error("an element has too many attributes")]
     TooManyAttributes,
-    /// An `a` would be removed from the open elements.
-    #[error("an open a would be removed")]
-    OpenAnchorRemoved,
     /// A text or an element would be moved out of a table.
     #[error("a text or an element would be moved out of a table")]
     FosterParenting,
     /// An element that the reader does not support: `frameset`, `plaintext`, `template`.
     #[error("a frameset, plaintext or template")]
     UnreadElement,
-    /// A `form`, an `object`, an `applet` or a `marquee` would be closed by a tag of another name,
-    /// or while elements in it are open.
-    #[error("a form, object, applet or marquee would be closed by another tag")]
-    CrossedElement,
     /// A token went from one insertion mode to another more often than in any known page.
     #[error("a token finds no place")]
     Unsettled,
@@ -47,10 +40,8 @@ impl PageRefusal {
         match self {
             PageRefusal::TooDeep => 8,
             PageRefusal::TooManyAttributes => 28,
-            PageRefusal::OpenAnchorRemoved => 31,
             PageRefusal::FosterParenting => 32,
             PageRefusal::UnreadElement => 35,
-            PageRefusal::CrossedElement => 36,
             PageRefusal::Unsettled => 39,
             PageRefusal::TooManyCopies => 40,
         }

@@ -1,11 +1,13 @@
 //! The state of reading a page.
 
-/// The namespace of an element.
+/// The namespace of an element that counts among the open ones.
 #[derive(Clone, Copy, Debug, PartialEq, Eq)]
 pub enum Space {
     Html,
     Svg,
     MathMl,
+    /// It does not count: it was removed, but what is in it is open.
+    Removed,
 }
 
 /// Where an element stands once it is complete.

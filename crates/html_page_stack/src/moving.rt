@@ -38,7 +38,7 @@ impl Stack {
     }
 
     /// Puts elements back, of which the innermost is the first.
-    fn put_back(&mut self, inside: Vec<PageElement>) -> Result<(), AllocError>
+    pub(crate) fn put_back(&mut self, inside: Vec<PageElement>) -> Result<(), AllocError>
         ensures { OnOk result (stack_of self.new ≡ map element_of inside.items ++ stack_of self.old) }
     {
         let mut left = inside;
@@ -107,6 +107,7 @@ impl Stack {
             return Ok(());
         };
         self.close_times(times)?;
+        self.uncover()?;
         self.wrap_block(alloc, format, block, kept)
     }
 

@@ -63,6 +63,9 @@ pub struct Page {
     pub formats: Formats,
     /// The bytes of the tags of those elements that were made again.
     pub(crate) copied: usize,
+    /// The span of the `form` that was begun last, unless its end tag ended it (HTML Standard
+    /// 13.2.4.4).
+    pub form: Option<Span>,
     /// What a table does to an open `p`.
     pub tables: TableRule,
     pub(crate) limit: usize,
@@ -86,6 +89,7 @@ impl Page {
             stack: Stack::new(alloc),
             formats: Formats::new(alloc),
             copied: 0,
+            form: None,
             tables: TableRule::Unseen,
             limit,
             start: 0,
@@ -110,15 +114,6 @@ impl Page {
     {
         let place = self.start;
         self.refuse_at(refusal, place);
-    }
-
-    /// Refuses the page for the token, if it has to be refused and is not yet.
-    pub fn refuse_if(&mut self, is_refused: bool, refusal: PageRefusal)
-        ensures { page_of self.new ≡ pages.refused_if is_refused refusal (page_of self.old) }
-    {
-        if is_refused {
-            self.refuse(refusal);
-        }
     }
 
     /// Records an error at the token.
@@ -169,6 +164,9 @@ impl Page {
         ensures { OnOk result (page_of self.new ≡ pages.with_element (element_of element) (page_of self.old)) }
     {
         self.formats.enter(&element, self.stack.len())?;
+        if element.is(Kind::Form) {
+            self.form = Some(element.element.span);
+        }
         self.stack.push(element)?;
         Ok(())
     }
@@ -301,10 +299,20 @@ impl Page {
         let Some((element, outer)) = stack.items.split_last() else {
             return;
         };
-        if element.is(Kind::Marker) {
+        if element.is(Kind::Marker) && own {
             self.formats.remove_marker();
         } else if element.is(Kind::Formatting) && own {
             self.formats.remove(Entry::Of(element, outer.len()), 0);
+        }
+    }
+
+    /// Forgets the form if the current node is one, and is closed by its own end tag.
+    fn leave_form(&mut self, own: bool)
+        ensures { page_of self.new ≡ (let p = page_of self.old in
+            record p { form = pages.form_after own p.stack p.form }) }
+    {
+        if self.stack.is_at(Kind::Form) && own {
+            self.form = None;
         }
     }
 
@@ -313,11 +321,21 @@ impl Page {
         ensures { OnOk result (page_of self.new ≡ pages.closed own (page_of self.old)) }
     {
         self.settle()?;
-        let is_crossed = self.stack.is_at(Kind::Whole) && !own;
-        self.refuse_if(is_crossed, PageRefusal::CrossedElement);
         self.leave_formats(own);
+        self.leave_form(own);
         self.stack.close_current()?;
-        Ok(())
+        self.stack.uncover()
+    }
+
+    /// Closes the nearest element that is the goal, but nothing that is open in it.
+    pub fn close_around(&mut self, goal: Goal<'_>) -> Result<(), AllocError>
+        ensures { OnOk result (page_of self.new
+            ≡ pages.closed_around (goal_test goal.entry) (page_of self.old)) }
+    {
+        if self.stack.is_goal(goal) {
+            return self.close(true);
+        }
+        self.stack.remove(self.alloc, goal)
     }
 
     /// Closes the current node as long as the condition holds.
@@ -510,11 +528,7 @@ impl Page {
             })) }
     {
         let stack = &self.stack;
-        let adoption = Adoption {
-            format,
-            block,
-            stack,
-        };
+        let adoption = Adoption::new(format, block, stack);
         self.formats.adopt(self.alloc, adoption, kept.len())?;
         self.copied += size;
         self.stack.move_block(self.alloc, format, block, &kept)
@@ -531,11 +545,7 @@ impl Page {
     {
         self.settle()?;
         let stack = &self.stack;
-        let adoption = Adoption {
-            format,
-            block,
-            stack,
-        };
+        let adoption = Adoption::new(format, block, stack);
         let kept = adoption.kept_entries(self.alloc, &self.formats)?;
         match copies_size(self.spare(), format, &kept) {
             None => {

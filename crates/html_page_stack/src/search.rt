@@ -63,7 +63,7 @@ fn is_foreign_bound(element: &PageElement) -> bool
     ensures { let e = element_of element.now in result ≡ is_foreign_bound e.space e.head.name }
 {
     match element.space {
-        Space::Html => false,
+        Space::Html | Space::Removed => false,
         Space::Svg => element.has_kind(Kind::SvgHtml),
         Space::MathMl => {
             element.has_kind(Kind::MathText) || element.has_kind(Kind::AnnotationXml)

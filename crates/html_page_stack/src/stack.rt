@@ -34,7 +34,7 @@ impl Stack {
     ghost use Rattle.html_page_stack.specs.Adoption.{furthest_block};
     ghost use Rattle.html_page_stack.specs.AdoptionViews.{IsInside};
     ghost use Rattle.html_page_stack.specs.Formats.{is_last, is_listed, is_open};
-    ghost use Rattle.html_page_stack.specs.OpenElements.{at, attr_count_at, with_attrs_at, current_name, in_scope, is_at, is_in_foreign, current_space, mode, reaches, root_of, with_last_text, without_current};
+    ghost use Rattle.html_page_stack.specs.OpenElements.{at, attr_count_at, with_attrs_at, current_name, in_scope, is_at, is_in_foreign, current_space, mode, reaches, removed, root_of, uncovered, with_last_text, without_current};
     ghost use Rattle.html_page_stack.specs.PageViews.{bound_test, element_of, format_of, formats_of, goal_test, stack_of, target_test, while_test};
 
     /// Creates a stack without elements.
@@ -250,6 +250,50 @@ impl Stack {
             None => self.put(child),
             Some(parent) => self.put(parent.with_child(child)?),
         }
+    }
+
+    /// Completes the current node, which was removed, and those around it that were too.
+    fn complete_removed(&mut self) -> Result<(), AllocError>
+        ensures { OnOk result (stack_of self.new ≡ uncovered (stack_of self.old)) }
+    {
+        let Some(mut current) = self.pop() else {
+            return Ok(());
+        };
+        while current.is_removed() {
+            match self.pop() {
+                None => break,
+                Some(parent) => current = parent.with_child(current)?,
+            }
+        }
+        self.push(current)
+    }
+
+    /// Completes the current node as long as it was removed.
+    pub(crate) fn uncover(&mut self) -> Result<(), AllocError>
+        ensures { OnOk result (stack_of self.new ≡ uncovered (stack_of self.old)) }
+    {
+        match self.items.last() {
+            Some(current) if current.is_removed() => self.complete_removed(),
+            _ => Ok(()),
+        }
+    }
+
+    /// Removes the nearest element that is the goal, if there is one: it is complete once nothing in
+    /// it is open.
+    pub(crate) fn remove(&mut self, alloc: Global, goal: Goal<'_>) -> Result<(), AllocError>
+        ensures { OnOk result (stack_of self.new
+            ≡ removed (goal_test goal.entry) (stack_of self.old)) }
+    {
+        let mut inside = Vec::new(alloc);
+        while let Some(mut element) = self.pop() {
+            if goal.is(&element) {
+                element.space = Space::Removed;
+                self.push(element)?;
+                break;
+            }
+            inside.push(element)?;
+        }
+        self.put_back(inside)
     }
 
     /// Returns the number of the attributes of the element at that index, if it is one of HTML of

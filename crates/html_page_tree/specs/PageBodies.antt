@@ -1,12 +1,12 @@
 -- The steps of a token in a body (HTML Standard 13.2.6.4.7), and before it (13.2.6.4.2 to
 -- 13.2.6.4.6).
-use Rattle.std.specs.Prelude.{ℕ, zero, suc, Bool, true, false, not, ◌&&◌, ◌||◌, ◌==◌, List, [], length, if◌then◌else◌, codes, map, Option, Some, None}
+use Rattle.std.specs.Prelude.{ℕ, zero, suc, Bool, true, false, not, ◌&&◌, ◌||◌, ◌==◌, List, [], length, if◌then◌else◌, codes, map, Option, Some, None, is_some}
 use Rattle.html_dom_tree.specs.Tree.{TextPair}
 use Rattle.html_page_names.specs.{ForeignNames.{svg_names, svg_attrs, math_attrs, with_capitals}, PageNames.{is, of}}
 use Rattle.html_page_stack.specs.Adoption.{adopted_from, furthest_block}
 use Rattle.html_page_stack.specs.Formats.{Format, is_listed, is_named, is_open, is_same, last_entry, without_entry}
-use Rattle.html_page_stack.specs.OpenElements.{at, bounds, is_at, is_opened, has, in_scope, is_near, reaches, has_item}
-use Rattle.html_page_stack.specs.Pages.{Page, StartTag, Token, Char, Start, End, Finish, merged, refused, refused_if, noted, noted_if, with_char, added_in, added_to, opened, opened_in, opened_to, closed, closed_named, closed_to, closed_to_goal, implied_closed, no_name, closed_over, closed_in, reconstructed, Turn, Taken, Again, taken_with}
+use Rattle.html_page_stack.specs.OpenElements.{OpenElement, at, bounds, is_at, is_opened, in_scope, is_near, reaches, has_item}
+use Rattle.html_page_stack.specs.Pages.{Page, StartTag, Token, Char, Start, End, Finish, merged, refused, noted, noted_if, with_char, added_in, added_to, opened, opened_in, opened_to, closed, closed_named, closed_around, closed_to, closed_to_goal, implied_closed, no_name, closed_over, closed_in, reconstructed, Turn, Taken, Again, taken_with}
 use Rattle.html_page_stack.specs.declared.error.PageError.TheVariants as error
 use Rattle.html_page_stack.specs.declared.fault.PageRefusal.TheVariants as refusal
 use Rattle.html_page_names.specs.declared.kind.Kind.{Kind}
@@ -119,17 +119,15 @@ abbrev pub select_closed : Page → Page
 select_closed p = if in_scope scope.General (of kind.Select) p.stack
     then closed_to (of kind.Select) (noted error.NestedElement p) else p
 
--- takes the entry of an `a` off that is closed, and refuses the page if it is open still, since the
--- element would be removed
-abbrev pub anchor_left : Format → Page → Page
-anchor_left f p = record (refused_if (is_open f p.stack) refusal.OpenAnchorRemoved p) {
-  formats = without_entry (is_same f) 0 p.formats;
-}
+-- takes the entry of an `a` off, and closes its element if it is open still
+abbrev pub anchor_left : (name : List ℕ) → Format → Page → Page
+anchor_left name f p = let q = record p { formats = without_entry (is_same f) 0 p.formats } in
+    if is_open f p.stack then closed_around (is_opened name f.span) q else q
 
 -- closes an `a` before the next, given the entry of the last one
 abbrev pub anchor_ended : (name : List ℕ) → Option Format → Page → Page
 anchor_ended name None p = p
-anchor_ended name (Some f) p = anchor_left f (adopted name (noted error.NestedElement p))
+anchor_ended name (Some f) p = anchor_left name f (adopted name (noted error.NestedElement p))
 
 abbrev pub anchor_closed : (name : List ℕ) → Page → Page
 anchor_closed name p = anchor_ended name (last_entry (is_named name) p.formats) p
@@ -207,9 +205,9 @@ inserted tag p = if of kind.Leaf tag.name then leaf tag p
 abbrev pub element_begun : StartTag → Page → Page
 element_begun tag p = inserted tag (formatted tag.name (closed_before tag.name p))
 
--- whether the start tag is ignored: that of a form in a form
+-- whether the start tag is ignored: that of a form, while another is begun
 abbrev pub is_nested : (name : List ℕ) → Page → Bool
-is_nested name p = of kind.Form name && has (is name) p.stack
+is_nested name p = of kind.Form name && is_some p.form
 
 abbrev pub in_body_start : StartTag → Page → Turn
 in_body_start tag p = let name = tag.name in
@@ -225,15 +223,21 @@ in_body_start tag p = let name = tag.name in
     then Taken (select_closed p)
     else Taken (element_begun tag p)))))))
 
--- closes a `form` that is the current node
-abbrev pub current_form_closed : Page → Page
-current_form_closed p = if is_at (of kind.Form) p.stack then closed true p
-    else refused refusal.CrossedElement p
+-- closes the `form` with that span, but nothing that is open in it
+abbrev pub form_left : (goal : OpenElement → Bool) → Page → Page
+form_left goal p =
+    closed_around goal (noted_if (not (at goal p.stack)) error.EndTagOverOpenElements p)
 
-abbrev pub form_closed : Page → Page
-form_closed p = if not (has (of kind.Form) p.stack) then noted error.EndTagWithoutStart p
-    else current_form_closed
-    (if in_scope scope.General (of kind.Form) p.stack then implied_closed no_name p else p)
+-- handles the end tag of a form that was begun
+abbrev pub form_ended : (goal : OpenElement → Bool) → Page → Page
+form_ended goal p = if reaches goal (bounds scope.General) p.stack
+    then form_left goal (implied_closed no_name p) else noted error.EndTagWithoutStart p
+
+-- handles the end tag of a form, given the span of the form that was begun
+abbrev pub form_closed : Option ℕ → Page → Page
+form_closed None p = noted error.EndTagWithoutStart p
+form_closed (Some span) p =
+    form_ended (is_opened (codes "form") span) (record p { form = None })
 
 -- handles a `</p>`, which makes an empty `p` if there is none
 abbrev pub p_ended : Page → Page
@@ -242,7 +246,7 @@ p_ended p = if in_scope scope.Button (of kind.P) p.stack then p_closed p
 
 -- handles an end tag that closes an element
 abbrev pub element_ended : (name : List ℕ) → Page → Page
-element_ended name p = if of kind.Form name then form_closed p
+element_ended name p = if of kind.Form name then form_closed p.form p
     else (if of kind.P name then p_ended p
     else (if of kind.ListItem name then closed_in scope.ListItem (is name) (is name) (is name) p
     else (if of kind.DescriptionPart name

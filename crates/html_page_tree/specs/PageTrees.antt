@@ -1,8 +1,10 @@
 -- The steps of a token in a table (HTML Standard 13.2.6.4.9 to 13.2.6.4.15), in SVG and MathML
 -- (13.2.6.5), and in a page (13.2.6).
-use Rattle.std.specs.{List.{list_any}, Prelude.{ℕ, zero, suc, Bool, true, false, not, ◌&&◌, ◌||◌, ◌==◌, List, [], ◌∷◌, length, if◌then◌else◌, codes}}
-use Rattle.html_page_names.specs.{ForeignNames.{is_font_attr}, PageNames.{is, of}}
-use Rattle.html_page_stack.specs.OpenElements.{OpenElement, at, holds_html_in, holds_tags, holds_text_in, is_html, reaches, is_at, has, in_scope, mode, current_space, is_foreign_of}
+use Rattle.std.specs.{List.{list_any}, Prelude.{ℕ, zero, suc, Bool, true, false, not, ◌&&◌, ◌||◌, ◌==◌, List, [], ◌∷◌, length, if◌then◌else◌, codes, Some, is_some, option_map}}
+use Rattle.html_dom_tree.specs.Attributes.{first}
+use Rattle.html_page_names.specs.{ForeignNames.{is_font_attr, lowered}, PageNames.{is, of}}
+use Rattle.html_page_stack.specs.Formats.{has_value}
+use Rattle.html_page_stack.specs.OpenElements.{OpenElement, at, holds_html_in, holds_tags, holds_text_in, is_html, reaches, is_at, in_scope, mode, current_space, is_foreign_of}
 use Rattle.html_page_stack.specs.Pages.{Page, StartTag, Token, Char, Start, End, Finish, refused, noted, noted_if, with_char, opened, closed, closed_to, closed_to_goal, closed_while, implied_closed, no_name, Turn, Taken, Again, taken_with}
 use Rattle.html_page_tree.specs.PageBodies.{is_space, leaf, repeated, head_element, entered, in_body, in_body_start, in_body_end, left, before, in_head, in_head_noscript, after_head, in_text}
 use Rattle.html_page_stack.specs.declared.error.PageError.TheVariants as error
@@ -21,6 +23,16 @@ part_implied name tag p = Again (opened name [] p) (Start tag)
 abbrev pub begins_part : (name : List ℕ) → Bool
 begins_part name = of kind.Caption name || of kind.Colgroup name || of kind.Section name
 
+-- whether it is that of a hidden `input`
+abbrev pub is_hidden_input : StartTag → Bool
+is_hidden_input tag = of kind.Input tag.name
+    && has_value (option_map lowered (first tag.attrs (codes "type"))) (codes "hidden")
+
+-- appends a form without content, unless another is begun; it counts as begun
+abbrev pub form_in_table : StartTag → Page → Page
+form_in_table tag p = if is_some p.form then noted error.NestedElement p
+    else record (leaf tag (noted error.UnexpectedInTable p)) { form = Some p.start }
+
 -- handles a start tag in a table that begins none of its parts
 abbrev pub in_table_other : StartTag → Page → Turn
 in_table_other tag p = let name = tag.name in
@@ -29,7 +41,9 @@ in_table_other tag p = let name = tag.name in
     else (if of kind.ScriptOrStyle name then Taken (head_element Parent tag p)
     else (if of kind.Root name then Taken (repeated tag p)
     else (if of kind.Misplaced name then taken_with error.IgnoredStartTag p
-    else Taken (refused refusal.FosterParenting p))))
+    else (if is_hidden_input tag then Taken (leaf tag (noted error.UnexpectedInTable p))
+    else (if of kind.Form name then Taken (form_in_table tag p)
+    else Taken (refused refusal.FosterParenting p))))))
 
 -- handles a start tag in a table, if the current node is the table, or one of its parts other than
 -- a cell or a caption
@@ -43,10 +57,8 @@ in_table_start tag p = let name = tag.name in
 abbrev pub in_table_end : (name : List ℕ) → Page → Turn
 in_table_end name p = if of kind.Table name then Taken (closed_to (of kind.Table) p)
     else (if of kind.P name || of kind.Br name then Taken (refused refusal.FosterParenting p)
-    else (if of kind.Form name && has (of kind.Form) p.stack
-    then Taken (refused refusal.CrossedElement p)
     else (if of kind.Root name then taken_with error.EndTagWithoutStart p
-    else in_body_end name p)))
+    else in_body_end name p))
 
 abbrev pub in_table : Token → Page → Turn
 in_table (Char c) p = if is_space c then Taken (with_char c p)

@@ -7,9 +7,7 @@ ghost use Rattle.html_page_tree.specs.Agencies.{Acts};
 ghost use Rattle.html_page_tree.specs.PageBodies as bodies;
 
 use html_dom_tree::Span;
-use html_page_stack::{
-    Bound, Entry, Format, Goal, Page, PageError, PageRefusal, Scope, TagName, Target,
-};
+use html_page_stack::{Bound, Entry, Format, Goal, Page, PageError, Scope, TagName, Target};
 use std::alloc::AllocError;
 
 /// The number of blocks that an end tag moves at most.
@@ -120,13 +118,16 @@ pub(crate) fn adopt(page: &mut Page, name: &TagName) -> Result<(), AllocError>
     run_agency(page, name)
 }
 
-/// Takes the entry of an `a` off that is closed, and refuses the page if it is open still.
-fn leave_anchor(page: &mut Page, format: &Format)
-    ensures { page_of page.new ≡ bodies.anchor_left (format_of format.now) (page_of page.old) }
+/// Takes the entry of an `a` off, and closes its element if it is open still.
+fn leave_anchor(page: &mut Page, name: &TagName, format: &Format) -> Result<(), AllocError>
+    ensures { OnOk result (page_of page.new
+        ≡ bodies.anchor_left name.now.tag (format_of format.now) (page_of page.old)) }
 {
-    let is_open = page.stack.is_open(format);
-    page.refuse_if(is_open, PageRefusal::OpenAnchorRemoved);
     page.formats.remove(Entry::Same(format), 0);
+    if page.stack.is_open(format) {
+        page.close_around(Goal::Opened(&name.tag, format.span))?;
+    }
+    Ok(())
 }
 
 /// Closes an `a` before the next.
@@ -140,6 +141,5 @@ pub(crate) fn close_anchor(page: &mut Page, name: &TagName) -> Result<(), AllocE
     let format = format.try_clone()?;
     page.note(PageError::NestedElement)?;
     adopt(page, name)?;
-    leave_anchor(page, &format);
-    Ok(())
+    leave_anchor(page, name, &format)
 }

@@ -1,7 +1,7 @@
 //! Other tokens in a body (HTML Standard 13.2.6.4.7).
 
 ghost use Rattle.std.specs.Prelude.{◌≡◌, [], OnOk, codes};
-ghost use Rattle.html_page_stack.specs.{Endings.{Turns}, PageViews.{page_of, token_of}};
+ghost use Rattle.html_page_stack.specs.{Endings.{Turns}, PageViews.{goal_test, page_of, token_of}};
 ghost use Rattle.html_page_stack.specs.Pages as pages;
 ghost use Rattle.html_page_stack.specs.declared.modes.{Destination.TheVariants.{Parent}, Space.TheVariants.{Html}};
 ghost use Rattle.html_page_tree.specs.PageBodies as bodies;
@@ -12,33 +12,42 @@ use html_dom_tree::HtmlAttrs;
 use html_names_core::tag;
 use html_page_names::Kind;
 use html_page_stack::{
-    Bound, Destination, Goal, Page, PageError, PageRefusal, Scope, Space, StartTag, TagName,
-    Target, Token,
+    Bound, Destination, Goal, Page, PageError, Scope, Space, StartTag, TagName, Target, Token,
 };
 use std::alloc::AllocError;
 
-/// Closes a `form` that is the current node.
-fn close_current_form(page: &mut Page) -> Result<(), AllocError>
-    ensures { OnOk result (page_of page.new ≡ bodies.current_form_closed (page_of page.old)) }
+/// Closes a `form`, but nothing that is open in it.
+fn leave_form(page: &mut Page, goal: Goal<'_>) -> Result<(), AllocError>
+    ensures { OnOk result (page_of page.new
+        ≡ bodies.form_left (goal_test goal.entry) (page_of page.old)) }
 {
-    if !page.stack.is_at(Kind::Form) {
-        page.refuse(PageRefusal::CrossedElement);
-        return Ok(());
-    }
-    page.close(true)
+    let is_over_others = !page.stack.is_goal(goal);
+    page.note_if(is_over_others, PageError::EndTagOverOpenElements)?;
+    page.close_around(goal)
 }
 
-fn close_form(page: &mut Page) -> Result<(), AllocError>
-    ensures { OnOk result (page_of page.new ≡ bodies.form_closed (page_of page.old)) }
+/// Handles the end tag of a form that was begun.
+fn end_form(page: &mut Page, goal: Goal<'_>) -> Result<(), AllocError>
+    ensures { OnOk result (page_of page.new
+        ≡ bodies.form_ended (goal_test goal.entry) (page_of page.old)) }
 {
-    let form = Target::Kind(Kind::Form);
-    if !page.stack.reaches(Goal::Of(form), Bound::Nothing) {
+    if !page.stack.reaches(goal, Bound::Scope(Scope::General)) {
         return page.note(PageError::EndTagWithoutStart);
     }
-    if page.in_scope(Scope::General, form) {
-        page.close_implied(Target::Nothing)?;
-    }
-    close_current_form(page)
+    page.close_implied(Target::Nothing)?;
+    leave_form(page, goal)
+}
+
+/// Handles the end tag of a form.
+#[tactic(auto, unfolding(html_names_core::specs::Tables::known_tags))]
+fn close_form(page: &mut Page) -> Result<(), AllocError>
+    ensures { OnOk result (page_of page.new
+        ≡ bodies.form_closed (page_of page.old).form (page_of page.old)) }
+{
+    let Some(span) = page.form.take() else {
+        return page.note(PageError::EndTagWithoutStart);
+    };
+    end_form(page, Goal::Opened(&tag::form, span))
 }
 
 #[tactic(auto, unfolding(html_names_core::specs::Tables::known_tags))]

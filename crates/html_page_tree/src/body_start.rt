@@ -308,10 +308,7 @@ fn start_in_body(page: &mut Page, start: StartTag) -> Result<(), AllocError>
 fn is_nested(page: &Page, name: &TagName) -> bool
     ensures { result ≡ bodies.is_nested name.now.tag (page_of page.now) }
 {
-    name.is(Kind::Form)
-        && page
-            .stack
-            .reaches(Goal::Of(Target::Named(&name.tag)), Bound::Nothing)
+    name.is(Kind::Form) && page.form.is_some()
 }
 
 pub(crate) fn in_body_start(page: &mut Page, start: StartTag) -> Result<Option<Token>, AllocError>

@@ -2,16 +2,19 @@
 
 ghost use Rattle.std.specs.Prelude.{◌≡◌, OnOk, codes};
 ghost use Rattle.html_page_names.specs.PageNames.{of};
-ghost use Rattle.html_page_stack.specs.{Endings.{Turns}, PageViews.{page_of, start_of, target_test, token_of}};
+ghost use Rattle.html_page_stack.specs.{Endings.{Turns}, PageViews.{page_of, start_of, target_test, token_of}, Pages.{noted}};
+ghost use Rattle.html_page_stack.specs.declared.error.PageError.TheVariants.{UnexpectedInTable};
+ghost use Rattle.html_page_tree.specs.PageBodies as bodies;
 ghost use Rattle.html_page_tree.specs.PageTrees as trees;
 
 use crate::body_end::{in_body, in_body_end};
 use crate::body_start::{add_leaf, add_to_head, in_body_start, open, open_implied, repeat};
 use crate::head::{is_space, leave};
-use html_names_core::{HtmlTag, tag};
-use html_page_names::Kind;
+use html_dom_tree::Span;
+use html_names_core::{HtmlTag, attr, tag};
+use html_page_names::{Kind, is_same_lowered};
 use html_page_stack::{
-    Bound, Destination, Goal, Page, PageError, PageRefusal, Scope, StartTag, TagName, Target, Token,
+    Destination, Page, PageError, PageRefusal, Scope, StartTag, TagName, Target, Token,
 };
 use std::alloc::AllocError;
 
@@ -55,6 +58,40 @@ fn begins_part(name: &TagName) -> bool
     name.is(Kind::Caption) || name.is(Kind::Colgroup) || name.is(Kind::Section)
 }
 
+/// Returns whether the start tag is that of a hidden `input`.
+#[tactic(auto, unfolding(html_names_core::specs::Tables::known_attrs))]
+fn is_hidden_input(start: &StartTag) -> bool
+    ensures { result ≡ trees.is_hidden_input (start_of start.now) }
+{
+    start.name.is(Kind::Input)
+        && match start.attrs.get(&attr::type_) {
+            None => false,
+            Some(value) => is_same_lowered(value.as_str(), "hidden"),
+        }
+}
+
+/// Appends a `form` without content, unless another is begun.
+fn add_form(page: &mut Page, start: StartTag) -> Result<(), AllocError>
+    ensures { OnOk result (page_of page.new
+        ≡ trees.form_in_table (start_of start) (page_of page.old)) }
+{
+    if page.form.is_some() {
+        return page.note(PageError::NestedElement);
+    }
+    page.note(PageError::UnexpectedInTable)?;
+    add_leaf(page, start)?;
+    page.form = Some(Span(page.start as u64));
+    Ok(())
+}
+
+fn add_hidden_input(page: &mut Page, start: StartTag) -> Result<(), AllocError>
+    ensures { OnOk result (page_of page.new
+        ≡ bodies.leaf (start_of start) (noted UnexpectedInTable (page_of page.old))) }
+{
+    page.note(PageError::UnexpectedInTable)?;
+    add_leaf(page, start)
+}
+
 /// Handles a start tag in a table that begins none of its parts.
 fn other_start_in_table(page: &mut Page, start: StartTag) -> Result<Option<Token>, AllocError>
     ensures { Turns result (trees.in_table_other (start_of start) (page_of page.old))
@@ -72,6 +109,10 @@ fn other_start_in_table(page: &mut Page, start: StartTag) -> Result<Option<Token
         repeat(page, start)?;
     } else if name.is(Kind::Misplaced) {
         page.note(PageError::IgnoredStartTag)?;
+    } else if is_hidden_input(&start) {
+        add_hidden_input(page, start)?;
+    } else if name.is(Kind::Form) {
+        add_form(page, start)?;
     } else {
         page.refuse(PageRefusal::FosterParenting);
     }
@@ -105,14 +146,6 @@ fn end_in_table(page: &mut Page, name: TagName) -> Result<Option<Token>, AllocEr
     }
     if name.is(Kind::P) || name.is(Kind::Br) {
         page.refuse(PageRefusal::FosterParenting);
-        return Ok(None);
-    }
-    if name.is(Kind::Form)
-        && page
-            .stack
-            .reaches(Goal::Of(Target::Kind(Kind::Form)), Bound::Nothing)
-    {
-        page.refuse(PageRefusal::CrossedElement);
         return Ok(None);
     }
     if name.is(Kind::Root) {
