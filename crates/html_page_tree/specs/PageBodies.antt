@@ -47,9 +47,9 @@ foreign_name Svg name = with_capitals svg_names name
 foreign_name space name = name
 
 abbrev pub foreign_attr : Space → List ℕ → List ℕ
-foreign_attr Html attr = attr
 foreign_attr Svg attr = with_capitals svg_attrs attr
 foreign_attr MathMl attr = with_capitals math_attrs attr
+foreign_attr space attr = attr
 
 abbrev pub foreign_attrs : Space → List TextPair → List TextPair
 foreign_attrs space = map (λ a. (foreign_attr space a.0, a.1))

@@ -21,9 +21,9 @@ fn foreign_attr(alloc: Global, space: Space, attr: HtmlAttr) -> Result<HtmlAttr,
     ensures { IfOk result (λ made. made ≡ bodies.foreign_attr space attr) }
 {
     match space {
-        Space::Html => Ok(attr),
         Space::Svg => svg_attr(alloc, attr),
         Space::MathMl => math_attr(alloc, attr),
+        Space::Html | Space::Removed => Ok(attr),
     }
 }
 
@@ -32,7 +32,7 @@ fn foreign_name(alloc: Global, space: Space, tag: HtmlTag) -> Result<HtmlTag, Al
 {
     match space {
         Space::Svg => svg_tag(alloc, tag),
-        Space::Html | Space::MathMl => Ok(tag),
+        Space::Html | Space::MathMl | Space::Removed => Ok(tag),
     }
 }
 

@@ -1,7 +1,10 @@
 //! Tokens in a table (HTML Standard 13.2.6.4.9 to 13.2.6.4.15).
 
-ghost use Rattle.std.specs.Prelude.{◌≡◌, OnOk, codes};
-ghost use Rattle.html_page_names.specs.PageNames.{of};
+ghost use Rattle.std.specs.Prelude.{◌≡◌, IsTrue, OnOk, codes, option_map};
+ghost use Rattle.html_names_core.specs.Names.{is_ascii};
+ghost use Rattle.html_dom_tree.specs.{Attributes.{first}, Views.{attrs_view}};
+ghost use Rattle.html_page_names.specs.{ForeignNames.{lowered}, PageNames.{of}};
+ghost use Rattle.html_page_stack.specs.Formats.{has_value};
 ghost use Rattle.html_page_stack.specs.{Endings.{Turns}, PageViews.{page_of, start_of, target_test, token_of}, Pages.{noted}};
 ghost use Rattle.html_page_stack.specs.declared.error.PageError.TheVariants.{UnexpectedInTable};
 ghost use Rattle.html_page_tree.specs.PageBodies as bodies;
@@ -10,8 +13,8 @@ ghost use Rattle.html_page_tree.specs.PageTrees as trees;
 use crate::body_end::{in_body, in_body_end};
 use crate::body_start::{add_leaf, add_to_head, in_body_start, open, open_implied, repeat};
 use crate::head::{is_space, leave};
-use html_dom_tree::Span;
-use html_names_core::{HtmlTag, attr, tag};
+use html_dom_tree::{HtmlAttrs, Span};
+use html_names_core::{HtmlAttr, HtmlTag, attr, tag};
 use html_page_names::{Kind, is_same_lowered};
 use html_page_stack::{
     Destination, Page, PageError, PageRefusal, Scope, StartTag, TagName, Target, Token,
@@ -58,16 +61,24 @@ fn begins_part(name: &TagName) -> bool
     name.is(Kind::Caption) || name.is(Kind::Colgroup) || name.is(Kind::Section)
 }
 
+/// Returns whether the first value of an attribute is that ASCII word, in any ASCII case.
+fn is_word(attrs: &HtmlAttrs, attr: &HtmlAttr, word: &'static str) -> bool
+    requires { IsTrue (is_ascii word.now) }
+    ensures { result ≡ has_value (option_map lowered (first (attrs_view attrs.now) attr.now))
+        word.now }
+{
+    match attrs.get(attr) {
+        None => false,
+        Some(value) => is_same_lowered(value.as_str(), word),
+    }
+}
+
 /// Returns whether the start tag is that of a hidden `input`.
 #[tactic(auto, unfolding(html_names_core::specs::Tables::known_attrs))]
 fn is_hidden_input(start: &StartTag) -> bool
     ensures { result ≡ trees.is_hidden_input (start_of start.now) }
 {
-    start.name.is(Kind::Input)
-        && match start.attrs.get(&attr::type_) {
-            None => false,
-            Some(value) => is_same_lowered(value.as_str(), "hidden"),
-        }
+    start.name.is(Kind::Input) && is_word(&start.attrs, &attr::type_, "hidden")
 }
 
 /// Appends a `form` without content, unless another is begun.

@@ -10,7 +10,7 @@ use Rattle.html_page_nesting.specs.declared.reading.Reading.TheVariants as readi
 use Rattle.html_page_names.specs.PageNames.{of}
 use Rattle.html_page_names.specs.declared.kind.Kind.TheVariants as kind
 use Rattle.html_page_stack.specs.{Pages.{StartTag, Start}, declared.modes.{Mode.{Mode}, Scope.TheVariants.{General, Button}}}
-use Rattle.html_page_stack.specs.OpenElements.{OpenElement, at, bounds, bounds_general, current_space, in_scope, is_at, is_foreign_bound, has_item, holds_html_in, holds_text_in, mode, named_mode, says_html}
+use Rattle.html_page_stack.specs.OpenElements.{OpenElement, at, bounds, bounds_general, current_space, in_scope, is_at, is_foreign_bound, has_item, holds_html_in, holds_text_in, is_foreign, is_removed, mode, named_mode, says_html}
 use Rattle.html_page_stack.specs.OpenElements as open_elements
 use Rattle.html_page_stack.specs.declared.modes.Space.TheVariants as spaces
 use Rattle.html_page_tree.specs.PageTrees.{holds_svg_in, is_foreign_token}
@@ -29,7 +29,25 @@ point_in : (s : Space) (name : List ℕ) → is_foreign_bound (open_space s) nam
 point_in Html name = refl
 point_in s name = refl
 
+not_removed : (s : Space) → is_removed (open_space s) ≡ false
+not_removed Html = refl
+not_removed s = refl
+
+foreign_space_in : (s : Space) → nest.is_html s ≡ false → is_foreign (open_space s) ≡ true
+foreign_space_in Html h = sym h
+foreign_space_in s h = refl
+
 -- one element
+
+pub space_foreign : (a : Ancestor) (o : OpenElement) → IsAlike a o →
+    nest.is_html a.space ≡ false → is_foreign o.space ≡ true
+space_foreign a o s h = ap is_foreign s.space ∙ foreign_space_in a.space h
+
+-- the innermost of open elements was not removed
+pub never_removed : (above : List Ancestor) (o : OpenElement) (os : List OpenElement) →
+    AreAlike above (o ∷ os) → is_removed o.space ≡ false
+never_removed [] o os s = absurd s
+never_removed (a ∷ above) o os s = ap is_removed s.0.space ∙ not_removed a.space
 
 pub space_html : (a : Ancestor) (o : OpenElement) → IsAlike a o →
     open_elements.is_html o.space ≡ nest.is_html a.space

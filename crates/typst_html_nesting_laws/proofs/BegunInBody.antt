@@ -1,5 +1,5 @@
 -- The start tag of an element that stays in a body opens it, and does nothing else.
-use Rattle.std.{proofs.Common.{◌≡◌, ℕ, true, false, not, ◌&&◌, List, refl, ap}, specs.Prelude.{None}}
+use Rattle.std.{proofs.Common.{◌≡◌, ℕ, true, false, not, ◌&&◌, List, refl, ap, ◌∙◌}, specs.Prelude.{None, is_some}}
 use Rattle.std.proofs.lemmas.Bool.{and_left, and_right, false≢true, or_left, or_parts}
 use Rattle.html_names_core.specs.Kinds.{is_void}
 use Rattle.html_page_nesting.specs.{Ancestors.{Ancestor}, Contents.{has_unread_end}, NestingRules.{body_misnesting}}
@@ -10,7 +10,7 @@ use Rattle.html_page_names.specs.declared.kind.Kind.TheVariants as kind
 use Rattle.html_page_stack.specs.{Pages.{Page, Start, StartTag, Taken}, declared.modes.Mode.{Mode, TheVariants.{InBody, InCaption, InCell}}}
 use Rattle.html_page_tree.specs.{PageBodies.{element_begun, in_body_start, inserted, is_nested}, PageTrees.{by_mode}}
 use Rattle.typst_html_nesting_laws.proofs.{Branches.{either, first_false, if_none, second_false, skip, decide}, Ways.{IsCalm, is_body_mode}}
-use Rattle.typst_html_nesting_laws.proofs.ClosedBefore.{ClosesNone, closes_none, none_same_open, nothing_closed, nothing_formatted, select_none}
+use Rattle.typst_html_nesting_laws.proofs.ClosedBefore.{ClosesNone, closes_none, no_form, nothing_closed, nothing_formatted, select_none}
 use Rattle.typst_html_nesting_laws.proofs.KindFacts.{fails_of, names, outside_of}
 use Rattle.typst_html_nesting_laws.proofs.Opened.{Opens, head_begun, leaf_begun, not_void, one_of, void_of}
 
@@ -51,9 +51,8 @@ module _ (tag : StartTag) (above : List Ancestor) (p q : Page) (calm : IsCalm ab
   n = tag.name
 
   form_none : is_nested n p ≡ false
-  form_none = decide (of kind.Form n)
-      (λ h. and_right _ _ (none_same_open kind.Form n above p.stack h calm.alike calm.plain
-      (second_false stays.form h))) (and_left _ _)
+  form_none = decide (of kind.Form n) (λ h. and_right _ _ (ap is_some (calm.form
+      ∙ no_form above p.stack calm.alike calm.plain (second_false stays.form h)))) (and_left _ _)
 
   -- the element is opened
   insert_taken : of kind.HeadContent n ≡ false → inserted tag p ≡ one_of (is_void n) q

@@ -9,7 +9,7 @@ use Rattle.html_page_nesting.specs.Ancestors as nest
 use Rattle.html_page_nesting.specs.declared.misnesting.Misnesting.TheVariants as why
 use Rattle.html_page_names.specs.{PageNames.{is, kind_names, of}, declared.kind.Kind.{Kind}}
 use Rattle.html_page_names.specs.declared.kind.Kind.TheVariants as kind
-use Rattle.html_page_stack.specs.OpenElements.{OpenElement, bounds, has, in_scope, is_at, reaches}
+use Rattle.html_page_stack.specs.OpenElements.{OpenElement, bounds, in_scope, is_at, reaches}
 use Rattle.html_page_stack.specs.Pages.{Page, closed_while, implied_closed, no_name, reconstructed}
 use Rattle.html_page_stack.specs.declared.modes.Scope.TheVariants.{General}
 use Rattle.html_page_stack.specs.OpenElements as elements
@@ -18,7 +18,7 @@ use Rattle.html_names_core.proofs.Basics.{bytes_eq-same}
 use Rattle.typst_html_nesting_laws.proofs.Alike.{at_is, in_button_scope_is, in_scope_is, marker_is, none_item, of_is, scope_is, unreached}
 use Rattle.typst_html_nesting_laws.proofs.Branches.{either, first_false, if_none, second_false, skip, decide}
 use Rattle.typst_html_nesting_laws.proofs.{KindFacts.{AllPass, names, passes_of}, ListedFormats.{none_closed, none_named}}
-use Rattle.typst_html_nesting_laws.proofs.Ways.{AreAlike, HaveNoTemplate, IsAlike, IsCalm}
+use Rattle.typst_html_nesting_laws.proofs.Ways.{AreAlike, HaveNoTemplate, IsAlike, IsCalm, form_of}
 
 -- a search for elements of a name, where there are none of its kind
 
@@ -35,16 +35,17 @@ none_same_scoped k n above os it s plain h =
     unreached (nest.is_of (of k)) bounds_scope (elements.is_of (is n)) (bounds General)
     (λ a o t e i. same_kind k n a o it t i) (λ a o t e i. scope_is a o t ∙ i) above os s plain h
 
-pub none_same_open : (k : Kind) (n : List ℕ) (above : List Ancestor) (os : List OpenElement) →
-    of k n ≡ true → AreAlike above os → HaveNoTemplate above →
-    nest.reaches (nest.is_of (of k)) is_template above ≡ false → has (is n) os ≡ false
-none_same_open k n above os it s plain h =
-    unreached (nest.is_of (of k)) is_template (elements.is_of (is n)) (λ o. false)
-    (λ a o t e i. same_kind k n a o it t i) unbound above os s plain h where
-      unbound : (a : Ancestor) (o : OpenElement) → IsAlike a o →
-          of kind.Template a.head.name ≡ false → is_template a ≡ true → false ≡ true
-      unbound a o t k e =
-          sym k ∙ (and_parts (nest.is_html a.space) (of kind.Template a.head.name) e).1
+-- no form is begun where none is open
+pub no_form : (above : List Ancestor) (os : List OpenElement) → AreAlike above os →
+    HaveNoTemplate above → (open_of above).form ≡ false → form_of os ≡ None
+no_form [] [] s plain h = refl
+no_form (a ∷ above) (o ∷ os) s plain h =
+    let both = or_parts _ _ h in
+    let around = second_false both.1 (ap not (template a plain.0)) in
+    skip _ (of_is (of kind.Form) a o s.0 ∙ both.0) (no_form above os s.1 plain.1 around) where
+      template : (a : Ancestor) → of kind.Template a.head.name ≡ false → is_template a ≡ false
+      template a t = and_right (nest.is_html a.space) (of kind.Template a.head.name) t
+no_form above os s plain h = absurd s
 
 none_same_active : (k : Kind) (n : List ℕ) (above : List Ancestor) (os : List OpenElement) →
     of k n ≡ true → AreAlike above os → HaveNoTemplate above →

@@ -1,7 +1,7 @@
 -- An end tag of the current node's name closes it, where nothing is misnested.
-use Rattle.std.proofs.Common.{◌≡◌, ℕ, Bool, true, false, not, ◌&&◌, ◌||◌, List, ◌∷◌, inl, inr, refl, sym, ap, subst, ◌∙◌}
-use Rattle.std.proofs.lemmas.{Bool.{and_from, and_parts, false≢true, or_from, or_left, or_parts, or_right}, Slice.Eq.{bytes_eq-Decides}}
-use Rattle.std.specs.Prelude.{None}
+use Rattle.std.proofs.Common.{◌≡◌, ℕ, Bool, true, false, not, ◌&&◌, ◌||◌, List, [], ◌∷◌, inl, inr, refl, sym, ap, subst, ◌∙◌}
+use Rattle.std.proofs.lemmas.{Bool.{and_from, and_parts, eq-eqb, false≢true, or_from, or_left, or_parts, or_right}, Slice.Eq.{bytes_eq-Decides}}
+use Rattle.std.specs.Prelude.{None, Option, codes}
 use Rattle.html_names_core.specs.Kinds.{is_void}
 use Rattle.html_dom_tree.specs.Tree.{Head, NodesView}
 use Rattle.html_page_nesting.specs.{Ancestors.{Ancestor, ancestor, place_of, reading_of, space_of}, NestingRules.{element_misnesting}}
@@ -11,19 +11,22 @@ use Rattle.html_page_nesting.specs.Ancestors as nest
 use Rattle.html_page_nesting.specs.declared.reading.Place.TheVariants as place
 use Rattle.html_page_names.specs.{ForeignNames.{keeps_case, lowered}, PageNames.{is, kind_names, of}, declared.kind.Kind.{Kind}}
 use Rattle.html_page_names.specs.declared.kind.Kind.TheVariants as kind
-use Rattle.html_page_stack.specs.OpenElements.{OpenElement, bounds, is_at, is_foreign_of, is_html, mode, named_mode}
-use Rattle.html_page_stack.specs.Pages.{Page, End, closed, closed_in, closed_to_goal, no_name, Taken}
+use Rattle.html_page_stack.specs.Formats.{after_current}
+use Rattle.html_page_stack.specs.OpenElements.{OpenElement, bounds, is_at, is_foreign, is_foreign_of, is_html, is_opened, mode, named_mode, uncovered, with_text, without_current}
+use Rattle.html_page_stack.specs.Pages.{Page, End, closed, closed_around, closed_in, closed_to_goal, form_after, no_name, noted_if, Taken}
+use Rattle.html_page_stack.specs.declared.error.PageError.TheVariants as error
 use Rattle.html_page_stack.specs.declared.modes.{Mode.{Mode}, Scope.{Scope}}
 use Rattle.html_page_stack.specs.declared.modes.Mode.TheVariants.{InHead, InHeadNoscript, InBody, InText, InTable, InCaption, InColumns, InSection, InRow, InCell}
 use Rattle.html_page_stack.specs.declared.modes.Scope.TheVariants as scope
-use Rattle.html_page_tree.specs.PageBodies.{adopted, element_ended, form_closed}
+use Rattle.html_page_tree.specs.PageBodies.{adopted, element_ended, form_closed, form_ended, form_left}
 use Rattle.html_page_tree.specs.PageTrees.{by_mode, foreign_closed, in_foreign_end, part_closed, token_read, turn}
 use Rattle.html_page_tree.proofs.OwnEnds as own
-use Rattle.typst_html_nesting_laws.proofs.{Alike.{space_html}, Branches.{either, pick, decide, skip}, Capitals.{fails_small}}
+use Rattle.typst_html_nesting_laws.proofs.{Alike.{space_foreign, space_html}, Branches.{either, pick, decide, skip}, Capitals.{fails_small}}
 use Rattle.typst_html_nesting_laws.proofs.{KeptTags.{small_html}, ListedFormats.{IsInOrder, unlisted_or_last}, Modes.{brings, own_mode}}
-use Rattle.typst_html_nesting_laws.proofs.{KindFacts.{AllFail, fails_of, names, outside_of}, Rules.{foreign_fits, tag_fits}}
+use Rattle.typst_html_nesting_laws.proofs.Closed.{closed_is}
+use Rattle.typst_html_nesting_laws.proofs.{KindFacts.{AllFail, fails_of, names, outside_of, passes_of}, Rules.{foreign_fits, tag_fits}}
 use Rattle.typst_html_nesting_laws.proofs.{Stands.{Stands, html_stands, parts}, Steady.{around_steady}, Turns.{turn_taken}}
-use Rattle.typst_html_nesting_laws.proofs.Ways.{AreAlike, IsAlike, IsCalm, IsSteady, ends_at_once, is_body_mode, is_page_place}
+use Rattle.typst_html_nesting_laws.proofs.Ways.{AreAlike, AreBegun, IsAlike, IsCalm, IsSteady, ends_at_once, form_of, is_body_mode, is_page_place}
 
 -- the current node, an element of HTML
 module _ (p : Page) (o : OpenElement) (os : List OpenElement) (html : is_html o.space ≡ true) where
@@ -41,13 +44,43 @@ module _ (p : Page) (o : OpenElement) (os : List OpenElement) (html : is_html o.
       of kind.Implied n ≡ false
   unimplied k none h = fails_of (of kind.Implied) k n none h
 
-  end_form : of kind.Form n ≡ true → form_closed q ≡ closed true q
-  end_form h = rw (
-    own.reached p o os html (of kind.Form) (λ e. false) h,
-    own.reached p o os html (of kind.Form) (bounds scope.General) h,
-    own.none_implied_at_all p o os html (unimplied kind.Form (unfold names in refl) h),
-    own.at_name p o os html (of kind.Form) h,
-  ) refl
+  -- the form that is begun is the current node
+  module _ (h : of kind.Form n ≡ true) where
+    abbrev goal : OpenElement → Bool
+    goal = is_opened (codes "form") o.head.span
+
+    here : goal o ≡ true
+    here = and_from _ _ (and_from _ _ html (passes_of (is (codes "form")) kind.Form n
+        (unfold names in refl) h)) (eq-eqb o.head.span o.head.span refl)
+
+    at_form : is_at (of kind.Form) (o ∷ os) ≡ true
+    at_form = own.at_name p o os html (of kind.Form) h
+
+    abbrev behind : Page
+    behind = record q { form = None }
+
+    form_ends : form_ended goal behind ≡ closed true behind
+    form_ends = pick _ (or_left (goal o) _ here) (ap (form_left goal)
+        (own.none_implied_at_all (record p { form = None }) o os html
+        (unimplied kind.Form (unfold names in refl) h))
+        ∙ (ap (λ b. closed_around goal (noted_if (not b) error.EndTagOverOpenElements behind)) here
+        ∙ pick _ here refl))
+
+    forgotten : (form : Option ℕ) → form_after true (o ∷ os) form ≡ None
+    forgotten form = pick _ (and_from _ _ at_form refl) refl
+
+    abbrev made : Option ℕ → Page
+    made form = record p {
+      text = [];
+      stack = uncovered (without_current (with_text p.text o ∷ os));
+      formats = after_current true (o ∷ os) p.formats;
+      form = form;
+    }
+
+    end_form : p.form ≡ form_of (o ∷ os) → form_closed p.form q ≡ closed true q
+    end_form begun = ap (λ form. form_closed form q) (begun ∙ pick _ at_form refl)
+        ∙ (form_ends ∙ (closed_is o os behind
+        ∙ (ap made (forgotten None ∙ sym (forgotten p.form)) ∙ sym (closed_is o os q))))
 
   end_item : (s : Scope) → closed_in s (is n) (is n) (is n) q ≡ closed true q
   end_item s = own.within p o os html s (is n) (is n) named (own.but_named p o os html (is n) named)
@@ -66,9 +99,9 @@ module _ (p : Page) (o : OpenElement) (os : List OpenElement) (html : is_html o.
         (or_right (not (is_at (of kind.Formatting) (o ∷ os))) _ last)
   ]
 
-  end_element : IsInOrder (o ∷ os) p.formats → element_ended n q ≡ closed true q
+  end_element : AreBegun (o ∷ os) p → element_ended n q ≡ closed true q
   end_element l =
-      either (of kind.Form n) end_form (λ f.
+      either (of kind.Form n) (λ h. end_form h l.form) (λ f.
       either (of kind.P n) (own.end_p p o os html) (λ x.
       either (of kind.ListItem n) (λ h. end_item scope.ListItem) (λ i.
       either (of kind.DescriptionPart n) (λ h. end_item scope.General) (λ d.
@@ -77,7 +110,7 @@ module _ (p : Page) (o : OpenElement) (os : List OpenElement) (html : is_html o.
       either (of kind.ClosesInScope n)
       (λ h. end_scoped (is n) named (unimplied kind.ClosesInScope (unfold names in refl) h)) (λ c.
       either (of kind.Formatting n)
-      (λ h. end_formatting h l) (λ f. own.end_other p o os html)))))))
+      (λ h. end_formatting h l.ordered) (λ f. own.end_other p o os html)))))))
 
   part_ended : (test : List ℕ → Bool) → test n ≡ true → of kind.Implied n ≡ false →
       part_closed test q ≡ closed true q
@@ -109,7 +142,7 @@ module _ (p : Page) (o : OpenElement) (os : List OpenElement) (html : is_html o.
   -- in the mode of the body around it, where it is no part of a table
   end_around : (m : Mode) → is_body_mode m ≡ true → of kind.TablePart n ≡ false →
       of kind.Table n ≡ false → of kind.Root n ≡ false → of kind.Br n ≡ false →
-      IsInOrder (o ∷ os) p.formats → by_mode m (End n) q ≡ Taken (closed true q)
+      AreBegun (o ∷ os) p → by_mode m (End n) q ≡ Taken (closed true q)
   end_around InBody h part table root br l = rw (root, br) (ap Taken (end_element l))
   end_around InCaption h part table root br l =
       let x = parts n os part in
@@ -120,7 +153,7 @@ module _ (p : Page) (o : OpenElement) (os : List OpenElement) (html : is_html o.
   end_around _ h part table root br l = absurd (false≢true h)
 
   -- either way
-  end_html : (l : Place) → is_void n ≡ false → IsInOrder (o ∷ os) p.formats → Stands n os l →
+  end_html : (l : Place) → is_void n ≡ false → AreBegun (o ∷ os) p → Stands n os l →
       (l ≡ place.Body → named_mode n os ≡ None → is_body_mode (mode (o ∷ os)) ≡ true) →
       by_mode (mode q.stack) (End n) q ≡ Taken (closed true q)
   end_html l filled kept (inl s) steady =
@@ -130,7 +163,7 @@ module _ (p : Page) (o : OpenElement) (os : List OpenElement) (html : is_html o.
 
 -- the current node, an element of SVG or MathML
 module _ (p : Page) (o : OpenElement) (os : List OpenElement)
-    (foreign : is_html o.space ≡ false) where
+    (foreign : is_foreign o.space ≡ true) where
   abbrev m : List ℕ
   m = lowered o.head.name
 
@@ -140,7 +173,7 @@ module _ (p : Page) (o : OpenElement) (os : List OpenElement)
   end_foreign : (of kind.Br m || of kind.P m) ≡ false → in_foreign_end m r ≡ Taken (closed true r)
   end_foreign h =
       let goal : is_foreign_of m o ≡ true =
-      and_from _ _ (ap not foreign) ((bytes_eq-Decides m m).1 refl) in
+      and_from _ _ foreign ((bytes_eq-Decides m m).1 refl) in
       let closes : closed_to_goal (is_foreign_of m) r ≡ closed true r = rw goal refl in
       let ended : foreign_closed m r ≡ closed true r = rw goal closes in
       skip _ h (pick _ (or_left (is_foreign_of m o) _ goal) (ap Taken ended))
@@ -163,7 +196,7 @@ foreign_unbroken s n h b = fails_small breaks (capital_tags s) n h (capitals_unb
 
 module _ (above : List Ancestor) (h : Head) (kids : NodesView) (p : Page) (o : OpenElement)
     (os : List OpenElement) (same : IsAlike (ancestor h above) o)
-    (kept : IsInOrder (o ∷ os) p.formats) (page : is_page_place (place_of above) ≡ false)
+    (kept : AreBegun (o ∷ os) p) (page : is_page_place (place_of above) ≡ false)
     (rules : element_misnesting h kids (surroundings_of above) ≡ None) where
   abbrev s : Space
   s = space_of (reading_of above) h.name
@@ -191,7 +224,7 @@ module _ (above : List Ancestor) (h : Head) (kids : NodesView) (p : Page) (o : O
   turn_foreign foreign =
       let here : is_html o.space ≡ false = space_html _ _ same ∙ foreign in
       ap (λ m. turn (End (lowered m)) w) (sym same.name)
-      ∙ pick _ (ap not here) (end_foreign p o os here
+      ∙ pick _ (ap not here) (end_foreign p o os (space_foreign _ _ same foreign)
       (subst (λ m. (of kind.Br (lowered m) || of kind.P (lowered m)) ≡ false) (sym same.name)
       (foreign_unbroken s h.name keeps
       (foreign_fits h kids (surroundings_of above) rules foreign).unbroken)))
@@ -205,7 +238,8 @@ pub end_taken : (above : List Ancestor) (h : Head) (kids : NodesView) (p : Page)
 end_taken above h kids p o os e calm steady page rules once =
     let alike : AreAlike (ancestor h above ∷ above) (o ∷ os) =
     subst (AreAlike (ancestor h above ∷ above)) e calm.alike in
-    let kept = subst (λ s. IsInOrder s p.formats) e calm.ordered in
+    let kept : AreBegun (o ∷ os) p = subst (λ s. AreBegun s p) e
+    (record { ordered = calm.ordered; form = calm.form }) in
     subst (λ s. token_read (End (lowered h.name)) (record p { stack = s })
     ≡ closed true (record p { stack = s })) (sym e)
     (turn_taken (End (lowered h.name)) (record p { stack = o ∷ os })

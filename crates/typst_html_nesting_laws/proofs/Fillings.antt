@@ -1,7 +1,7 @@
 -- An element is opened, filled and closed: what stands in it leads to a page with one child more.
-use Rattle.std.proofs.Common.{◌≡◌, ℕ, ◌+◌, Bool, true, false, ◌&&◌, ◌||◌, List, [], ◌∷◌, ◌++◌, codes, refl, sym, ap, ◌∙◌, arith}
-use Rattle.std.proofs.lemmas.Bool.{and_from, and_parts, and_right, both_ways, false_from_ne_true, false≢true, not_from_false}
-use Rattle.std.specs.{List.{fold}, Prelude.{if◌then◌else◌}}
+use Rattle.std.proofs.Common.{◌≡◌, ℕ, ◌+◌, Bool, true, false, ◌&&◌, ◌||◌, List, [], ◌∷◌, ◌++◌, codes, refl, sym, ap, ◌∙◌, arith, None}
+use Rattle.std.proofs.lemmas.Bool.{and_from, and_left, and_parts, and_right, both_ways, false_from_ne_true, false≢true, not_from_false}
+use Rattle.std.specs.{List.{fold}, Prelude.{if◌then◌else◌, Option}}
 use Rattle.html_names_core.specs.{Characters.{IsOf, all, is_tag_char, is_text_char}, Kinds.{is_escapable_raw, is_raw}}
 use Rattle.html_dom_tree.specs.PlainTree.{branch, Plains, plain, put_words, nodes_normal}
 use Rattle.html_dom_tree.specs.Tree.{Head, NodeView, text_node, element_node, NodesView, none, node, with_last}
@@ -18,13 +18,13 @@ use Rattle.typst_html_encode.specs.declared.fault.ExportFault.TheVariants as fau
 use Rattle.html_text.specs.ClosingTags.{holds_closing}
 use Rattle.html_page_names.specs.{ForeignNames.{lowered}, PageNames.{of}}
 use Rattle.html_page_names.specs.declared.kind.Kind.TheVariants as kind
-use Rattle.html_page_stack.specs.{Formats.{Formats, after_current}, Pages.{Page, StartTag, End, Start, closed}}
-use Rattle.html_page_stack.specs.OpenElements.{OpenElement, is_at, is_of, placed, with_text}
+use Rattle.html_page_stack.specs.{Formats.{Formats, after_current}, Pages.{Page, StartTag, End, Start, closed, form_after}}
+use Rattle.html_page_stack.specs.OpenElements.{OpenElement, is_at, is_of, is_removed, placed, uncovered, with_text}
 use Rattle.html_page_stack.specs.OpenElements as open_elements
 use Rattle.html_page_stack.specs.declared.modes.Space.TheVariants as spaces
 use Rattle.html_page_tree.specs.PageTrees.{token_read}
 use Rattle.html_page_read.specs.{PageReading.{run}, PageTokens.{PageReader}}
-use Rattle.typst_html_nesting_laws.proofs.{Alike.{html_is, html_space}, Branches.{second_false, of_two}, Closed.{closed_is}}
+use Rattle.typst_html_nesting_laws.proofs.{Alike.{html_is, html_space}, Branches.{decide, of_two, pick, second_false, skip}, Closed.{closed_is, still_open}}
 use Rattle.typst_html_nesting_laws.proofs.{EndTags.{end_emits}, RawTexts.{IsWithin, escapable_emits, raw_emits}}
 use Rattle.typst_html_nesting_laws.proofs.Forms.{AreGathered, IsFilled, Moment, are_texts, filled_normal, later, on, put_last, put_nodes, put_texted, put_texts, texted_children, texts_by_faults, with_text_is}
 use Rattle.typst_html_nesting_laws.proofs.InnerTexts.{feed_is, first_feed, none_closes, plain_texts, plains_written, states_of, texts_clean, texts_good, texts_written}
@@ -83,24 +83,42 @@ module _ (above : List Ancestor) (h : Head) (p : Page) (o : OpenElement) (os : L
   with_child children =
       with_last (texted_children o.head.span c t) (element_node opened.head children)
 
-  abbrev page_of : (inner outer : OpenElement) → Moment → Page
-  page_of x y n = record p {
+  -- the form behind its end tag
+  abbrev pub last_form : Option ℕ
+  last_form = form_after true (opened ∷ around) opened_page.form
+
+  -- it is that before its start tag, unless it is a form in another
+  pub form_back : (is_of (of kind.Form) opened ≡ true → p.form ≡ None) → last_form ≡ p.form
+  form_back alone = decide (is_of (of kind.Form) opened)
+      (λ h. pick _ (and_from _ _ h refl) (sym (alone h)))
+      (λ h. skip _ (and_left _ _ h) (skip _ h refl))
+
+  abbrev page_of : List OpenElement → Option ℕ → Moment → Page
+  page_of stack form n = record p {
     text = [];
-    stack = placed x y ∷ os;
+    stack = stack;
     start = n.start;
     formats = n.formats;
+    form = form;
   }
 
-  pub closes : (children : NodesView) (words : List ℕ) (n : Moment) →
-      closed true (on opened_page opened around children words n)
+  pub closes : is_removed o.space ≡ false → last_form ≡ p.form → (children : NodesView)
+      (words : List ℕ) (n : Moment) → closed true (on opened_page opened around children words n)
       ≡ on p o os (with_child (texted_children m.start children words)) [] (closed_moment n)
-  closes children words n =
+  closes stays form children words n =
       let y : OpenElement = with_text t (record o { children = c }) in
       let x : OpenElement = record opened { children = texted_children m.start children words } in
+      let z : OpenElement = record o {
+        children = with_child (texted_children m.start children words);
+      } in
+      let behind = closed_moment n in
       closed_is (record opened { children = children }) around
       (on opened_page opened around children words n)
-      ∙ (ap (λ w. page_of w y (closed_moment n)) (with_text_is words opened children)
-      ∙ ap (λ w. page_of x w (closed_moment n)) (with_text_is t o c))
+      ∙ (ap (λ w. page_of (uncovered (placed w y ∷ os)) last_form behind)
+      (with_text_is words opened children)
+      ∙ (ap (λ w. page_of (uncovered (placed x w ∷ os)) last_form behind) (with_text_is t o c)
+      ∙ (ap (λ s. page_of s last_form behind) (still_open z os stays)
+      ∙ ap (λ f. page_of (z ∷ os) f behind) form)))
 
   pub child_normal : (children kids : NodesView) → nodes_normal children ≡ nodes_normal kids →
       (k : Plains) → put_nodes (with_child children) k
@@ -111,15 +129,15 @@ module _ (above : List Ancestor) (h : Head) (p : Page) (o : OpenElement) (os : L
       ∙ put_texted o.head.span c t (plain (branch h.name h.attrs (nodes_normal kids)) k))
 
   -- from the start tag to the end tag
-  abbrev pub element_closed : (q behind_start : PageReader) (rest : List ℕ) (kids : NodesView) →
-      run q (start_tag_text h) ≡ behind_start →
+  abbrev pub element_closed : is_removed o.space ≡ false → last_form ≡ p.form →
+      (q behind_start : PageReader) (rest : List ℕ) (kids : NodesView) → run q (start_tag_text h) ≡ behind_start →
       IsFilled behind_start rest h.name kids opened_page opened around →
       ((children : NodesView) (words : List ℕ) (n : Moment) →
       IsInOrder (opened ∷ around) n.formats →
       token_read (End (lowered h.name)) (on opened_page opened around children words n)
       ≡ closed true (on opened_page opened around children words n)) →
       AreGathered q (start_tag_text h ++ rest) false p o os c t (node (element_node h kids) none)
-  element_closed q behind_start rest kids starts f ends =
+  element_closed stays form q behind_start rest kids starts f ends =
       let kept = texted_children m.start f.children f.words in
       let after : Page = on p o os (with_child kept) [] (closed_moment f.moment) in
       record {
@@ -129,7 +147,7 @@ module _ (above : List Ancestor) (h : Head) (p : Page) (o : OpenElement) (os : L
         moment = closed_moment f.moment;
         ordered = order_behind f.moment.formats f.ordered;
         is = run_on q behind_start _ (start_tag_text h) rest starts (f.is after
-            (ends f.children f.words f.moment f.ordered ∙ closes f.children f.words f.moment));
+            (ends f.children f.words f.moment f.ordered ∙ closes stays form f.children f.words f.moment));
         same = child_normal kept kids (filled_normal m.start f);
       }
 

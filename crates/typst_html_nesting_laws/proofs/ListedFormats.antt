@@ -103,11 +103,12 @@ order_opened o os fs h = decide (is_of (of kind.Marker) o) (λ m. marked fs m (p
 pub order_closed : (o : OpenElement) (os : List OpenElement) (fs : Formats) →
     IsInOrder (o ∷ os) fs → IsInOrder os (after_current true (o ∷ os) fs)
 order_closed o os fs (marked gs m e rest) =
-    subst (IsInOrder os) (sym (pick _ m (ap before_marker e))) rest
-order_closed o os fs (listed f gs m k its e rest) = subst (IsInOrder os) (sym (skip _ m
+    subst (IsInOrder os) (sym (pick _ (and_from _ _ m refl) (ap before_marker e))) rest
+order_closed o os fs (listed f gs m k its e rest) =
+    subst (IsInOrder os) (sym (skip _ (and_left _ _ m)
     (pick _ (and_from _ _ k refl) (ap (without_entry (is_entry_of o (length os)) 0) e
     ∙ pick _ its refl)))) rest
-order_closed o os fs (passed m rest) = subst (IsInOrder os) (sym (skip _ m
+order_closed o os fs (passed m rest) = subst (IsInOrder os) (sym (skip _ (and_left _ _ m)
     (either (is_of (of kind.Formatting) o && true)
     (λ k. kept o (length os) os fs rest (omega arith)) (λ k. refl)))) rest
 

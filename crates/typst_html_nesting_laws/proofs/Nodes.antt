@@ -17,21 +17,21 @@ use Rattle.typst_html_encode.specs.ReadingBack.{HeadIsNamed, NodeIsNamed, NodesA
 use Rattle.typst_html_encode.specs.Text.{escaped_text, escaping_of, node_text, nodes_raw_text, nodes_text, start_tag_text}
 use Rattle.html_page_names.specs.{ForeignNames.{lowered}, PageNames.{of}}
 use Rattle.html_page_names.specs.declared.kind.Kind.TheVariants as kind
-use Rattle.html_page_stack.specs.{OpenElements.{OpenElement, is_of}, Pages.{Page, End, Start, closed}}
+use Rattle.html_page_stack.specs.{OpenElements.{OpenElement, is_of, is_removed}, Pages.{Page, End, Start, closed}}
 use Rattle.html_page_tree.specs.PageTrees.{token_read}
 use Rattle.html_page_read.specs.{PageReading.{run}, PageTokens.{PageReader}}
 use Rattle.html_page_stack.specs.Pages.{most_attrs}
-use Rattle.typst_html_nesting_laws.proofs.{Alike.{html_is, html_space}, Begun.{start_taken}, Branches.{else_none, if_none, decide}}
-use Rattle.typst_html_nesting_laws.proofs.{Closed.{calm_begun}, Ended.{end_taken}, InnerTexts.{all_pass, no_return, no_returns}}
-use Rattle.typst_html_nesting_laws.proofs.Fillings.{KidsAreGathered, alone_filled, around, behind_data, child_normal, closed_moment, closes, element_closed, foreign_filled, fresh_behind, html_filled, filling, inside_faults, opened, opened_moment, opened_page, order_behind, with_child}
+use Rattle.typst_html_nesting_laws.proofs.{Alike.{html_is, html_space, never_removed}, Begun.{start_taken}, Branches.{else_none, if_none, decide}}
+use Rattle.typst_html_nesting_laws.proofs.{Closed.{calm_begun}, ClosedBefore.{no_form}, Ended.{end_taken}, InnerTexts.{all_pass, no_return, no_returns}}
+use Rattle.typst_html_nesting_laws.proofs.Fillings.{KidsAreGathered, alone_filled, around, behind_data, child_normal, closed_moment, closes, element_closed, foreign_filled, form_back, fresh_behind, html_filled, filling, inside_faults, last_form, opened, opened_moment, opened_page, order_behind, with_child}
 use Rattle.typst_html_nesting_laws.proofs.Forms.{AreGathered, IsFilled, Moment, gathered_on, later, no_children, on, put_nodes, texted_children, with_text_is}
 use Rattle.typst_html_nesting_laws.proofs.{KeptTags.{lowered_differ, small_html}, KindFacts.{escapable_of, once_keeps, raw_of}}
 use Rattle.typst_html_nesting_laws.proofs.ListedFormats.{IsInOrder}
 use Rattle.typst_html_nesting_laws.proofs.{Readers.{Emits, Takes, behind, data_at, written_tag}, StartTags.{start_emits}}
-use Rattle.typst_html_nesting_laws.proofs.Rules.{ContentFits, TagFits, content_fits, foreign_fits, found_none, html_read, still_no_page, tag_fits}
+use Rattle.typst_html_nesting_laws.proofs.Rules.{ContentFits, TagFits, content_fits, foreign_fits, form_alone, found_none, html_read, still_no_page, tag_fits}
 use Rattle.typst_html_nesting_laws.proofs.{Steady.{steady_begun}, Taken.{body_takes, raw_takes, white_takes}}
 use Rattle.typst_html_nesting_laws.{proofs.Texts.{begins_with_lf, text_leads}, specs.TreesStay.{NodeIsReadable, NodesAreReadable}}
-use Rattle.typst_html_nesting_laws.proofs.Ways.{AreAlike, IsCalm, IsSteady, ends_at_once, is_page_place}
+use Rattle.typst_html_nesting_laws.proofs.Ways.{AreAlike, IsCalm, IsSteady, ends_at_once, form_of, is_page_place}
 
 -- a page in whose current node nodes are read
 pub record IsInside (above : List Ancestor) (p : Page) (o : OpenElement) (os : List OpenElement) :
@@ -112,6 +112,7 @@ pub calm_on : (above : List Ancestor) (p : Page) (o : OpenElement) (os : List Op
 calm_on above p o os c t m e calm order = record {
   alike = alike_with above (subst (AreAlike above) e calm.alike);
   ordered = order;
+  form = calm.form ∙ ap form_of e;
   tables = calm.tables;
   plain = calm.plain;
 } where
@@ -224,6 +225,17 @@ module _ (frames : Frames) (level : ℕ) {above : List Ancestor} {h : Head} {kid
     abbrev outer : List OpenElement
     outer = around above h p o os c t m
 
+    -- the element around it stays open, and the form is afterwards what it was
+    stays : is_removed o.space ≡ false
+    stays = never_removed above (record o { children = c }) os (there.calm c t m order).alike
+
+    returns : last_form above h p o os c t m ≡ p.form
+    returns =
+        let calm = there.calm c t m order in
+        form_back above h p o os c t m (λ e. let both = and_parts _ _ e in calm.form
+        ∙ no_form above (record o { children = c } ∷ os) calm.alike calm.plain
+        (form_alone above h kids there.place f.fits (sym (html_is space) ∙ both.0) both.1))
+
     calm_page : IsCalm (ancestor h above ∷ above) page
     calm_page = calm_begun above h (on p o os c t m) (there.calm c t m order) f.template
 
@@ -323,7 +335,7 @@ module _ (frames : Frames) (level : ℕ) {above : List Ancestor} {h : Head} {kid
         let after : Page = on p o os (with_child above h p o os c t at_start none) [] last in
         let ends : token_read (Start (written_tag h)) (on p o os c t at_start) ≡ after = begins
         ∙ (ap (λ b. if b then closed true (page at_start order) else page at_start order) e
-        ∙ closes above h p o os c t at_start none []
+        ∙ closes above h p o os c t at_start (stays at_start order) (returns at_start order) none []
         (opened_moment above h p o os c t at_start)) in
         record {
           children = with_child above h p o os c t at_start none;
@@ -343,7 +355,8 @@ module _ (frames : Frames) (level : ℕ) {above : List Ancestor} {h : Head} {kid
     whole : AreLed frames kids → ends_at_once h ≡ false → inside_faults frames h kids ≡ [] →
         AreGathered before (start_tag_text h ++ filling frames level h kids) false p o os c t
         (node (element_node h kids) none)
-    whole led e g = element_closed above h p o os c t at_start before
+    whole led e g = element_closed above h p o os c t at_start (stays at_start order)
+        (returns at_start order) before
         (behind (Start (written_tag h)) starts.place (page at_start order)) (filling frames level h kids)
         kids (starts.is (page at_start order) (begins
         ∙ ap (λ b. if b then closed true (page at_start order) else page at_start order) e))

@@ -17,7 +17,7 @@ use Rattle.typst_html_encode.specs.Text.{end_tag_text, escaped_text, escaping_of
 use Rattle.html_page_names.specs.{ForeignNames.{lowered}, PageNames.{of}}
 use Rattle.html_page_names.specs.declared.kind.Kind.TheVariants as kind
 use Rattle.html_page_stack.{proofs.Children.{element_counts}, specs.declared.modes.Mode.{Mode}}
-use Rattle.html_page_stack.specs.OpenElements.{OpenElement, all_completed, completed, has_elements, mode, with_text}
+use Rattle.html_page_stack.specs.OpenElements.{OpenElement, all_completed, completed, has_elements, is_removed, mode, with_text}
 use Rattle.html_page_stack.specs.Pages.{Notes, Page, Token, Char, Start, End, Finish, closed, first_page, opened, settled, Taken}
 use Rattle.html_page_stack.specs.declared.modes.Mode.TheVariants.{BeforeHtml, BeforeHead, InHead, AfterHead, InBody}
 use Rattle.html_page_stack.specs.declared.modes.Space.TheVariants as spaces
@@ -26,7 +26,7 @@ use Rattle.html_page_tree.specs.PageTrees.{by_mode, token_read}
 use Rattle.html_page_read.specs.{DocumentTypes.{table_rule}, PageReading.{PageResult, answered, first_reader, page_result, run}}
 use Rattle.html_page_read.specs.PageTokens.{PageReader, finished}
 use Rattle.typst_html_nesting_laws.proofs.{Branches.{else_none}, Closed.{calm_begun}, EndTags.{end_emits}, InnerTexts.{no_return}}
-use Rattle.typst_html_nesting_laws.proofs.Fillings.{around, behind_data, element_closed, inside_faults, nodes_filled, opened as opened_element, opened_moment, opened_page}
+use Rattle.typst_html_nesting_laws.proofs.Fillings.{around, behind_data, element_closed, form_back, inside_faults, nodes_filled, opened as opened_element, opened_moment, opened_page}
 use Rattle.typst_html_nesting_laws.proofs.Forms.{AreGathered, IsFilled, Moment, filled_normal, later, normal_is, on, put_last, put_nodes, put_texted, texted_children, with_text_is}
 use Rattle.typst_html_nesting_laws.proofs.{KeptTags.{opened_back}, KindFacts.{names}, Rules.{found_none, tag_fits}, Texts.{text_leads}}
 use Rattle.typst_html_nesting_laws.proofs.ListedFormats.{IsInOrder, order_opened}
@@ -246,7 +246,9 @@ module _ {frames : Frames} {above : List Ancestor} {h : Head} {kids : NodesView}
       (g : AreGathered reader (start_tag_text h ++ rest frames level h kids) false p o [] c t
       (node (element_node h kids) none)) × (has_elements g.children ≡ true)
   head_read closes = (
-    element_closed above h p o [] c t at_start reader (data_at false (begins.place + 1) page)
+    element_closed above h p o [] c t at_start (ap is_removed inner.space)
+        (form_back above h p o [] c t at_start (λ e. absurd (both_ways _ x.part.form
+        (and_parts _ _ e).1))) reader (data_at false (begins.place + 1) page)
         (rest frames level h kids) kids begun_there filled
         (λ children words n order_in. own_taken (End (lowered h.name)) children words n
         (closed true (on page it outer children words n))
@@ -453,6 +455,7 @@ module _ (frames : Frames) (limit : ℕ) (h : Head) (kids : NodesView) (deep : 5
     calm = λ c t m order. record {
       alike = (record { name = refl; attrs = refl; space = refl }, tt);
       ordered = order;
+      form = refl;
       tables = refl;
       plain = (x.fits.template, tt);
     };

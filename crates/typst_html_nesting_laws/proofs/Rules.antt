@@ -185,6 +185,26 @@ named_no_page place.Body n around page h =
 named_no_page p n around page h = none_of (has_place p) kind.Html n (unfold names in refl)
     (else_none _ h).0
 
+-- a form stands in no other
+named_alone : (p : Place) (n : List ℕ) (around : Surroundings) → is_page_place p ≡ false →
+    named_misnesting p n around ≡ None → of kind.Form n ≡ true → around.open_elements.form ≡ false
+named_alone place.Page n around page h form = absurd (false≢true (sym page))
+named_alone place.Body n around page h form =
+    let part = if_none why.OutsideTable h in
+    let read = if_none why.NeverRead part.1 in
+    second_false (if_none why.FormInForm read.1).0 form
+named_alone p n around page h form = absurd (both_ways _
+    (none_of (has_place p) kind.Form n (unfold names in refl) (else_none _ h).0) form)
+
+pub form_alone : (above : List Ancestor) (h : Head) (kids : NodesView) →
+    is_page_place (place_of above) ≡ false → element_misnesting h kids (surroundings_of above)
+    ≡ None → is_html (space_of (reading_of above) h.name) ≡ true → of kind.Form h.name ≡ true →
+    (surroundings_of above).open_elements.form ≡ false
+form_alone above h kids page rules html form =
+    let around = surroundings_of above in
+    named_alone (place_of above) h.name around page
+    (named_kept h kids around rules (html_read _ _ html)) form
+
 pub still_no_page : (above : List Ancestor) (h : Head) (kids : NodesView) →
     is_page_place (place_of above) ≡ false → element_misnesting h kids (surroundings_of above)
     ≡ None → is_page_place (place_of (ancestor h above ∷ above)) ≡ false

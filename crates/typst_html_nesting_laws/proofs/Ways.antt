@@ -1,5 +1,6 @@
 -- The way from the root to a node, as its list of ancestors and as the stack of open elements.
-use Rattle.std.proofs.Common.{◌≡◌, ℕ, Bool, true, false, ◌||◌, List, [], ◌∷◌}
+use Rattle.std.proofs.Common.{◌≡◌, ℕ, Bool, true, false, ◌||◌, List, [], ◌∷◌, Some, None}
+use Rattle.std.specs.Prelude.{if◌then◌else◌, Option}
 use Rattle.html_names_core.specs.Kinds.{is_foreign_self_closing, is_void}
 use Rattle.html_dom_tree.specs.Tree.{Head, none}
 use Rattle.html_page_nesting.specs.{Ancestors.{Ancestor, place_of, reading_of, space_of}, declared.reading.{Place.{Place}, Space.{Space}}}
@@ -7,7 +8,7 @@ use Rattle.html_page_nesting.specs.declared.reading.Place.TheVariants as place
 use Rattle.html_page_nesting.specs.declared.reading.Space.TheVariants as nest
 use Rattle.html_page_names.specs.PageNames.{of}
 use Rattle.html_page_names.specs.declared.kind.Kind.TheVariants as kind
-use Rattle.html_page_stack.specs.{OpenElements.{OpenElement, mode}, Pages.{Page, page_head, settled, with_element}}
+use Rattle.html_page_stack.specs.{OpenElements.{OpenElement, is_of, mode}, Pages.{Page, page_head, settled, with_element}}
 use Rattle.html_page_stack.specs.declared.modes.Destination.TheVariants.{Parent}
 use Rattle.html_page_stack.specs.declared.modes.{Mode.{Mode, TheVariants.{InBody, InCaption, InCell}}, Space.Space as OpenSpace}
 use Rattle.html_page_stack.specs.declared.modes.Space.TheVariants as spaces
@@ -35,10 +36,21 @@ abbrev pub HaveNoTemplate : List Ancestor → Type 0
 HaveNoTemplate [] = Unit {0}
 HaveNoTemplate (a ∷ above) = (of kind.Template a.head.name ≡ false) × HaveNoTemplate above
 
+-- the span of the innermost open form
+abbrev pub form_of : List OpenElement → Option ℕ
+form_of [] = None
+form_of (o ∷ os) = if is_of (of kind.Form) o then Some o.head.span else form_of os
+
+-- the list of active formatting elements and the form are those of these open elements
+pub record AreBegun (os : List OpenElement) (p : Page) : Type 0 where
+  pub ordered : IsInOrder os p.formats
+  pub form : p.form ≡ form_of os
+
 -- a page in which these elements are open, and nothing else is out of order
 pub record IsCalm (above : List Ancestor) (p : Page) : Type 0 where
   pub alike : AreAlike above p.stack
   pub ordered : IsInOrder p.stack p.formats
+  pub form : p.form ≡ form_of p.stack
   pub tables : p.tables ≡ rule.ClosesP
   pub plain : HaveNoTemplate above
 
