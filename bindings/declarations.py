@@ -58,7 +58,7 @@ CHANGES = [
     ("header", "a void element has a child", "a void element has children", "words"),
     ("faults", "ExportFault::RawChild { .. } => 13", "ExportFault::RawChild { .. } => 14", "names"),
     ("faults", "ExportFault::VoidChildren { .. } => 12", "ExportFault::VoidChild { .. } => 12", "names"),
-    ("faults", "an open a would be removed", "an open a is removed", "own words"),
+    ("faults", "too many elements are made again", "elements are made again", "own words"),
     ("library", "OUT_OF_MEMORY = 3", "OUT_OF_MEMORY = 4", "statuses"),
     ("header", "TYPST_HTML_DEAD_LINKS = 5", "TYPST_HTML_LOST_LINKS = 5", "statuses"),
     ("package", '__version__: Final = "0.8.0"', '__version__: Final = "0.8.1"', "package"),

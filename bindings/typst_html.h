@@ -83,10 +83,8 @@ enum typst_html_refusal {
     TYPST_HTML_REFUSAL_RAW_CLOSING = 14,
     TYPST_HTML_REFUSAL_FRAME_REFUSED = 15,
     TYPST_HTML_REFUSAL_TOO_MANY_ATTRIBUTES = 28,
-    TYPST_HTML_REFUSAL_OPEN_ANCHOR_REMOVED = 31,
     TYPST_HTML_REFUSAL_FOSTER_PARENTING = 32,
     TYPST_HTML_REFUSAL_UNREAD_ELEMENT = 35,
-    TYPST_HTML_REFUSAL_CROSSED_ELEMENT = 36,
     TYPST_HTML_REFUSAL_UNSETTLED = 39,
     TYPST_HTML_REFUSAL_TOO_MANY_COPIES = 40,
 };
@@ -126,14 +124,10 @@ static inline const char *typst_html_words(uint8_t number) {
         return "a frame is refused";
     case TYPST_HTML_REFUSAL_TOO_MANY_ATTRIBUTES:
         return "an element has too many attributes";
-    case TYPST_HTML_REFUSAL_OPEN_ANCHOR_REMOVED:
-        return "an open a would be removed";
     case TYPST_HTML_REFUSAL_FOSTER_PARENTING:
         return "a text or an element would be moved out of a table";
     case TYPST_HTML_REFUSAL_UNREAD_ELEMENT:
         return "a frameset, plaintext or template";
-    case TYPST_HTML_REFUSAL_CROSSED_ELEMENT:
-        return "a form, object, applet or marquee would be closed by another tag";
     case TYPST_HTML_REFUSAL_UNSETTLED:
         return "a token finds no place";
     case TYPST_HTML_REFUSAL_TOO_MANY_COPIES:
@@ -251,10 +245,9 @@ struct typst_html_reply typst_html_unused(uint32_t limit, const uint8_t *input, 
  *
  * The page is read as a browser with scripting disabled reads it: tags that may be left out are
  * implied, and errors are recovered from. But a page in which a browser would move nodes out of a
- * table or close some elements late is refused, with the place of the tag or the character, and so
- * is one in which an element would stand deeper than `limit`, which is from 1 to 1,000; `html`
- * stands at 1. A page that is not UTF-8 is bad input, with the place of the first byte that is
- * invalid.
+ * table is refused, with the place of the tag or the character, and so is one in which an element
+ * would stand deeper than `limit`, which is from 1 to 1,000; `html` stands at 1. A page that is not
+ * UTF-8 is bad input, with the place of the first byte that is invalid.
  */
 struct typst_html_reply typst_html_check(uint32_t limit, const uint8_t *page, size_t length,
                                          uint8_t *output, size_t room);

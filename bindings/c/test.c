@@ -285,7 +285,6 @@ static void pages_are_refused(void) {
     } pages[] = {
         {3, "<!DOCTYPE html><p>\xc3\xa9\n<b></b></p>", TYPST_HTML_REFUSED, 8, 21, 2, 1},
         {1, "", TYPST_HTML_REFUSED, 8, 0, 1, 1},
-        {50, "<a><svg><desc><a>", TYPST_HTML_REFUSED, 31, 14, 1, 15},
         {50, "<table>\r\n<p>a", TYPST_HTML_REFUSED, 32, 9, 2, 1},
         {50, "<svg></svg><frameset>", TYPST_HTML_REFUSED, 35, 11, 1, 12},
         {50, "<!DOCTYPE html>\n<p>\xc3\xa9\xe9</p>", TYPST_HTML_BAD_INPUT, 0, 21, 2, 5},
@@ -361,7 +360,7 @@ static void strings_end_with_nul(void) {
 /* Each number has words of its own, and what is none has others. */
 static void refusals_have_words(void) {
     for (unsigned number = 0; number < 256; number++) {
-        bool is_one = (number >= 1 && number <= 15) || (number >= 28 && number <= 32) || number == 35 || number == 36 || number == 39;
+        bool is_one = (number >= 1 && number <= 15) || number == 28 || number == 32 || number == 35 || number == 39 || number == 40;
         expect("the words of a number", is_one == !!strcmp(typst_html_words(number), "refused"));
         for (unsigned other = 0; is_one && other < number; other++)
             expect("words of their own", strcmp(typst_html_words(number), typst_html_words(other)));

@@ -136,7 +136,7 @@ class Failure(Exception):
 
 class Refused(Failure):
     """The input breaks a rule of HTML, or holds something where it may not stand. Or a page that is checked is not read: a
-    browser would move nodes out of a table or close some elements late, or its elements are deeper than the limit.
+    browser would move nodes out of a table, or its elements are deeper than the limit.
 
     >>> try:
     ...     write([block("a", element("br", "no"))])
@@ -814,7 +814,7 @@ def check(page: bytes | str, *, limit: int = 50) -> Findings:
     has, and nodes that would make a browser build another tree if the tree of the page were written.
 
     Reads any page, as a browser without scripting does: what may be left out is implied, and errors are recovered from.
-    But if a browser would move nodes out of a table or close some elements late, the page is `Refused`. So is a page with
+    But if a browser would move nodes out of a table, the page is `Refused`. So is a page with
     an element that is deeper than `limit`, which is from 1 to 1,000: `html` has depth 1. A page that is no UTF-8 is
     `BadInput`. Both errors have the place in `place`.
 

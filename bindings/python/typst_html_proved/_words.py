@@ -22,10 +22,8 @@ WORDS: Final[Mapping[int, str]] = MappingProxyType({
     14: "a raw text would end its element",
     15: "a frame is refused",
     28: "an element has too many attributes",
-    31: "an open a would be removed",
     32: "a text or an element would be moved out of a table",
     35: "a frameset, plaintext or template",
-    36: "a form, object, applet or marquee would be closed by another tag",
     39: "a token finds no place",
     40: "too many elements are made again",
 })

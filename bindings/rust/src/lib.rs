@@ -309,9 +309,9 @@ pub fn unused(document: &Document, limit: u32) -> Result<Vec<String>, Refusal> {
 /// they are if the tree of the page were written.
 ///
 /// Reads any page, as a browser without scripting does: what may be left out is implied, and errors
-/// are recovered from. But if a browser would move nodes out of a table or close some elements late,
-/// the call fails with [`Refusal::PageRefused`]. It does so too if an element is deeper than
-/// `limit`, which is from 1 to 1,000: `html` has depth 1.
+/// are recovered from. But if a browser would move nodes out of a table, the call fails with
+/// [`Refusal::PageRefused`]. It does so too if an element is deeper than `limit`, which is from 1 to
+/// 1,000: `html` has depth 1.
 ///
 /// ```
 /// use typst_html_proved::{check, Place, Refusal};

@@ -71,8 +71,8 @@ pub enum Refusal {
         /// The path of that item, if the refusal has a place.
         path: Option<ItemPath>,
     },
-    /// A page that is checked is not read: a browser would move nodes out of a table or close some
-    /// elements late, or its elements are deeper than the limit.
+    /// A page that is checked is not read: a browser would move nodes out of a table, or its
+    /// elements are deeper than the limit.
     #[error("{} (refusal {number} at {place})", words(.number))]
     #[non_exhaustive]
     PageRefused {
@@ -227,10 +227,8 @@ fn words(number: &u8) -> &'static str {
         14 => "a raw text would end its element",
         15 => "a frame is refused",
         28 => "an element has too many attributes",
-        31 => "an open a would be removed",
         32 => "a text or an element would be moved out of a table",
         35 => "a frameset, plaintext or template",
-        36 => "a form, object, applet or marquee would be closed by another tag",
         39 => "a token finds no place",
         40 => "too many elements are made again",
         _ => "refused",

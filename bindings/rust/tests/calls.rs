@@ -854,7 +854,6 @@ fn pages_that_are_not_read_are_reported() {
         ("<b><p>a</b>", (30, 7, 1, 8)),
         ("<table>\r\n<p>é", (32, 9, 2, 1)),
         ("<head></head>\r<template>", (35, 14, 2, 1)),
-        ("<form><div></form>", (36, 11, 1, 12)),
     ] {
         assert_eq!(place_of(page, 50), refusal, "{page}");
     }

@@ -21,8 +21,7 @@ const BYTE_ORDER_MARK: char = '\u{feff}';
 ///
 /// Reads as HTML Standard 13.2 says, with scripting disabled, and recovers from the errors that
 /// browsers recover from. Comments and document types leave nothing in the element. Refuses a page
-/// if a browser would move nodes out of a table or close elements late; [`PageRefusal`] lists the
-/// cases.
+/// if a browser would move nodes out of a table; [`PageRefusal`] lists the cases.
 ///
 /// The span of an element is the offset in bytes of the `<` of its start tag, or of the tag or the
 /// character that implied it; [`Places`](crate::Places) maps it to a line and a column. A text has

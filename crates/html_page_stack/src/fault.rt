@@ -5,8 +5,8 @@ ghost use Rattle.html_page_stack.specs.PageRefusals.{refusal_number};
 
 use thiserror::Error;
 
-/// Content for which a page is refused: in a browser, nodes would be moved out of a table, or elements
-/// closed late, or a limit is reached.
+/// Content for which a page is refused: in a browser, nodes would be moved out of a table, or a limit
+/// is reached.
 #[derive(Clone, Copy, Debug, PartialEq, Eq, Error)]
 pub enum PageRefusal {
     /// An element would be deeper than the limit.

@@ -1,5 +1,5 @@
 //! Tree construction: the element that the tokens of a page make, as in a browser (HTML Standard
-//! 13.2.6). A page is refused if nodes would be moved out of a table, or elements closed late.
+//! 13.2.6). A page is refused if nodes would be moved out of a table.
 #![tactic(auto)]
 
 mod adoption;

@@ -240,12 +240,11 @@ pub fn typst_html_unused(alloc: Global, limit: u32, input: &[u8], output: &mut [
 ///
 /// [`read_page_bytes`](html_page_read::read_page_bytes) reads the page as a browser does (HTML
 /// Standard 13.2, with scripting disabled). It refuses a page in which a browser would move nodes
-/// out of a table or close elements late, and one in which an element would stand deeper than the
-/// limit. The reply then has the number of the refusal
-/// ([`PageRefusal`](html_page_stack::PageRefusal)) and the place of the tag or character. A
-/// page that is not UTF-8 is bad input, with the place of the first byte that is invalid. A limit
-/// that is not from 1 to 1,000 is bad input without a place. Buffers and replies are those of
-/// [`typst_html_write`].
+/// out of a table, and one in which an element would stand deeper than the limit. The reply then has
+/// the number of the refusal ([`PageRefusal`](html_page_stack::PageRefusal)) and the place of the
+/// tag or character. A page that is not UTF-8 is bad input, with the place of the first byte that is
+/// invalid. A limit that is not from 1 to 1,000 is bad input without a place. Buffers and replies are
+/// those of [`typst_html_write`].
 ///
 /// Takes the time of reading. Each list takes one more pass over the page, and each finding the
 /// length of its path. The findings are written as they are found: beside the report, two paths are
