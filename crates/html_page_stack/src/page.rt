@@ -311,8 +311,9 @@ impl Page {
         ensures { page_of self.new ≡ (let p = page_of self.old in
             record p { form = pages.form_after own p.stack p.form }) }
     {
-        if self.stack.is_at(Kind::Form) && own {
-            self.form = None;
+        match self.stack.items.last() {
+            Some(element) if own && element.is(Kind::Form) => self.form = None,
+            _ => {}
         }
     }
 

@@ -187,6 +187,7 @@ impl Stack {
     }
 
     /// Returns the facts about an element once it is the current node.
+    #[inline(always)]
     fn context_with(&self, element: &PageElement) -> Context
         ensures { result ≡ context (element_of element.now ∷ stack_of self.now) }
     {
@@ -212,6 +213,7 @@ impl Stack {
         Ok(())
     }
 
+    #[inline(always)]
     pub(crate) fn push(&mut self, element: PageElement) -> Result<(), AllocError>
         ensures { OnOk result (stack_of self.new ≡ element_of element ∷ stack_of self.old) }
     {
@@ -240,6 +242,7 @@ impl Stack {
     }
 
     /// Completes the current node, unless it is the root.
+    #[inline(always)]
     pub(crate) fn close_current(&mut self) -> Result<(), AllocError>
         ensures { OnOk result (stack_of self.new ≡ without_current (stack_of self.old)) }
     {
@@ -269,6 +272,7 @@ impl Stack {
     }
 
     /// Completes the current node as long as it was removed.
+    #[inline(always)]
     pub(crate) fn uncover(&mut self) -> Result<(), AllocError>
         ensures { OnOk result (stack_of self.new ≡ uncovered (stack_of self.old)) }
     {
