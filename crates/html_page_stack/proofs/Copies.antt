@@ -1,7 +1,7 @@
 -- What is left of bytes that are spent piece by piece.
-use Rattle.std.proofs.Common.{◌≡◌, ◌+◌, ◌-◌, arith, ℕ, true, false, inl, inr, refl, sym, ap, ◌∙◌}
+use Rattle.std.proofs.Common.{◌≡◌, ◌+◌, ◌-◌, arith, ℕ, true, inl, inr, refl, sym, ap}
 use Rattle.std.proofs.lemmas.{Bool.{cases_Bool, le-leb, leb-false, leb-true, lt-leb}, Option.{none-some, same_Some}}
-use Rattle.std.specs.Prelude.{if◌then◌else◌, nat_le, Option, Some, None}
+use Rattle.std.specs.Prelude.{nat_le, Some, None}
 use Rattle.html_page_stack.specs.Copies.{spent}
 
 chosen : (s a c : ℕ) → spent s a ≡ Some c → (nat_le a s ≡ true) × (s - a ≡ c)

@@ -1,11 +1,11 @@
 -- An element that gets attributes changes nothing that is known of the open elements.
-use Rattle.std.proofs.Common.{◌≡◌, ◌<◌, ◌≤◌, arith, ℕ, zero, suc, Bool, true, false, List, [], ◌∷◌, ◌++◌, drop, get_or, length, map, reverse, set, take, refl, sym, ap, ◌∙◌}
-use Rattle.std.{proofs.lemmas.List.{length-map, map-append, reverse-append, reverse-reverse}, specs.Prelude.{if◌then◌else◌}}
+use Rattle.std.proofs.Common.{◌≡◌, ◌<◌, ◌≤◌, arith, ℕ, zero, suc, Bool, List, [], ◌∷◌, ◌++◌, drop, get_or, length, map, reverse, set, take, refl, sym, ap, ◌∙◌}
+use Rattle.std.{proofs.lemmas.List.{length-map, map-append, reverse-append}, specs.Prelude.{if◌then◌else◌}}
 use Rattle.html_dom_tree.specs.Tree.{TextPair}
 use Rattle.html_page_names.specs.PageNames.{of}
 use Rattle.html_page_names.specs.declared.kind.Kind.TheVariants as kind
 use Rattle.html_page_stack.specs.Contexts.{AreKnown, bare, brought_mode, context, context_of, contexts, known_part, own_mode, some_or}
-use Rattle.html_page_stack.specs.{ElementViews.{element_of, list_of}, OpenElements.{OpenElement, attr_count_at, bounds, is_of, named_mode, reaches, with_attrs, with_attrs_at}}
+use Rattle.html_page_stack.specs.{ElementViews.{element_of, list_of}, OpenElements.{OpenElement, attr_count_at, bounds, is_of, reaches, with_attrs, with_attrs_at}}
 use Rattle.html_page_stack.specs.declared.{context.Context.{Context}, element.PageElement.{PageElement}, modes.Scope.TheVariants.{Button}}
 
 -- no fact depends on attributes

@@ -1,5 +1,5 @@
 -- The program's page, tokens and searches as those of the definition.
-use Rattle.std.specs.Prelude.{ℕ, Bool, false, not, ◌&&◌, List, option_map, reverse}
+use Rattle.std.specs.Prelude.{ℕ, Bool, false, not, ◌&&◌, List, option_map}
 use Rattle.html_dom_tree.specs.Views.{attrs_view, text_view}
 use Rattle.html_page_names.specs.PageNames.{is, of}
 pub use Rattle.html_page_stack.specs.ElementViews.{element_of, list_of}

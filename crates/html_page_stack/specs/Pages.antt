@@ -1,6 +1,6 @@
 -- The state of a page that is being read, and the steps that its tokens take: they open and close
 -- elements (HTML Standard 13.2.4 and 13.2.6).
-use Rattle.std.specs.Prelude.{ℕ, zero, suc, ◌+◌, min, Bool, true, false, not, ◌&&◌, ◌||◌, ◌==◌, nat_lt, nat_le, List, [], ◌∷◌, ◌++◌, length, reverse, if◌then◌else◌, bytes_eq, Option, Some, None}
+use Rattle.std.specs.Prelude.{ℕ, zero, suc, ◌+◌, min, Bool, true, false, not, ◌&&◌, ◌==◌, nat_lt, nat_le, List, [], ◌∷◌, ◌++◌, length, reverse, if◌then◌else◌, Option, Some, None}
 use Rattle.html_dom_tree.specs.Tree.{TextPair, Head, none}
 use Rattle.html_page_stack.specs.Copies.{copy_size, spare_at}
 use Rattle.html_page_stack.specs.Formats.{Format, Formats, after_current, before_closed, closed_entries, ends_closed, entered}

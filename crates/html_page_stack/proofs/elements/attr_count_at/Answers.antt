@@ -1,4 +1,4 @@
-use Rattle.std.{proofs.Common.{◌≡◌, arith, length, map, sym, ap, ◌∙◌}, proofs.lemmas.List.{length-map}, specs.Prelude.{if◌then◌else◌}}
+use Rattle.std.{proofs.Common.{arith, length, map, sym, ap, ◌∙◌}, proofs.lemmas.List.{length-map}, specs.Prelude.{if◌then◌else◌}}
 use Rattle.html_dom_tree.specs.Views.{pair_view}
 use Rattle.html_page_names.specs.PageNames.{of}
 use Rattle.html_page_stack.{proofs.Merging.{count_here, count_past}, specs.ElementViews.{element_of}}

@@ -1,4 +1,4 @@
-use Rattle.std.{proofs.Common.{◌≡◌, ◌+◌, ◌≤◌, ◌<◌, ◌^◌, ◌++◌, length}, specs.Vec.Iter.{into_iter_items}}
+use Rattle.std.{proofs.Common.{◌≡◌, ◌+◌, ◌<◌, ◌^◌, ◌++◌, length}, specs.Vec.Iter.{into_iter_items}}
 use Rattle.html_page_stack.specs.{Adoption.{entries_after}, AdoptionViews.{adoption_of}, PageViews.{entries_of}}
 use Rattle.html_page_stack.proofs.adoption.Adoption.entries_after.Given as goal
 

@@ -1,4 +1,4 @@
-use Rattle.std.proofs.{Common.{◌≡◌, arith, option_map, reverse, sym, ap, ◌∙◌, subst}, lemmas.List.{length-map}}
+use Rattle.std.proofs.{Common.{arith, option_map, reverse, sym, ap, ◌∙◌, subst}, lemmas.List.{length-map}}
 use Rattle.html_page_stack.proofs.OpenFormats.{entries_left}
 use Rattle.html_page_stack.specs.{FormatPlaces.{IsFound}, PageViews.{entries_of, entry_test, format_of}}
 use Rattle.html_page_stack.proofs.formats.Formats.remove.Goals as goal

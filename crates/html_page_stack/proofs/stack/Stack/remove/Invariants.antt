@@ -1,4 +1,4 @@
-use Rattle.std.proofs.Common.{◌≡◌, ◌++◌, length, map, reverse}
+use Rattle.std.proofs.Common.{◌≡◌, ◌++◌, length, map}
 use Rattle.html_page_stack.specs.{OpenElements.{removed}, PageViews.{element_of, goal_test, stack_of}}
 use Rattle.html_page_stack.proofs.stack.Stack.remove.Given as goal
 
