@@ -51,8 +51,8 @@ pub record IsFragment (text : List ℕ) (expected : PageResult) (nodes : List Ht
   pub inner : nodes_view nodes ≡ fragment_nodes root
   pub placed : ArePlaced text notes reported
 
--- a call reads a fragment as defined, or fails with the fault of the definition
+-- a call reads a fragment as expected, or fails with the expected fault
 pub record GivesNodes (r : Result (Vec HtmlNode Global × PageNotes) PageFault) (text : List ℕ)
-    (limit : ℕ) : Type 0 where
-  pub made : IfOk r (λ read. IsFragment text (fragment_read limit text) read.0.items read.1)
-  pub fault : IfErr r (IsFault text (fragment_read limit text))
+    (expected : PageResult) : Type 0 where
+  pub made : IfOk r (λ read. IsFragment text expected read.0.items read.1)
+  pub fault : IfErr r (IsFault text expected)

@@ -4,7 +4,8 @@ ghost use Rattle.std.specs.Prelude.{◌≡◌, ◌≤◌, ◌<◌, ◌+◌, ◌^
 ghost use Rattle.html_dom_tree.specs.Views.{element_view, node_view, nodes_view};
 ghost use Rattle.html_page_read.specs.FragmentReading as fragments;
 ghost use Rattle.html_page_read.specs.FragmentReading.{GivesNodes};
-ghost use Rattle.html_page_read.specs.{PageReaderViews.{reader_of}, PageReading.{run}};
+ghost use Rattle.html_page_read.specs.{PageReaderViews.{reader_of}, PageReading.{page_result, run}};
+ghost use Rattle.html_page_stack.specs.PageViews.{page_of};
 
 use crate::fault::{PageFault, PageNotes};
 use crate::read::{BYTE_ORDER_MARK, answer, run};
@@ -59,13 +60,11 @@ pub fn read_fragment(
 ) -> Result<(Vec<HtmlNode>, PageNotes), PageFault>
     requires some_limit { 1 ≤ limit }
     requires low_limit { limit ≤ 10000 }
-    ensures { GivesNodes result (chars text.now) limit }
+    ensures { GivesNodes result (chars text.now) (fragments.fragment_read limit (chars text.now)) }
 {
     let mut reader = reader_behind(alloc, text, limit)?;
     reader.finish()?;
-    let (root, notes) = answer(alloc, text, reader.reading.page)?;
-    let nodes = body_nodes(alloc, root);
-    Ok((nodes, notes))
+    nodes_answer(alloc, text, reader.reading.page)
 }
 
 /// Returns the children of a node, if it is an element.
@@ -96,6 +95,18 @@ fn body_nodes(alloc: Global, root: HtmlElement) -> Vec<HtmlNode>
 {
     let HtmlElement { children, .. } = root;
     last_children(alloc, children)
+}
+
+/// Returns what a fragment is read as whose page was read to its end.
+fn nodes_answer(
+    alloc: Global,
+    text: &str,
+    page: Page,
+) -> Result<(Vec<HtmlNode>, PageNotes), PageFault>
+    ensures { GivesNodes result (chars text.now) (page_result (page_of page)) }
+{
+    let (root, notes) = answer(alloc, text, page)?;
+    Ok((body_nodes(alloc, root), notes))
 }
 
 /// Returns a reader before a fragment, which starts at that offset in bytes.
