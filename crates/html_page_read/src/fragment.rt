@@ -22,11 +22,11 @@ const DEPTH: usize = 2;
 /// Reads a fragment from elsewhere as browsers do, and returns its nodes and the errors in it.
 ///
 /// Reads as HTML Standard 13.4 says, with scripting disabled and a `body` as the context, in a
-/// document without quirks: what `innerHTML` of a `body` does. A byte order mark at the beginning is
-/// dropped, as by [`read_page`](crate::read_page). Recovers from the errors that `read_page`
-/// recovers from, and refuses what that refuses. Tags of `html`, `head` and `body` leave nothing.
+/// document without quirks. A byte order mark at the beginning is dropped, as by
+/// [`read_page`](crate::read_page). Recovers from the errors that `read_page` recovers from, and
+/// refuses what that refuses. Tags of `html`, `head` and `body` leave nothing.
 ///
-/// The spans of nodes are offsets in bytes, as in a page.
+/// Spans are those of a page; a text that stands in no element of the fragment has the span 0.
 ///
 /// `limit` is from 1 to 10,000 and bounds the depth of elements; a node of the fragment has depth 1.
 ///
