@@ -5,7 +5,7 @@ use Rattle.html_dom_tree.specs.Tree.{ElementView}
 use Rattle.html_page_stack.specs.{OpenElements.{root_of}, Pages.{Notes, Page, first_page, settled}}
 use Rattle.html_page_stack.specs.declared.fault.PageRefusal.{PageRefusal}
 use Rattle.html_page_stack.specs.declared.fault.PageRefusal.TheVariants as refusal
-use Rattle.html_page_read.specs.PageTokens.{PageReader, Reading, Data, step, finished}
+use Rattle.html_page_read.specs.PageTokens.{PageReader, Data, step, finished}
 
 -- the reader before a text that starts at that offset in bytes, with that page before it
 abbrev pub reader_at : Page → (place : ℕ) → PageReader
