@@ -34,6 +34,7 @@ pub use Rattle.html_page_nesting.specs.Surroundings
 pub use Rattle.html_page_nesting.specs.WrittenTags
 pub use Rattle.html_page_nesting.specs.WrittenTexts
 pub use Rattle.html_page_read.specs.DocumentTypes
+pub use Rattle.html_page_read.specs.FragmentReading
 pub use Rattle.html_page_read.specs.PageAnswers
 pub use Rattle.html_page_read.specs.PageFaults
 pub use Rattle.html_page_read.specs.PagePlaces
@@ -47,6 +48,7 @@ pub use Rattle.html_page_stack.specs.Pages
 pub use Rattle.html_page_text.specs.PageTexts
 pub use Rattle.html_page_text.specs.PageViews
 pub use Rattle.html_page_text.specs.Parts
+pub use Rattle.html_page_tree.specs.FragmentPages
 pub use Rattle.html_page_tree.specs.PageBodies
 pub use Rattle.html_page_tree.specs.PageTrees
 pub use Rattle.html_page_read.specs.declared.fault.PageFault

@@ -33,7 +33,9 @@ pub use html_links::{
 pub use html_names_core::{HtmlAttr, HtmlTag, NameFault, Refused, attr, property, tag};
 pub use html_page_findings::{DeadFragment, RepeatedId, dead_fragments, element_at, repeated_ids};
 pub use html_page_nesting::{Misnested, Misnesting, misnested};
-pub use html_page_read::{PageFault, PageNote, PageNotes, Places, read_page, read_page_bytes};
+pub use html_page_read::{
+    PageFault, PageNote, PageNotes, Places, read_fragment, read_page, read_page_bytes,
+};
 pub use html_page_stack::{PageError, PageRefusal};
 pub use html_page_text::{PageText, Shown, page_text};
 pub use html_text::Place;

@@ -1,5 +1,6 @@
 pub mod CodedNames
 pub mod DocumentRows
+pub mod Fragments
 pub mod Fronts
 pub mod PageStretches
 pub mod PlaceSteps

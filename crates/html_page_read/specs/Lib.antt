@@ -1,4 +1,5 @@
 pub mod DocumentTypes
+pub mod FragmentReading
 pub mod Fronts
 pub mod PageAnswers
 pub mod PageFaults

@@ -5,19 +5,22 @@ use Rattle.html_dom_tree.specs.Tree.{ElementView}
 use Rattle.html_page_stack.specs.{OpenElements.{root_of}, Pages.{Notes, Page, first_page, settled}}
 use Rattle.html_page_stack.specs.declared.fault.PageRefusal.{PageRefusal}
 use Rattle.html_page_stack.specs.declared.fault.PageRefusal.TheVariants as refusal
-use Rattle.html_page_read.specs.PageTokens.{PageReader, Reading, Data, step, finished}
+use Rattle.html_page_read.specs.PageTokens.{PageReader, Data, step, finished}
 
--- the reader before a text that starts at that offset in bytes
-abbrev pub first_reader : (limit place : ℕ) → PageReader
-first_reader limit place = record {
+-- the reader before a text that starts at that offset in bytes, with that page before it
+abbrev pub reader_at : Page → (place : ℕ) → PageReader
+reader_at page place = record {
   state = Data;
   reading = record {
-    page = first_page limit;
+    page = page;
     place = place;
     fresh = false;
     after_return = false;
   };
 }
+
+abbrev pub first_reader : (limit place : ℕ) → PageReader
+first_reader limit place = reader_at (first_page limit) place
 
 abbrev pub run : PageReader → List ℕ → PageReader
 run r [] = r

@@ -9,6 +9,7 @@ mod data;
 mod doctype;
 mod draft;
 mod fault;
+mod fragment;
 mod front;
 mod holders;
 mod legacy;
@@ -27,5 +28,6 @@ mod tags;
 mod values;
 
 pub use fault::{PageFault, PageNote, PageNotes};
+pub use fragment::read_fragment;
 pub use place::Places;
 pub use read::{read_page, read_page_bytes};

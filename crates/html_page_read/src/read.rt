@@ -15,7 +15,7 @@ use html_page_stack::{Notes, Page, PageError, PageRefusal};
 use std::alloc::{AllocError, Global};
 use std::str;
 
-const BYTE_ORDER_MARK: char = '\u{feff}';
+pub(crate) const BYTE_ORDER_MARK: char = '\u{feff}';
 
 /// Reads a page from elsewhere as browsers do, and returns its element and the errors in it.
 ///
@@ -129,7 +129,7 @@ fn notes_at(alloc: Global, text: &str, notes: Notes) -> Result<PageNotes, AllocE
     Ok(PageNotes { count, first })
 }
 
-fn run(reader: &mut Reader, text: &str) -> Result<(), AllocError>
+pub(crate) fn run(reader: &mut Reader, text: &str) -> Result<(), AllocError>
     requires { reader.old.reading.place + length text.now < 2 ^ 64 }
     ensures { OnOk result (reader_of reader.new
         ≡ pages.run (reader_of reader.old) (chars text.now)) }
@@ -172,7 +172,11 @@ fn reader_behind(alloc: Global, text: &str, limit: usize) -> Result<Reader, Allo
 }
 
 /// Returns what a page that was read to its end is read as.
-fn answer(alloc: Global, text: &str, page: Page) -> Result<(HtmlElement, PageNotes), PageFault>
+pub(crate) fn answer(
+    alloc: Global,
+    text: &str,
+    page: Page,
+) -> Result<(HtmlElement, PageNotes), PageFault>
     ensures { Gives result (chars text.now) (pages.page_result (page_of page)) }
 {
     if let Some(refused) = page.refusal {

@@ -1,7 +1,8 @@
 //! A reader of pages that takes one character after the other (HTML Standard 13.2.5).
 
 ghost use Rattle.std.specs.{Char.{len_utf8}, Prelude.{◌≡◌, ◌+◌, ◌<◌, ◌^◌, OnOk}};
-ghost use Rattle.html_page_read.specs.PageReading.{first_reader};
+ghost use Rattle.html_page_stack.specs.PageViews.{page_of};
+ghost use Rattle.html_page_read.specs.PageReading.{first_reader, reader_at};
 ghost use Rattle.html_page_read.specs.PageTokens as tokens;
 ghost use Rattle.html_page_read.specs.PageReaderViews.{reader_of, reading_of, state_at};
 
@@ -110,8 +111,16 @@ impl Reader {
     pub(crate) fn new(alloc: Global, limit: usize, place: usize) -> Reader
         ensures { reader_of result ≡ first_reader limit place }
     {
+        Reader::of(Page::new(alloc, limit), place)
+    }
+
+    /// Creates a reader that goes on with a page, for a text that starts at that offset in bytes.
+    pub(crate) fn of(page: Page, place: usize) -> Reader
+        ensures { reader_of result ≡ reader_at (page_of page) place }
+    {
+        let alloc = page.alloc;
         let reading = Reading {
-            page: Page::new(alloc, limit),
+            page,
             place,
             fresh: false,
             after_return: false,

@@ -1,5 +1,6 @@
 pub mod Agencies
 pub mod BodyStarts
+pub mod FragmentPages
 pub mod OwnEnds
 pub mod PageBodies
 pub mod PageTrees

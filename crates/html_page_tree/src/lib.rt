@@ -6,11 +6,13 @@ mod adoption;
 mod body_end;
 mod body_start;
 mod foreign;
+mod fragment;
 mod head;
 mod own_end;
 mod table;
 mod turn;
 
+pub use fragment::begin_fragment;
 pub use head::is_space;
 pub use own_end::takes_own_end;
 pub use turn::{read_token, takes_text};

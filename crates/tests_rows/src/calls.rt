@@ -66,6 +66,11 @@
 //!   ` ! ` a recovered error, with its line and column; or `refused, `, the reason and the place
 //! - `page-places`: the elements of that tree, in document order, each with the place of its span
 //!
+//! For a fragment of a page:
+//!
+//! - `fragment-as-browsers [limit=N]`: the text of the nodes that `read_fragment` reads, and the same
+//!   behind it
+//!
 //! For an input of the library for C, its reply and its buffer, which had `room=N` points:
 //!
 //! - `c-write [kind=N] [layout=N]`, `c-document [layout=N] [links=N] [limit=N]`,
@@ -115,6 +120,7 @@ impl Caller for Library {
             "read" => pages::read(alloc, row),
             "as-browsers" => pages::as_browsers(alloc, row),
             "page-places" => pages::element_places(alloc, row),
+            "fragment-as-browsers" => pages::fragment_as_browsers(alloc, row),
             "page-text" => pages::text(alloc, row),
             "items-text" => pages::items_text(alloc, row),
             "dead-fragments" => checks::dead_fragment_list(alloc, row),

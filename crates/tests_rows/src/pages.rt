@@ -5,13 +5,13 @@ use anyhow::{Result, ensure};
 use html_dom_document::DocumentInfo;
 use html_dom_tree::{HtmlElement, HtmlNode};
 use html_flow_convert::is_depth_limit;
-use html_page_read::{PageFault, Places, read_page_bytes};
+use html_page_read::{PageFault, PageNotes, Places, read_fragment, read_page_bytes};
 use html_page_text::{Shown, page_text};
 use std::alloc::Global;
 use std::str;
 use tests_rows_items::items_in;
 use tests_rows_run::Row;
-use typst_html_encode::{HtmlOptions, html_in_bundle};
+use typst_html_encode::{HtmlOptions, html_fragment, html_in_bundle};
 use typst_html_export::export;
 use typst_html_read::{ReadFault, read_html};
 
@@ -92,9 +92,28 @@ pub(crate) fn as_browsers(alloc: Global, row: &Row<'_>) -> Result<String> {
     };
     let text = html_in_bundle(alloc, &root, &HtmlOptions::default(), &())?;
     let mut shown = inner_text(alloc, &text, (DOCUMENT_TYPE, ""))?;
+    add_notes(&notes, &mut shown)?;
+    Ok(shown)
+}
+
+fn add_notes(notes: &PageNotes, shown: &mut String) -> Result<()> {
     for note in &notes.first {
         write!(shown, " ! {} at {}", note.error, note.place)?;
     }
+    Ok(())
+}
+
+/// Returns what `read_fragment` reads, as browsers do: the nodes' text, and recovered errors.
+pub(crate) fn fragment_as_browsers(alloc: Global, row: &Row<'_>) -> Result<String> {
+    let limit = row.number("limit", DEEPEST)?;
+    ensure!(is_depth_limit(limit), "no limit");
+    let (nodes, notes) = match read_fragment(alloc, row.text()?, limit) {
+        Ok(read) => read,
+        Err(PageFault::OutOfMemory) => return Err(PageFault::OutOfMemory.into()),
+        Err(fault) => return Ok(format!(in alloc; "refused, {fault}")?),
+    };
+    let mut shown = html_fragment(alloc, &nodes, &())?;
+    add_notes(&notes, &mut shown)?;
     Ok(shown)
 }
 

@@ -44,7 +44,7 @@ mod pages {
         PageNotes, PageRefusal, PageText, Place, Places, Point, Refused, RepeatedId, Shown, Span,
         Tag, Visit, Walk, attr, base_of, dead_fragments, decoded_fragment, element_at, fragment_in,
         fragment_leads, href_is_script, laws, misnested, page_text, place_in, place_names,
-        property, read_page, read_page_bytes, repeated_ids, tag,
+        property, read_fragment, read_page, read_page_bytes, repeated_ids, tag,
     };
 }
 
