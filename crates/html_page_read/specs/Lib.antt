@@ -1,3 +1,4 @@
+pub mod BytePlaces
 pub mod DocumentTypes
 pub mod Fronts
 pub mod PageAnswers

@@ -2,6 +2,7 @@
 //! make.
 #![tactic(auto)]
 
+mod bytes;
 mod cdata;
 mod comment;
 mod common;
@@ -26,6 +27,7 @@ mod tag_front;
 mod tags;
 mod values;
 
+pub use bytes::decode_page_bytes;
 pub use fault::{PageFault, PageNote, PageNotes};
 pub use place::Places;
 pub use read::{read_page, read_page_bytes};
