@@ -64,10 +64,10 @@ pub record GivesText (r : Result DecodedPage PageFault) (page : List ℕ) : Type
 
 -- the element and the reported errors are those of the text of the page, in its encoding
 pub record IsBytesPage (page : List ℕ) (limit : ℕ) (e : HtmlElement) (reported : PageNotes) : Type 0
-    where
-  pub text : List ℕ
-  pub decoded : page_text page ≡ Ok (reported.encoding, text)
-  pub read : IsPage text (page_read limit text) e reported
+  where
+    pub text : List ℕ
+    pub decoded : page_text page ≡ Ok (reported.encoding, text)
+    pub read : IsPage text (page_read limit text) e reported
 
 -- the fault is that of the bytes, or the refusal of their text
 abbrev pub IsBytesFault : (page : List ℕ) → (limit : ℕ) → PageFault → Type 0

@@ -66,9 +66,10 @@ fn placed_fault(
 
 /// Returns the text of a page of bytes, and its encoding.
 ///
-/// The encoding is that of a byte order mark, or else the one that a `meta` or an XML declaration
-/// names among the first 1,024 bytes ([`encoding_of`]). A page without either is UTF-8 if its bytes
-/// are, and windows-1252 otherwise.
+/// The encoding is that of a byte order mark, or of the first characters of an XML declaration in
+/// UTF-16, or else the one that a `meta` or an XML declaration names among the first 1,024 bytes
+/// ([`encoding_of`]). A page without any of these is UTF-8 if its bytes are, and windows-1252
+/// otherwise.
 ///
 /// Places of the page that [`read_page_bytes`](crate::read_page_bytes) reads are those in this text.
 ///

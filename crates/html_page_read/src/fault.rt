@@ -10,9 +10,9 @@ use html_text::Place;
 use std::alloc::{AllocError, AllocFailed};
 use thiserror::Error;
 
-/// The reason why a page was not read. Offsets of places are in bytes of the given page; a line
-/// ends with a line feed, a carriage return or both in that order, and a byte order mark at the
-/// beginning is no character of the first.
+/// The reason why a page was not read. Offsets of places are in bytes of the text of the page, in
+/// UTF-8, or of the page itself if it has no text; a line ends with a line feed, a carriage return
+/// or both in that order, and a byte order mark at the beginning is no character of the first.
 #[derive(Debug, Drop, PartialEq, Eq, Error)]
 pub enum PageFault {
     /// An allocation failed.
