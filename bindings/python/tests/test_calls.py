@@ -475,7 +475,7 @@ class Calls(unittest.TestCase):
         links = tuple(html.PageLink(path, href, place) for href, (path, place) in (("b.html#c", a), ("", area)))
         self.assertEqual(listed.links, links)
         self.assertEqual(html.links(page.encode()), listed)
-        for bad, limit, failure in (("<table>a", 50, Refused), ("", 0, html.BadInput), (b"\xff", 50, html.BadInput)):
+        for bad, limit, failure in (("<table>a", 50, Refused), ("", 0, html.BadInput), (b"\xef\xbb\xbf\xff", 50, html.BadInput)):
             with self.subTest(bad), self.assertRaises(failure):
                 html.links(bad, limit=limit)
 

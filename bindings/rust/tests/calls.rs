@@ -757,9 +757,15 @@ fn labels_in_texts_count_for_nothing() {
         let found = dead_fragments(&check(&page, 50).unwrap());
         assert_eq!(found.len(), 1, "{page}");
         let (fragment, place) = (found[0].1.as_str(), found[0].2);
-        assert_eq!((fragment, place.offset, place.column), ("no", length + 32, length as usize + 31));
+        assert_eq!(
+            (fragment, place.offset, place.column),
+            ("no", length + 32, length as usize + 31)
+        );
         let listed = links(&page, 50).unwrap();
-        assert_eq!((listed.ids[0].id.as_str(), listed.ids[0].place.offset), ("é", length));
+        assert_eq!(
+            (listed.ids[0].id.as_str(), listed.ids[0].place.offset),
+            ("é", length)
+        );
         let marked = check(&format!("\u{feff}{page}"), 50).unwrap();
         assert_eq!(dead_fragments(&marked)[0].2.offset, length + 35);
     }

@@ -6,9 +6,7 @@ use Rattle.html_page_encoding.specs.declared.encoding.Encoding.{Encoding}
 use Rattle.html_page_encoding.specs.declared.encoding.Encoding.TheVariants.{Windows1252}
 use Rattle.html_page_encoding.specs.declared.fault.EncodingFault.{EncodingFault}
 use Rattle.html_page_encoding.specs.declared.fault.EncodingFault.TheVariants.{OutOfMemory, UnknownLabel, NotText}
-use Rattle.html_page_read.specs.{BytePlaces.{placed_fault}, PageAnswers.{IsBytesFault, IsFault, IsNoText}}
-use Rattle.html_page_read.specs.{PageReading.{page_read}, declared.fault.PageFault.{PageFault}}
-use Rattle.html_page_read.specs.declared.fault.PageFault.TheVariants as fault
+use Rattle.html_page_read.specs.{BytePlaces.{placed_fault}, PageAnswers.{IsNoText}, declared.fault.PageFault.{PageFault}}
 
 pub has_text : (page : List ℕ) (e : Encoding) (text : List ℕ) → page_encoding page ≡ Ok e →
     decoded e page ≡ Ok text → page_text page ≡ Ok (e, text)
@@ -40,18 +38,3 @@ pub byte_faults : (page : List ℕ) (e : Encoding) (f : EncodingFault) (g : Page
     page_encoding page ≡ Ok e → answers.IsNoText (decoded e page) f → g ≡ placed_fault e page f →
     IsNoText page (page_text page) g
 byte_faults page e f g p q is = rw is (spoiled page e f p q)
-
--- what a page of bytes fails with
-module _ (page : List ℕ) (limit : ℕ) where
-  pub no_text : (f : PageFault) → IsNoText page (page_text page) f → IsBytesFault page limit f
-  no_text fault.OutOfMemory p = tt
-  no_text (fault.UnknownLabel label place) p = p
-  no_text (fault.NotText place) p = p
-  no_text (fault.Refused refusal place) p = absurd p
-
-  pub refused : (e : Encoding) (text : List ℕ) (f : PageFault) → page_text page ≡ Ok (e, text) →
-      IsFault text (page_read limit text) f → IsBytesFault page limit f
-  refused e text fault.OutOfMemory p q = tt
-  refused e text (fault.UnknownLabel label place) p q = absurd q
-  refused e text (fault.NotText place) p q = absurd q
-  refused e text (fault.Refused refusal place) p q = (e, text, p, q)

@@ -80,6 +80,22 @@ pub fn read_page(
 /// # Errors
 ///
 /// Those of [`read_page`], and before all others those of [`decode_page_bytes`].
+///
+/// ```
+/// use html_page::{Encoding, PageFault, read_page_bytes};
+///
+/// let alloc = rt.alloc();
+/// let (_, notes) = read_page_bytes(alloc, b"<!DOCTYPE html><p>caf\xe9", 50)?;
+/// assert_eq!(rt; notes.encoding, Encoding::Windows1252);
+///
+/// let read = read_page_bytes(alloc, b"<!DOCTYPE html>\n<meta charset=big5>", 50);
+/// let Err(PageFault::UnknownLabel { label, place }) = read else {
+///     panic!(rt; "no label of this project");
+/// };
+/// assert_eq!(rt; label.as_str(), "big5");
+/// assert_eq!(rt; place.line, 2);
+/// assert_eq!(rt; place.column, 15);
+/// ```
 pub fn read_page_bytes(
     alloc: Global,
     page: &[u8],
