@@ -1,5 +1,5 @@
 -- Pages of bytes that have a text, and those that have none.
-use Rattle.std.proofs.Common.{◌≡◌, ℕ, List, Result, Ok, Err, refl}
+use Rattle.std.proofs.Common.{◌≡◌, ℕ, List, Ok, refl}
 use Rattle.html_page_encoding.specs.Answers as answers
 use Rattle.html_page_encoding.specs.{Decoded.{decoded}, PageEncodings.{page_encoding, page_text}}
 use Rattle.html_page_encoding.specs.declared.encoding.Encoding.{Encoding}

@@ -1,5 +1,5 @@
 -- What is found in a page has a text, and what is answered where a page is read, and where it is not.
-use Rattle.std.proofs.Common.{◌≡◌, ◌∙◌, sym, ap, ℕ, List, [], ◌∷◌, ◌++◌, Bool, true, false, Result, Ok, Err, String, string_bytes, chars, refl, append_assoc}
+use Rattle.std.proofs.Common.{◌≡◌, ◌∙◌, sym, ap, ℕ, List, [], ◌∷◌, ◌++◌, Bool, true, false, Ok, Err, String, string_bytes, refl, append_assoc}
 use Rattle.std.proofs.lemmas.Str.{encodes-chars, IsUtf8-string_bytes}
 use Rattle.std.specs.declared.alloc.Global.{Global}
 use lib.Utf8.{encodes}
