@@ -56,6 +56,7 @@ CHANGES = [
     ("refusal", "tag name must not be empty", "tag name is empty", "words"),
     ("spoken", "a token finds no place", "a token has no place", "words"),
     ("header", "a void element has a child", "a void element has children", "words"),
+    ("source", "UNKNOWN_LABEL: u8 = 25", "UNKNOWN_LABEL: u8 = 26", "names"),
     ("faults", "ExportFault::RawChild { .. } => 13", "ExportFault::RawChild { .. } => 14", "names"),
     ("faults", "ExportFault::VoidChildren { .. } => 12", "ExportFault::VoidChild { .. } => 12", "names"),
     ("faults", "too many elements are made again", "elements are made again", "own words"),
@@ -180,6 +181,11 @@ def refusals_of_source(text):
     return {int(number): spelled(name) for name, number in variants if number != "0"}
 
 
+def refusals_of_calls(text):
+    """Returns the names of the refusals that the calls themselves number, by number."""
+    return {int(number): name for name, number in re.findall(r"^const (UNKNOWN_\w+): u8 = (\d+);$", text, re.M)}
+
+
 def own_words(source, spoken):
     """Returns the words of the source, for names, for the one character and for pages, and those that are shown. (For
     the other refusals of items, the source says how its caller may mend them.)"""
@@ -213,7 +219,7 @@ def compared(texts):
         "words": [
             words_of_header(header), words_of(texts["refusal"], r'^ +(\d+) => "(.*)",$'), plain(spoken["WORDS"]),
         ],
-        "names": [refusals_of_source(texts["faults"]), refusals_of_header(header)],
+        "names": [{**refusals_of_source(texts["faults"]), **refusals_of_calls(source)}, refusals_of_header(header)],
         "own words": own_words(texts["faults"], words_of_header(header)),
         "statuses": [statuses_of_header(header), statuses_of_python(library)],
         "package": [first(r'^version = "(.*)"$', "crate"), plain(package["__version__"])],

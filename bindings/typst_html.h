@@ -38,8 +38,9 @@ enum typst_html_status {
     TYPST_HTML_REFUSED = 1,       /* the input is refused: `number` says why, `span` where, and for
                                      a page `line` and `column` too */
     TYPST_HTML_BAD_INPUT = 2,     /* the input is not JSON (`line` and `column` say where) or spells
-                                     nothing (`span` says where), the page is not UTF-8 (all three
-                                     say where), or a number is not one of those below */
+                                     nothing (`span` says where), the page has bytes that are no
+                                     text in its encoding (all three say where), or a number is not
+                                     one of those below */
     TYPST_HTML_OUT_OF_MEMORY = 3, /* an allocation failed */
     TYPST_HTML_TOO_SHORT = 4,     /* `output` is too short: the text needs `length` bytes */
     TYPST_HTML_DEAD_LINKS = 5,    /* as TYPST_HTML_DONE, but links in the text lead nowhere: `span`
@@ -51,7 +52,8 @@ struct typst_html_reply {
     uint64_t span;  /* status 1: the number of the list of the node or item in the JSON that is
                        refused, counted from 1 by their opening brackets; 0 if the refusal has no
                        place. Status 5: the number of the list of the first `a` that leads nowhere.
-                       For a page, statuses 1 and 2: how many bytes of it stand before the place.
+                       For a page, statuses 1 and 2: how many bytes stand before the place, of its
+                       text in UTF-8, or of the page itself with number 25 and with status 2.
                        For JSON, status 2: how many of these lists are opened up to the first value
                        that does not fit the form */
     size_t line;    /* status 2, if the input is not JSON, and for a page, statuses 1 and 2: the
@@ -65,7 +67,7 @@ struct typst_html_reply {
 };
 
 /* The refusals, whose words typst_html_words() returns. A page is refused with 8 or with a number
-   from 28 on. */
+   from 25 on. */
 enum typst_html_refusal {
     TYPST_HTML_REFUSAL_EMPTY_TAG = 1,
     TYPST_HTML_REFUSAL_BAD_TAG_CHAR = 2,
@@ -82,6 +84,7 @@ enum typst_html_refusal {
     TYPST_HTML_REFUSAL_RAW_CHILD = 13,
     TYPST_HTML_REFUSAL_RAW_CLOSING = 14,
     TYPST_HTML_REFUSAL_FRAME_REFUSED = 15,
+    TYPST_HTML_REFUSAL_UNKNOWN_LABEL = 25,
     TYPST_HTML_REFUSAL_TOO_MANY_ATTRIBUTES = 28,
     TYPST_HTML_REFUSAL_FOSTER_PARENTING = 32,
     TYPST_HTML_REFUSAL_UNREAD_ELEMENT = 35,
@@ -122,6 +125,8 @@ static inline const char *typst_html_words(uint8_t number) {
         return "a raw text would end its element";
     case TYPST_HTML_REFUSAL_FRAME_REFUSED:
         return "a frame is refused";
+    case TYPST_HTML_REFUSAL_UNKNOWN_LABEL:
+        return "the page names an encoding that is not known";
     case TYPST_HTML_REFUSAL_TOO_MANY_ATTRIBUTES:
         return "an element has too many attributes";
     case TYPST_HTML_REFUSAL_FOSTER_PARENTING:
@@ -239,15 +244,23 @@ struct typst_html_reply typst_html_unused(uint32_t limit, const uint8_t *input, 
  * first `keeps` indices of the path of the previous finding in the list, and goes on with those of
  * `path`; the first finding keeps none. So the text does not grow with the depth of the findings.
  * The place is that of the `<` of the start tag, or, for a text, that of the element in which it
- * stands: how many bytes of the page stand before it, and the line and the column, as in a reply.
+ * stands: how many bytes of the page's text stand before it, in UTF-8, and the line and the column,
+ * as in a reply.
  * `rule` names the rule that a misnested node breaks, and `why` says in English what a browser does
  * with it. Read the members by their names: there may be more.
  *
  * The page is read as a browser with scripting disabled reads it: tags that may be left out are
  * implied, and errors are recovered from. But a page in which a browser would move nodes out of a
  * table is refused, with the place of the tag or the character, and so is one in which an element
- * would stand deeper than `limit`, which is from 1 to 1,000; `html` stands at 1. A page that is not
- * UTF-8 is bad input, with the place of the first byte that is invalid.
+ * would stand deeper than `limit`, which is from 1 to 1,000; `html` stands at 1.
+ *
+ * The page is decoded first. It has the encoding of its byte order mark (UTF-8 or UTF-16), or is in
+ * UTF-16 if an XML declaration begins so, or else has the encoding that a `meta` or an XML
+ * declaration names among its first 1,024 bytes. Without any of these, it is UTF-8 if its bytes are,
+ * and windows-1252 otherwise. A label that is none of those of UTF-8,
+ * UTF-16, windows-1252 and x-user-defined is refused (25), with the place of the label. A page with
+ * bytes that are no text in its encoding is bad input, with the place of the first. (A caller that
+ * has a text puts a byte order mark before it: a label in the text then counts for nothing.)
  */
 struct typst_html_reply typst_html_check(uint32_t limit, const uint8_t *page, size_t length,
                                          uint8_t *output, size_t room);

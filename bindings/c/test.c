@@ -225,6 +225,30 @@ static void pages_are_checked(void) {
     }
 }
 
+/* Whether a page of bytes is not read, for that reason and at that place. */
+static bool is_unread(const char *page, uint8_t status, uint8_t number, uint64_t span, size_t line, size_t column) {
+    uint8_t output[4];
+    struct typst_html_reply reply = checked(50, page, output, sizeof output);
+    return reply.status == status && reply.number == number && reply.span == span && reply.line == line &&
+           reply.column == column;
+}
+
+static void pages_are_decoded(void) {
+    const char *found = "{\"dead_fragments\":[{\"fragment\":\"\xc3\xa9\",\"keeps\":0,\"path\":[1,0],"
+                        "\"offset\":0,\"line\":1,\"column\":1}],\"repeated_ids\":[],\"misnested\":[]}";
+    uint8_t output[256];
+    struct typst_html_reply reply = checked(50, "<a href=#\xe9>", output, sizeof output);
+    expect("a page in windows-1252", reply.status == TYPST_HTML_DONE && reply.length == strlen(found) &&
+                                         !memcmp(output, found, reply.length));
+    const uint8_t utf16[] = {0xff, 0xfe, '<', 0, 'a', 0, ' ', 0, 'h', 0, 'r', 0, 'e', 0, 'f', 0,
+                             '=', 0, '#', 0, 0xe9, 0, '>', 0};
+    reply = typst_html_check(50, utf16, sizeof utf16, output, sizeof output);
+    expect("a page in UTF-16", reply.status == TYPST_HTML_DONE && reply.length == strlen(found));
+    expect("an encoding that is not known",
+           is_unread("\n<meta charset=big5>", TYPST_HTML_REFUSED, TYPST_HTML_REFUSAL_UNKNOWN_LABEL, 15, 2, 15));
+    expect("bytes that are no UTF-8", is_unread("\xef\xbb\xbf\n\xff", TYPST_HTML_BAD_INPUT, 0, 4, 2, 1));
+}
+
 /* A table stays in a p where no document type stands, and would not in the text of that tree. */
 static void misnested_nodes_are_reported(void) {
     const char *found = "{\"dead_fragments\":[],\"repeated_ids\":[],\"misnested\":["
@@ -463,6 +487,7 @@ int main(int count, char **words) {
     pages_are_checked();
     misnested_nodes_are_reported();
     links_of_pages_are_reported();
+    pages_are_decoded();
     pages_are_read_as_browsers_read_them();
     pages_are_refused();
     deep_findings_are_short();

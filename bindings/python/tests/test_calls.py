@@ -334,7 +334,7 @@ class Calls(unittest.TestCase):
             ("write_tree(root[3][1])", left, lambda: html.write_tree(element("p", "a", html.SPACE))),
             ("write_tree(root)", left, lambda: html.write_tree(html.block())),
             ("line 2 column 2", "it is no JSON", lambda: html.write_json("[\n{}")),
-            ("2:3", "a byte that is no UTF-8", lambda: html.check(b"<p>\nab\xff")),
+            ("2:3", "a byte that is no text", lambda: html.check(b"\xef\xbb\xbf<p>\nab\xff")),
         ):
             with self.subTest(where), self.assertRaises(html.BadInput) as caught:
                 call()
@@ -421,7 +421,7 @@ class Calls(unittest.TestCase):
             html.BadInput("an item is None", where="write(items[1])"),
             html.BadInput(where="write(items[1])", span=2, path=("items", 1), item=html.Node(["text"])),
             html.BadInput(line=2, column=1),
-            html.BadInput("a byte that is no UTF-8", place=html.Place(0, 1, 1)),
+            html.BadInput("a byte that is no text", place=html.Place(0, 1, 1)),
             html.DeadLinks("a", (html.DeadLink(2, 7, ("items", 1), element("a")),)),
             html.OutOfMemory(),
             html.OtherLibrary(),
@@ -475,7 +475,7 @@ class Calls(unittest.TestCase):
         links = tuple(html.PageLink(path, href, place) for href, (path, place) in (("b.html#c", a), ("", area)))
         self.assertEqual(listed.links, links)
         self.assertEqual(html.links(page.encode()), listed)
-        for bad, limit, failure in (("<table>a", 50, Refused), ("", 0, html.BadInput), (b"\xff", 50, html.BadInput)):
+        for bad, limit, failure in (("<table>a", 50, Refused), ("", 0, html.BadInput), (b"\xef\xbb\xbf\xff", 50, html.BadInput)):
             with self.subTest(bad), self.assertRaises(failure):
                 html.links(bad, limit=limit)
 
@@ -515,14 +515,48 @@ class Calls(unittest.TestCase):
             self.assertEqual((refused.number, refused.place), (number, html.Place(*place)))
             self.assertIn(refused.words, html.WORDS.values())
         for bad, place in (
-            (b"\xff", (0, 1, 1)),
-            (b"<!DOCTYPE html>\n<p>\xc3\xa9\xe9</p>", (21, 2, 5)),
+            (b"\xef\xbb\xbf\xff", (3, 1, 1)),
+            (b"<meta charset=utf8>\n<p>\xc3\xa9\xe9</p>", (25, 2, 5)),
             (b"\xef\xbb\xbf<table>a\xff", (11, 1, 9)),
+            (b"\xff\xfe<\0p\0>\0\n\0\0\xd8a\0", (10, 2, 1)),
         ):
             with self.subTest(bad), self.assertRaises(html.BadInput) as caught:
                 html.check(bad)
             self.assertEqual(caught.exception.place, html.Place(*place))
-            self.assertEqual(str(caught.exception), f"bad input: a byte that is no UTF-8 at {html.Place(*place)}")
+            self.assertEqual(str(caught.exception), f"bad input: a byte that is no text at {html.Place(*place)}")
+
+    def test_encodings(self):
+        page = '<p id="é">\n<a href="#é">x</a><a href="#ß">y</a>'
+        dead = html.check(page).dead_fragments
+        self.assertEqual([(it.fragment, it.place) for it in dead], [("ß", html.Place(31, 2, 19))])
+        for data, mark in (
+            (page.encode(), 0),
+            (page.encode("cp1252"), 0),  # it is no UTF-8
+            (page.encode("utf-8-sig"), 3),
+            (b"\xff\xfe" + page.encode("utf-16-le"), 3),
+            (b"\xfe\xff" + page.encode("utf-16-be"), 3),
+        ):
+            with self.subTest(data):
+                (found,) = html.check(data).dead_fragments
+                self.assertEqual((found.fragment, found.place), ("ß", html.Place(31 + mark, 2, 19)))
+                self.assertEqual(html.links(data).ids[0].place, html.Place(mark, 1, 1))
+
+    def test_labels(self):
+        page = "<meta charset=latin1>\n<p id=é><a href=#é>"
+        self.assertFalse(html.check(page))
+        self.assertFalse(html.check(page.encode("latin1")))
+        # the two bytes of é are two characters
+        self.assertEqual(html.links(page.encode()).ids[0].id, "Ã©")
+        # a label in a text counts for nothing
+        for label in ("latin1", "utf-16", "big5"):
+            with self.subTest(label):
+                (found,) = html.links(f"<meta charset={label}>\n<p id=é>").ids
+                self.assertEqual((found.id, found.place), ("é", html.Place(16 + len(label), 2, 1)))
+        with self.assertRaises(Refused) as caught:
+            html.check(b"\n<meta charset=big5>")
+        refused = caught.exception
+        self.assertEqual((refused.number, refused.place), (25, html.Place(15, 2, 15)))
+        self.assertEqual(refused.words, "the page names an encoding that is not known")
 
     def test_the_deepest_page_on_a_small_stack(self):
         def checks():

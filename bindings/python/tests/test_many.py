@@ -38,7 +38,7 @@ PAGES = (
     ("b/c.htm", b"<p>x\n<a href=#no>y</a>", [(2, 1, '"#no" leads nowhere')]),
     ("b/d.HTML", b"<p id=a><b id=a>", [(1, 9, 'an element before has the id "a"')]),
     ("e.html", b"<table>a", [(1, 8, "not read: a text or an element would be moved out of a table (refusal 32 at 1:8)")]),
-    ("f.html", b"a\xff", [(1, 2, "not read: bad input: a byte that is no UTF-8 at 1:2")]),
+    ("f.html", b"\xef\xbb\xbfa\xff", [(1, 2, "not read: bad input: a byte that is no text at 1:2")]),
     ("g.txt", b"<table>a", None),
 )
 

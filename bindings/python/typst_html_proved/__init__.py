@@ -39,7 +39,9 @@ Any number of threads may make calls, and these run at the same time.
 from __future__ import annotations
 
 import json
+from codecs import BOM_UTF8
 from dataclasses import dataclass, field
+from itertools import chain
 from types import MappingProxyType
 from typing import Any, Final, Iterable, Iterator, Literal, Mapping, Sequence, Union, ValuesView, overload
 
@@ -175,7 +177,7 @@ class Refused(Failure):
 
 class BadInput(Failure, ValueError):
     """An argument is wrong: the call does not take its type or value, or it spells nothing that can be written, or it nests
-    more than 127 lists; or a page that is checked is no UTF-8.
+    more than 127 lists; or a page that is checked has bytes that are no text in its encoding.
 
     >>> try:
     ...     write(["a", None])
@@ -191,7 +193,7 @@ class BadInput(Failure, ValueError):
 
     where: str
     """The call and its argument, or a part of it, such as `write(items[1])`. For input that is no JSON, the line and the
-    column; for a page that is no UTF-8, the place in it."""
+    column; for a page with bytes that are no text, the place of the first."""
 
     span: int
     """The number of lists of items that are opened in the JSON up to the first value that does not have the form, counted
@@ -789,23 +791,28 @@ def write_json(
     return given.text("typst_html_write", kind=int(kind == "items"), layout=layout)
 
 
-def _unread(reply: Reply) -> Failure:
-    """Returns the error for a page that is not read."""
-    place = Place(reply.span, reply.line, reply.column)
+def _unread(reply: Reply, mark: int) -> Failure:
+    """Returns the error for a page that is not read, behind a mark of that length."""
+    place = Place(reply.span - mark, reply.line, reply.column)
     if reply.status == Status.REFUSED:
-        return Refused(reply.number, reply.span, place)
+        return Refused(reply.number, place.offset, place)
     if reply.status == Status.BAD_INPUT:
-        return BadInput("a byte that is no UTF-8", place=place)
+        return BadInput("a byte that is no text", place=place)
     return OutOfMemory() if reply.status == Status.OUT_OF_MEMORY else OtherLibrary()
 
 
 def _reported_by(call: str, page: bytes | str, limit: int, where: str) -> dict[str, list[dict[str, Any]]]:
     """Returns what a call reports of a page."""
     _number("the limit", limit, 1, 1_000, f"{where}(limit)")
-    reply, output = called(call, _bytes(page, f"{where}(page)"), limit=limit)
+    data = _bytes(page, f"{where}(page)")
+    # A text is UTF-8, whatever encoding it declares.
+    mark = b"" if not isinstance(page, str) or data.startswith(BOM_UTF8) else BOM_UTF8
+    reply, output = called(call, mark + data, limit=limit)
     if reply.status != Status.DONE:
-        raise _unread(reply)
+        raise _unread(reply, len(mark))
     report: dict[str, list[dict[str, Any]]] = json.loads(output.decode())
+    for it in chain.from_iterable(report.values()):
+        it["offset"] -= len(mark)
     return report
 
 
@@ -815,8 +822,11 @@ def check(page: bytes | str, *, limit: int = 50) -> Findings:
 
     Reads any page, as a browser without scripting does: what may be left out is implied, and errors are recovered from.
     But if a browser would move nodes out of a table, the page is `Refused`. So is a page with
-    an element that is deeper than `limit`, which is from 1 to 1,000: `html` has depth 1. A page that is no UTF-8 is
-    `BadInput`. Both errors have the place in `place`.
+    an element that is deeper than `limit`, which is from 1 to 1,000: `html` has depth 1.
+
+    Bytes are decoded first, by their byte order mark, or else by the encoding that a `meta` names among the first 1,024.
+    Without either, they are UTF-8 if they can be, and windows-1252 otherwise. A page whose encoding is not UTF-8, UTF-16
+    or windows-1252 is `Refused`, and bytes that are no text in it are `BadInput`. Both errors have the place in `place`.
 
     >>> check("<title>Pie</title>\\n<p>Salt & <a href=#pepper>pepper</a>").dead_fragments
     (DeadFragment(path=(1, 0, 1), fragment='pepper', place=Place(offset=29, line=2, column=11)),)

@@ -17,7 +17,7 @@ class Place:
     """
 
     offset: int
-    """The number of bytes of the page, in UTF-8, before it."""
+    """The number of bytes of the page's text, in UTF-8, before it. (For bytes that have no text, the number of bytes.)"""
     line: int
     """Its line, counted from 1. A line ends with a line feed, a carriage return, or both in the order CR LF."""
     column: int

@@ -21,10 +21,11 @@ WORDS: Final[Mapping[int, str]] = MappingProxyType({
     13: "a raw text element has a child that is no text",
     14: "a raw text would end its element",
     15: "a frame is refused",
+    25: "the page names an encoding that is not known",
     28: "an element has too many attributes",
     32: "a text or an element would be moved out of a table",
     35: "a frameset, plaintext or template",
     39: "a token finds no place",
     40: "too many elements are made again",
 })
-"""The words for what is wrong, by the number of the refusal. A page that is checked has refusals 8 and from 28 on."""
+"""The words for what is wrong, by the number of the refusal. A page that is checked has refusals 8 and from 25 on."""

@@ -190,20 +190,23 @@ struct RuleJson {
     why: String,
 }
 
-impl From<FindingsJson> for Findings {
-    fn from(json: FindingsJson) -> Findings {
+impl FindingsJson {
+    /// Returns the findings in a text before which a mark of so many bytes was put.
+    pub(crate) fn behind(self, mark: u64) -> Findings {
         Findings {
-            dead_fragments: with_paths(json.dead_fragments, |path, found, place| DeadFragment {
-                path,
-                fragment: found.fragment,
-                place,
+            dead_fragments: with_paths(self.dead_fragments, mark, |path, found, place| {
+                DeadFragment {
+                    path,
+                    fragment: found.fragment,
+                    place,
+                }
             }),
-            repeated_ids: with_paths(json.repeated_ids, |path, found, place| RepeatedId {
+            repeated_ids: with_paths(self.repeated_ids, mark, |path, found, place| RepeatedId {
                 path,
                 id: found.id,
                 place,
             }),
-            misnested: with_paths(json.misnested, |path, found, place| Misnested {
+            misnested: with_paths(self.misnested, mark, |path, found, place| Misnested {
                 path,
                 rule: found.rule,
                 why: found.why,
@@ -213,9 +216,10 @@ impl From<FindingsJson> for Findings {
     }
 }
 
-/// Returns the findings of a list, with whole paths.
+/// Returns the findings of a list, with whole paths, and places in the text behind the mark.
 pub(crate) fn with_paths<T, U>(
     listed: Vec<Located<T>>,
+    mark: u64,
     finding: impl Fn(Vec<usize>, T, Place) -> U,
 ) -> Vec<U> {
     let mut path = Vec::new();
@@ -223,7 +227,7 @@ pub(crate) fn with_paths<T, U>(
     for one in listed {
         path.truncate(one.keeps);
         path.extend(one.path);
-        findings.push(finding(path.clone(), one.value, one.place));
+        findings.push(finding(path.clone(), one.value, one.place.behind(mark)));
     }
     findings
 }

@@ -75,6 +75,7 @@ pub use links::{PageId, PageLink, PageLinks, PageName};
 use path::{Form, Given};
 pub use path::{ItemPath, Step};
 pub use refusal::{DeadLinks, Place, Refusal};
+use std::borrow::Cow;
 
 /// The examples of the crate's first page.
 #[cfg(doctest)]
@@ -311,7 +312,8 @@ pub fn unused(document: &Document, limit: u32) -> Result<Vec<String>, Refusal> {
 /// Reads any page, as a browser without scripting does: what may be left out is implied, and errors
 /// are recovered from. But if a browser would move nodes out of a table, the call fails with
 /// [`Refusal::PageRefused`]. It does so too if an element is deeper than `limit`, which is from 1 to
-/// 1,000: `html` has depth 1.
+/// 1,000: `html` has depth 1. An encoding that the page declares counts for nothing, since the page is
+/// a text.
 ///
 /// ```
 /// use typst_html_proved::{check, Place, Refusal};
@@ -332,9 +334,10 @@ pub fn unused(document: &Document, limit: u32) -> Result<Vec<String>, Refusal> {
 /// # Ok::<(), Refusal>(())
 /// ```
 pub fn check(page: &str, limit: u32) -> Result<Findings, Refusal> {
-    let json = raw::check(limit, page.as_bytes())?;
+    let (page, mark) = marked(page);
+    let json = raw::check(limit, page.as_bytes()).map_err(|refusal| refusal.behind(mark))?;
     let findings: FindingsJson = serde_json::from_str(&json).expect(KNOWN_FORM);
-    Ok(findings.into())
+    Ok(findings.behind(mark))
 }
 
 /// Returns what a check of links between pages needs of a page, each with its place: the ids and
@@ -355,9 +358,21 @@ pub fn check(page: &str, limit: u32) -> Result<Findings, Refusal> {
 /// # Ok::<(), Refusal>(())
 /// ```
 pub fn links(page: &str, limit: u32) -> Result<PageLinks, Refusal> {
-    let json = raw::links(limit, page.as_bytes())?;
+    let (page, mark) = marked(page);
+    let json = raw::links(limit, page.as_bytes()).map_err(|refusal| refusal.behind(mark))?;
     let links: PageLinksJson = serde_json::from_str(&json).expect(KNOWN_FORM);
-    Ok(links.into())
+    Ok(links.behind(mark))
+}
+
+/// Returns a page with a byte order mark, and the length of the mark if it was put before the page.
+/// The page is UTF-8 then, whatever encoding it declares.
+fn marked(page: &str) -> (Cow<'_, str>, u64) {
+    const MARK: &str = "\u{feff}";
+    if page.starts_with(MARK) {
+        (Cow::Borrowed(page), 0)
+    } else {
+        (Cow::Owned([MARK, page].concat()), MARK.len() as u64)
+    }
 }
 
 /// Returns the JSON that the library reads. Fails only if a value is deeper than JSON is read:

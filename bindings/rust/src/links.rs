@@ -109,20 +109,21 @@ struct HrefJson {
     href: String,
 }
 
-impl From<PageLinksJson> for PageLinks {
-    fn from(json: PageLinksJson) -> PageLinks {
+impl PageLinksJson {
+    /// Returns the lists of a text before which a mark of so many bytes was put.
+    pub(crate) fn behind(self, mark: u64) -> PageLinks {
         PageLinks {
-            ids: with_paths(json.ids, |path, found, place| PageId {
+            ids: with_paths(self.ids, mark, |path, found, place| PageId {
                 path,
                 id: found.id,
                 place,
             }),
-            names: with_paths(json.names, |path, found, place| PageName {
+            names: with_paths(self.names, mark, |path, found, place| PageName {
                 path,
                 name: found.name,
                 place,
             }),
-            links: with_paths(json.links, |path, found, place| PageLink {
+            links: with_paths(self.links, mark, |path, found, place| PageLink {
                 path,
                 href: found.href,
                 place,

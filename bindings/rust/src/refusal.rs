@@ -13,7 +13,7 @@ const OTHER_LIBRARY: &str = "the library that is linked is not of the version th
 /// A place in a page.
 #[derive(Clone, Copy, Debug, PartialEq, Eq, Hash, Serialize, Deserialize)]
 pub struct Place {
-    /// The number of bytes of the page before it.
+    /// The number of bytes of the page before it, in UTF-8.
     pub offset: u64,
     /// Its line, counted from 1. A line ends with a line feed, a carriage return, or both in the
     /// order CR LF.
@@ -21,6 +21,16 @@ pub struct Place {
     /// Its column, counted from 1 in characters. A byte order mark at the beginning of the page
     /// does not count.
     pub column: usize,
+}
+
+impl Place {
+    /// Returns the place in a text before which a mark of so many bytes was put.
+    pub(crate) fn behind(self, mark: u64) -> Place {
+        Place {
+            offset: self.offset.saturating_sub(mark),
+            ..self
+        }
+    }
 }
 
 impl fmt::Display for Place {
@@ -76,7 +86,7 @@ pub enum Refusal {
     #[error("{} (refusal {number} at {place})", words(.number))]
     #[non_exhaustive]
     PageRefused {
-        /// The number of the reason, 8 or from 28 to 40. [`Refusal::words`] returns its words.
+        /// The number of the reason, 8 or from 25 to 40. [`Refusal::words`] returns its words.
         number: u8,
         /// The place where the tag or the character begins.
         place: Place,
@@ -179,6 +189,14 @@ impl Refusal {
         self
     }
 
+    /// Returns the refusal of a text before which a mark of so many bytes was put.
+    pub(crate) fn behind(mut self, mark: u64) -> Refusal {
+        if let Refusal::PageRefused { place, .. } = &mut self {
+            *place = place.behind(mark);
+        }
+        self
+    }
+
     /// Returns words for what is wrong.
     pub fn words(&self) -> &'static str {
         match self {
@@ -226,6 +244,7 @@ fn words(number: &u8) -> &'static str {
         13 => "a raw text element has a child that is no text",
         14 => "a raw text would end its element",
         15 => "a frame is refused",
+        25 => "the page names an encoding that is not known",
         28 => "an element has too many attributes",
         32 => "a text or an element would be moved out of a table",
         35 => "a frameset, plaintext or template",

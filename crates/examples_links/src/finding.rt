@@ -19,8 +19,11 @@ impl Unread {
     pub fn by_fault(alloc: Global, path: &str, fault: &PageFault) -> Result<Unread, AllocError> {
         let (place, reason) = match fault {
             PageFault::OutOfMemory => return Err(AllocError),
+            PageFault::UnknownLabel { label, place } => {
+                (*place, format!(in alloc; "unknown encoding `{label}`")?)
+            }
             PageFault::NotText { place } => {
-                (*place, String::from_str(alloc, "a byte that is no UTF-8")?)
+                (*place, String::from_str(alloc, "a byte that is no text")?)
             }
             PageFault::Refused { refusal, place } => (*place, format!(in alloc; "{refusal}")?),
         };

@@ -3,12 +3,11 @@
 use crate::finding::Kind;
 use crate::links::{Link, Links};
 use html_page::{
-    HtmlElement, Misnesting, PageFault, Place, Places, element_at, misnested, place_names,
-    read_page_bytes, repeated_ids,
+    HtmlElement, Misnesting, PageFault, Place, Places, decode_page_bytes, element_at, misnested,
+    place_names, read_page, repeated_ids,
 };
 use std::alloc::{AllocError, Global};
 use std::collections::BTreeSet;
-use std::str;
 
 /// The greatest depth of elements.
 const DEEPEST: usize = 1000;
@@ -32,8 +31,9 @@ pub struct Page {
 impl Page {
     /// Reads a page, and returns the part that the check needs.
     pub fn read(alloc: Global, bytes: &[u8]) -> Result<Page, PageFault> {
-        let (root, _) = read_page_bytes(alloc, bytes, DEEPEST)?;
-        let text = str::from_utf8(bytes).unwrap_or("");
+        let page = decode_page_bytes(alloc, bytes)?;
+        let text = page.text.as_str();
+        let (root, _) = read_page(alloc, text, DEEPEST)?;
         let Links { found, base, .. } = Links::of(alloc, &root, text)?;
         Ok(Page {
             names: place_names(alloc, &root)?,

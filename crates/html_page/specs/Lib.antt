@@ -17,6 +17,9 @@ pub use Rattle.html_names_core.specs.Characters
 pub use Rattle.html_names_core.specs.Kinds
 pub use Rattle.html_names_core.specs.Names
 pub use Rattle.html_names_core.specs.Texts
+pub use Rattle.html_page_encoding.specs.Decoded
+pub use Rattle.html_page_encoding.specs.Labels
+pub use Rattle.html_page_encoding.specs.PageEncodings
 pub use Rattle.html_page_findings.specs.ElementPaths
 pub use Rattle.html_page_findings.specs.Findings
 pub use Rattle.html_page_findings.specs.Fragments
@@ -33,6 +36,7 @@ pub use Rattle.html_page_nesting.specs.PageRoots
 pub use Rattle.html_page_nesting.specs.Surroundings
 pub use Rattle.html_page_nesting.specs.WrittenTags
 pub use Rattle.html_page_nesting.specs.WrittenTexts
+pub use Rattle.html_page_read.specs.BytePlaces
 pub use Rattle.html_page_read.specs.DocumentTypes
 pub use Rattle.html_page_read.specs.FragmentReading
 pub use Rattle.html_page_read.specs.PageAnswers
@@ -51,6 +55,8 @@ pub use Rattle.html_page_text.specs.Parts
 pub use Rattle.html_page_tree.specs.FragmentPages
 pub use Rattle.html_page_tree.specs.PageBodies
 pub use Rattle.html_page_tree.specs.PageTrees
+pub use Rattle.html_page_encoding.specs.declared.encoding.Encoding
+pub use Rattle.html_page_encoding.specs.declared.page.DecodedPage
 pub use Rattle.html_page_read.specs.declared.fault.PageFault
 pub use Rattle.html_page_read.specs.declared.fault.PageNote
 pub use Rattle.html_page_read.specs.declared.fault.PageNotes

@@ -31,10 +31,12 @@ pub use html_links::{
     base_of, decoded_fragment, fragment_in, fragment_leads, href_is_script, place_in, place_names,
 };
 pub use html_names_core::{HtmlAttr, HtmlTag, NameFault, Refused, attr, property, tag};
+pub use html_page_encoding::{DecodedPage, Encoding};
 pub use html_page_findings::{DeadFragment, RepeatedId, dead_fragments, element_at, repeated_ids};
 pub use html_page_nesting::{Misnested, Misnesting, misnested};
 pub use html_page_read::{
-    PageFault, PageNote, PageNotes, Places, read_fragment, read_page, read_page_bytes,
+    PageFault, PageNote, PageNotes, Places, decode_page_bytes, read_fragment, read_page,
+    read_page_bytes,
 };
 pub use html_page_stack::{PageError, PageRefusal};
 pub use html_page_text::{PageText, Shown, page_text};

@@ -1,3 +1,4 @@
+pub mod BytePages
 pub mod CodedNames
 pub mod DocumentRows
 pub mod Fragments

@@ -1,3 +1,4 @@
+pub mod BytePlaces
 pub mod DocumentTypes
 pub mod FragmentReading
 pub mod Fronts

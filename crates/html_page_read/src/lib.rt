@@ -2,6 +2,7 @@
 //! make.
 #![tactic(auto)]
 
+mod bytes;
 mod cdata;
 mod comment;
 mod common;
@@ -27,6 +28,7 @@ mod tag_front;
 mod tags;
 mod values;
 
+pub use bytes::decode_page_bytes;
 pub use fault::{PageFault, PageNote, PageNotes};
 pub use fragment::read_fragment;
 pub use place::Places;

@@ -1,19 +1,21 @@
 //! Reading a page as browsers do, from a text or bytes to its element and the errors in it.
 
 ghost use Rattle.std.specs.Prelude.{◌≡◌, ◌≤◌, ◌<◌, ◌+◌, ◌^◌, OnOk, IfOk, chars, length};
+ghost use Rattle.html_page_encoding.specs.declared.encoding.Encoding.TheVariants.{Utf8};
 ghost use Rattle.html_page_read.specs.PageAnswers.{ArePlaced, Gives, GivesBytes, fault_at, placed};
 ghost use Rattle.html_page_read.specs.PageReading as pages;
 ghost use Rattle.html_page_read.specs.PageReaderViews.{reader_of};
 ghost use Rattle.html_page_stack.specs.PageViews.{notes_of, page_of};
 
+use crate::bytes::decode_page_bytes;
 use crate::fault::{PageFault, PageNote, PageNotes};
 use crate::place::place_at;
 use crate::reader::Reader;
 use html_dom_tree::HtmlElement;
 use html_dom_tree::text::split_first;
+use html_page_encoding::{DecodedPage, Encoding};
 use html_page_stack::{Notes, Page, PageError, PageRefusal};
 use std::alloc::{AllocError, Global};
-use std::str;
 
 pub(crate) const BYTE_ORDER_MARK: char = '\u{feff}';
 
@@ -71,12 +73,28 @@ pub fn read_page(
 
 /// Reads a page from elsewhere, in bytes, and returns its element and the errors in it.
 ///
-/// Reads the text as [`read_page`] does.
+/// Decodes the page as [`decode_page_bytes`] does, and reads its text as [`read_page`] does. Places
+/// are those in the text; [`PageNotes::encoding`] is the encoding that the page had.
 ///
 /// # Errors
 ///
-/// Those of [`read_page`], and before all others [`PageFault::NotText`] with the place of the first
-/// byte that is no UTF-8.
+/// Those of [`read_page`], and before all others those of [`decode_page_bytes`].
+///
+/// ```
+/// use html_page::{Encoding, PageFault, read_page_bytes};
+///
+/// let alloc = rt.alloc();
+/// let (_, notes) = read_page_bytes(alloc, b"<!DOCTYPE html><p>caf\xe9", 50)?;
+/// assert_eq!(rt; notes.encoding, Encoding::Windows1252);
+///
+/// let read = read_page_bytes(alloc, b"<!DOCTYPE html>\n<meta charset=big5>", 50);
+/// let Err(PageFault::UnknownLabel { label, place }) = read else {
+///     panic!(rt; "no label of this project");
+/// };
+/// assert_eq!(rt; label.as_str(), "big5");
+/// assert_eq!(rt; place.line, 2);
+/// assert_eq!(rt; place.column, 15);
+/// ```
 pub fn read_page_bytes(
     alloc: Global,
     page: &[u8],
@@ -86,15 +104,10 @@ pub fn read_page_bytes(
     requires low_limit { limit ≤ 10000 }
     ensures { GivesBytes result page.now limit }
 {
-    match str::from_utf8(page) {
-        Ok(text) => read_page(alloc, text, limit),
-        Err(fault) => {
-            let valid = fault.valid_up_to();
-            let front = str::from_utf8(&page[..valid]).unwrap();
-            let place = place_at(front, valid);
-            Err(PageFault::NotText { place })
-        }
-    }
+    let DecodedPage { text, encoding } = decode_page_bytes(alloc, page)?;
+    let (root, mut notes) = read_page(alloc, text.as_str(), limit)?;
+    notes.encoding = encoding;
+    Ok((root, notes))
 }
 
 /// Returns the fault of a refusal.
@@ -119,14 +132,19 @@ fn note_at(text: &str, note: &(PageError, usize)) -> PageNote
 
 /// Returns the errors with their places in the text.
 fn notes_at(alloc: Global, text: &str, notes: Notes) -> Result<PageNotes, AllocError>
-    ensures { IfOk result (ArePlaced (chars text.now) (notes_of notes)) }
+    ensures placed { IfOk result (ArePlaced (chars text.now) (notes_of notes)) }
+    ensures encoding { IfOk result (λ reported. reported.encoding ≡ Utf8) }
 {
     let count = notes.count;
     let mut first = Vec::new(alloc);
     for note in &notes.first {
         first.push(note_at(text, note))?;
     }
-    Ok(PageNotes { count, first })
+    Ok(PageNotes {
+        count,
+        first,
+        encoding: Encoding::Utf8,
+    })
 }
 
 pub(crate) fn run(reader: &mut Reader, text: &str) -> Result<(), AllocError>

@@ -62,8 +62,9 @@
 //!
 //! For a whole page:
 //!
-//! - `as-browsers [limit=N]`: the text of the tree that `read_page_bytes` reads, and after each
-//!   ` ! ` a recovered error, with its line and column; or `refused, `, the reason and the place
+//! - `as-browsers [limit=N] [encoding]`: the text of the tree that `read_page_bytes` reads, before
+//!   it the name of the encoding, if wanted, and after each ` ! ` a recovered error, with its line
+//!   and column; or `refused, `, the reason and the place
 //! - `page-places`: the elements of that tree, in document order, each with the place of its span
 //!
 //! For a fragment of a page:

@@ -5,10 +5,11 @@ use anyhow::{Result, ensure};
 use html_dom_document::DocumentInfo;
 use html_dom_tree::{HtmlElement, HtmlNode};
 use html_flow_convert::is_depth_limit;
-use html_page_read::{PageFault, PageNotes, Places, read_fragment, read_page_bytes};
+use html_page_read::{
+    PageFault, PageNotes, Places, decode_page_bytes, read_fragment, read_page, read_page_bytes,
+};
 use html_page_text::{Shown, page_text};
 use std::alloc::Global;
-use std::str;
 use tests_rows_items::items_in;
 use tests_rows_run::Row;
 use typst_html_encode::{HtmlOptions, html_fragment, html_in_bundle};
@@ -81,7 +82,8 @@ fn visible_text(alloc: Global, root: &HtmlElement) -> Result<String> {
     Ok(text)
 }
 
-/// Returns what `read_page_bytes` reads, as browsers do: the tree's text, and recovered errors.
+/// Returns what `read_page_bytes` reads, as browsers do: the tree's text, and recovered errors. With
+/// the word `encoding`, the name of the page's encoding stands before it.
 pub(crate) fn as_browsers(alloc: Global, row: &Row<'_>) -> Result<String> {
     let limit = row.number("limit", DEEPEST)?;
     ensure!(is_depth_limit(limit), "no limit");
@@ -92,6 +94,9 @@ pub(crate) fn as_browsers(alloc: Global, row: &Row<'_>) -> Result<String> {
     };
     let text = html_in_bundle(alloc, &root, &HtmlOptions::default(), &())?;
     let mut shown = inner_text(alloc, &text, (DOCUMENT_TYPE, ""))?;
+    if row.words.contains(&"encoding") {
+        shown = format!(in alloc; "{} {shown}", notes.encoding.name())?;
+    }
     add_notes(&notes, &mut shown)?;
     Ok(shown)
 }
@@ -117,10 +122,12 @@ pub(crate) fn fragment_as_browsers(alloc: Global, row: &Row<'_>) -> Result<Strin
     Ok(shown)
 }
 
-/// Returns the elements of a page that `read_page_bytes` reads, each with the place of its span.
+/// Returns the elements of a page of bytes, each with the place of its span in the decoded text.
 pub(crate) fn element_places(alloc: Global, row: &Row<'_>) -> Result<String> {
-    let (root, _) = read_page_bytes(alloc, &row.input, DEEPEST)?;
-    let mut places = Places::new(str::from_utf8(&row.input)?);
+    let page = decode_page_bytes(alloc, &row.input)?;
+    let text = page.text.as_str();
+    let (root, _) = read_page(alloc, text, DEEPEST)?;
+    let mut places = Places::new(text);
     let mut shown = String::new(alloc);
     add_places(&root, &mut places, &mut shown)?;
     Ok(shown)

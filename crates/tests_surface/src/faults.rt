@@ -73,6 +73,12 @@ fn faults_of_the_layers_below(rt: HostRuntime) -> TestResult {
     assert_faults(alloc, &faults, MADE)
 }
 
+const PLACE: Place = Place {
+    offset: 40,
+    line: 3,
+    column: 14,
+};
+
 const OTHERS: &str = "\
     0: out of memory\n\
     8: items are nested too deeply\n\
@@ -81,23 +87,18 @@ const OTHERS: &str = "\
     0: out of memory\n\
     8: elements are nested too deeply at 3:14\n\
     25: other syntax than that of written pages at 3:14\n\
-    0: out of memory\n\
-    25: a byte that is no text at 3:14\n\
-    39: a token finds no place at 3:14\n\
     a write failed\n";
+
+const OF_PAGES: &str = "\
+    0: out of memory\n\
+    25: unknown encoding `big5` at 3:14\n\
+    25: a byte that is no text at 3:14\n\
+    39: a token finds no place at 3:14\n";
 
 #[test]
 fn other_faults(rt: HostRuntime) -> TestResult {
     let (mut shown, span) = (String::new(rt.alloc()), Span(7));
-    let (offset, line, column) = (40, 3, 14);
-    let (place, refusal) = (
-        Place {
-            offset,
-            line,
-            column,
-        },
-        PageRefusal::Unsettled,
-    );
+    let place = PLACE;
     for fault in [FlowFault::OutOfMemory, FlowFault::TooDeep { span }] {
         write!(shown, "{}: {fault}\n", fault.number())?;
     }
@@ -108,15 +109,25 @@ fn other_faults(rt: HostRuntime) -> TestResult {
     for fault in [ReadFault::OutOfMemory, deep, syntax] {
         write!(shown, "{}: {fault}\n", fault.number())?;
     }
-    let (bytes, refused) = (
-        PageFault::NotText { place },
-        PageFault::Refused { refusal, place },
-    );
-    for fault in [PageFault::OutOfMemory, bytes, refused] {
-        write!(shown, "{}: {fault}\n", fault.number())?;
-    }
     write!(shown, "{WriteFailed}\n")?;
     assert_text(&shown, OTHERS)
+}
+
+#[test]
+fn faults_of_pages(rt: HostRuntime) -> TestResult {
+    let (mut shown, place) = (String::new(rt.alloc()), PLACE);
+    let label = String::from_str(rt.alloc(), "big5")?;
+    let refusal = PageRefusal::Unsettled;
+    let faults = [
+        PageFault::OutOfMemory,
+        PageFault::UnknownLabel { label, place },
+        PageFault::NotText { place },
+        PageFault::Refused { refusal, place },
+    ];
+    for fault in &faults {
+        write!(shown, "{}: {fault}\n", fault.number())?;
+    }
+    assert_text(&shown, OF_PAGES)
 }
 
 /// Values whose fields are not shown.

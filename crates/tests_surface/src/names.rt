@@ -39,12 +39,13 @@ mod values {
 /// Pages and the trees that they become, in html_page.
 mod pages {
     use html_page::{
-        DeadFragment, Frame, FrameItem, HtmlAttr, HtmlAttrs, HtmlElement, HtmlFrame, HtmlNode,
-        HtmlTag, Location, Misnested, Misnesting, NameFault, PageError, PageFault, PageNote,
-        PageNotes, PageRefusal, PageText, Place, Places, Point, Refused, RepeatedId, Shown, Span,
-        Tag, Visit, Walk, attr, base_of, dead_fragments, decoded_fragment, element_at, fragment_in,
-        fragment_leads, href_is_script, laws, misnested, page_text, place_in, place_names,
-        property, read_fragment, read_page, read_page_bytes, repeated_ids, tag,
+        DeadFragment, DecodedPage, Encoding, Frame, FrameItem, HtmlAttr, HtmlAttrs, HtmlElement,
+        HtmlFrame, HtmlNode, HtmlTag, Location, Misnested, Misnesting, NameFault, PageError,
+        PageFault, PageNote, PageNotes, PageRefusal, PageText, Place, Places, Point, Refused,
+        RepeatedId, Shown, Span, Tag, Visit, Walk, attr, base_of, dead_fragments,
+        decode_page_bytes, decoded_fragment, element_at, fragment_in, fragment_leads,
+        href_is_script, laws, misnested, page_text, place_in, place_names, property, read_fragment,
+        read_page, read_page_bytes, repeated_ids, tag,
     };
 }
 

@@ -1,6 +1,9 @@
 //! The traits of public types. Functions that do nothing are there for their bounds.
 
-use html_page::{DeadFragment, PageError, PageFault, PageNote, PageRefusal, PageText, RepeatedId};
+use html_page::{
+    DeadFragment, DecodedPage, Encoding, PageError, PageFault, PageNote, PageRefusal, PageText,
+    RepeatedId,
+};
 use std::error::Error;
 use std::fmt::{Debug, Display as Shown};
 use std::hash::Hash;
@@ -41,7 +44,7 @@ fn writes_frames<T: FrameWriter>() {}
 fn types_that_are_compared() {
     are_compared::<(DocumentInfo, Frame, FrameItem, HtmlElement)>();
     are_compared::<(HtmlFrame, HtmlNode, ImageCandidate, Locale)>();
-    are_compared::<(PageText, Str, Tag)>();
+    are_compared::<(DecodedPage, PageFault, PageText, Str, Tag)>();
     are_compared::<
         (
             CastFault,
@@ -59,7 +62,7 @@ fn types_that_are_copied() {
     are_copied::<(AutoValue, Datetime, Dir, Duration, Fault)>();
     are_copied::<(HorizontalDir, IconSize, LastCall, Moment, NativeType)>();
     are_copied::<(NoneEmpty, NoneUndefined, NoneValue, OnOffBool, Point)>();
-    are_copied::<(InputPlace, PageError, PageFault, PageNote, PageRefusal)>();
+    are_copied::<(Encoding, InputPlace, PageError, PageNote, PageRefusal)>();
     are_copied::<(Separator, Settings, Status, Task)>();
     are_copied::<(TrueFalseBool, YesNoBool)>();
 }

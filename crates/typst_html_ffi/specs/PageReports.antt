@@ -1,9 +1,10 @@
 -- What a call reports of a page, and its reply.
-use Rattle.std.specs.{Prelude.{◌≡◌, ℕ, List, chars, if◌then◌else◌, Option, Some, None, Result, Ok, Err}, Str.{is_utf8}}
-use Rattle.std.specs.Str.Lossy.{utf8_valid_len}
+use Rattle.std.specs.Prelude.{◌≡◌, ℕ, List, Option, Some, None, Result, Ok, Err}
 use Rattle.serde_json.specs.{Data.{Data}, Written.{compact_text}}
 use Rattle.html_dom_tree.specs.Tree.{ElementView}
-use Rattle.html_page_read.specs.{PageAnswers.{valid_text}, PagePlaces.{place_at}, PageReading.{PageResult, page_read}}
+use Rattle.html_page_encoding.specs.PageEncodings.{FaultView, NotText, UnknownLabel, page_text}
+use Rattle.html_page_encoding.specs.declared.encoding.Encoding.{Encoding}
+use Rattle.html_page_read.specs.{BytePlaces.{label_place, no_text_place}, PagePlaces.{place_at}, PageReading.{PageResult, page_read}}
 use Rattle.html_page_stack.specs.{PageRefusals.{refusal_number}, Pages.{Notes}}
 use Rattle.html_text.specs.declared.place.Place.{Place}
 use Rattle.typst_html_ffi.specs.{CallReplies.{buffer_with, page_limit_of, text_reply, without_text}, declared.reply.Reply.{Reply}}
@@ -23,10 +24,6 @@ placed status n place = record {
 abbrev pub Report : Type 0
 Report = Result (List ℕ) Reply
 
--- the place of the first byte of a page that is not UTF-8
-abbrev pub no_text_place : (page : List ℕ) → Place
-no_text_place page = place_at (valid_text page) (utf8_valid_len page)
-
 -- given the data that a call reports of a page with that text and that element
 module _ (data_of : (text : List ℕ) → ElementView → Data) where
   -- the report on a page that was read with that result: the data, or the number of the refusal and
@@ -35,10 +32,16 @@ module _ (data_of : (text : List ℕ) → ElementView → Data) where
   report_of text (Ok read) = Ok (compact_text (data_of text read.0))
   report_of text (Err refused) = Err (placed 1 (refusal_number refused.0) (place_at text refused.1))
 
+  -- the report on a page with that text in its encoding; 25 is the number of an unknown label
+  abbrev pub report_in : (page : List ℕ) → (limit : ℕ) →
+      (decoded : Result (Encoding × List ℕ) FaultView) → Report
+  report_in page limit (Ok decoded) = report_of decoded.1 (page_read limit decoded.1)
+  report_in page limit (Err (UnknownLabel label n)) = Err (placed 1 25 (label_place page n))
+  report_in page limit (Err (NotText n)) = Err (placed 2 0 (no_text_place page n))
+
   -- the report on the bytes of a page
   unfoldable pub page_report : (page : List ℕ) → (limit : ℕ) → Report
-  page_report page limit = if is_utf8 page then report_of (chars page) (page_read limit (chars page))
-      else Err (placed 2 0 (no_text_place page))
+  page_report page limit = report_in page limit (page_text page)
 
   abbrev pub report_within : (page : List ℕ) → (limit : Option ℕ) → Report
   report_within page None = Err (without_text 2 0 0)

@@ -5,7 +5,7 @@ use Rattle.html_page_findings.specs.PlacedTexts.{Placed}
 use Rattle.html_page_nesting.specs.Misnested.{Finding}
 use Rattle.html_dom_tree.specs.{Tree.{ElementView}, Views.{element_view}}
 use Rattle.html_page_read.specs.{PlaceViews.{text_of}, declared.fault.PageFault.{PageFault}}
-use Rattle.html_page_read.specs.declared.fault.PageFault.TheVariants.{OutOfMemory, NotText, Refused}
+use Rattle.html_page_read.specs.declared.fault.PageFault.TheVariants.{OutOfMemory, UnknownLabel, NotText, Refused}
 use Rattle.html_page_stack.specs.PageRefusals.{refusal_number}
 use Rattle.html_text.specs.declared.place.Place.{Place}
 use Rattle.typst_html_ffi.specs.{CallReplies.{without_text}, FindingLists.{element_place, findings_behind}}
@@ -36,14 +36,14 @@ asked_data asked.Links = page_links
 -- the reply for a page that is not read
 abbrev pub unread_reply : PageFault → Reply
 unread_reply OutOfMemory = without_text 3 0 0
+unread_reply (UnknownLabel label place) = placed 1 25 place
 unread_reply (NotText place) = placed 2 0 place
 unread_reply (Refused refusal place) = placed 1 (refusal_number refusal) place
 
 -- the fault is the report, unless an allocation failed
 abbrev pub IsFaultReport : Report → PageFault → Type 0
 IsFaultReport report OutOfMemory = Unit {0}
-IsFaultReport report (NotText place) = report ≡ Err (unread_reply (NotText place))
-IsFaultReport report (Refused refusal place) = report ≡ Err (unread_reply (Refused refusal place))
+IsFaultReport report other = report ≡ Err (unread_reply other)
 
 -- the pieces are the whole report, or the fault is the report
 abbrev pub GivesReport : Result (Vec (String Global) Global) PageFault → Report → Type 0

@@ -228,8 +228,8 @@ pub fn typst_html_unused(alloc: Global, limit: u32, input: &[u8], output: &mut [
 /// the list, and goes on with those of `path`. So the link to `sage` stands at 1, 5. The first
 /// finding of a list keeps none.
 ///
-/// The offset is the number of bytes of the page before the `<` of the start tag, or, for a text,
-/// before that of the element in which it stands. Lines and columns are counted from 1, columns in
+/// The offset is the number of bytes of the page's text, in UTF-8, before the `<` of the start tag,
+/// or, for a text, before that of the element in which it stands. Lines and columns are counted from 1, columns in
 /// characters. A line ends with a line feed, a carriage return or both, in that order. A byte order
 /// mark at the beginning is not counted as a character.
 ///
@@ -238,13 +238,17 @@ pub fn typst_html_unused(alloc: Global, limit: u32, input: &[u8], output: &mut [
 /// carriage return that is written as a character reference. `rule` is the name of a
 /// [`Misnesting`](html_page_nesting::Misnesting), and `why` has its words.
 ///
-/// [`read_page_bytes`](html_page_read::read_page_bytes) reads the page as a browser does (HTML
-/// Standard 13.2, with scripting disabled). It refuses a page in which a browser would move nodes
-/// out of a table, and one in which an element would stand deeper than the limit. The reply then has
-/// the number of the refusal ([`PageRefusal`](html_page_stack::PageRefusal)) and the place of the
-/// tag or character. A page that is not UTF-8 is bad input, with the place of the first byte that is
-/// invalid. A limit that is not from 1 to 1,000 is bad input without a place. Buffers and replies are
-/// those of [`typst_html_write`].
+/// The page is decoded ([`decode_page_bytes`](html_page_read::decode_page_bytes)), by its byte order
+/// mark, its label or its bytes. A page whose label is not known is refused (25), with the place of
+/// the label; bytes that are no text in the encoding are bad input, with the place of the first. The
+/// offsets of both count the bytes of the page.
+///
+/// [`read_page`](html_page_read::read_page) reads the text as a browser does (HTML Standard 13.2,
+/// with scripting disabled). It refuses a page in which a browser would move nodes out of a table,
+/// and one in which an element would stand deeper than the limit. The reply then has the number of
+/// the refusal ([`PageRefusal`](html_page_stack::PageRefusal)) and the place of the tag or character.
+/// A limit that is not from 1 to 1,000 is bad input without a place. Buffers and replies are those of
+/// [`typst_html_write`].
 ///
 /// Takes the time of reading. Each list takes one more pass over the page, and each finding the
 /// length of its path. The findings are written as they are found: beside the report, two paths are

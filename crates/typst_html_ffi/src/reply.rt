@@ -20,7 +20,8 @@ pub struct Reply {
     pub length: usize,
     /// The span of what is refused, or of the first link that leads nowhere. For a bad input, where
     /// it leaves the form, as in [`InputPlace::Form`]. For a page that is not read, how many bytes
-    /// of it stand before the place of the fault. Otherwise, or if there is no span, 0.
+    /// stand before the place of the fault, of its text or, if it has none, of the page. Otherwise,
+    /// or if there is no span, 0.
     pub span: u64,
     /// The line at which an input is not JSON, or of the place of the fault in a page, counted from
     /// 1; otherwise 0.

@@ -15,9 +15,11 @@ use crate::page::Page;
 use crate::pieces::lone_piece;
 use crate::reply::{BAD_INPUT, OUT_OF_MEMORY, REFUSED, Reply, placed, put_pieces, without_text};
 use html_dom_tree::HtmlElement;
-use html_page_read::{PageFault, Places, read_page_bytes};
+use html_page_read::{PageFault, Places, decode_page_bytes, read_page};
 use std::alloc::{AllocError, Global};
-use std::str;
+
+/// The number of a refusal for an encoding that is not known.
+const UNKNOWN_LABEL: u8 = 25;
 
 /// What a call reports of a page.
 #[derive(Clone, Copy)]
@@ -62,12 +64,13 @@ fn unread_reply(fault: PageFault) -> Reply
 {
     match fault {
         PageFault::OutOfMemory => without_text(OUT_OF_MEMORY, 0, 0),
+        PageFault::UnknownLabel { place, .. } => placed(REFUSED, UNKNOWN_LABEL, place),
         PageFault::NotText { place } => placed(BAD_INPUT, 0, place),
         PageFault::Refused { refusal, place } => placed(REFUSED, refusal.number(), place),
     }
 }
 
-/// Reads a page and returns the report on it.
+/// Decodes a page, reads it and returns the report on it.
 fn report_of(
     alloc: Global,
     asked: Asked,
@@ -78,14 +81,10 @@ fn report_of(
     requires low_limit { limit ≤ 10000 }
     ensures { GivesReport result (page_report (asked_data asked) page.now limit) }
 {
-    match read_page_bytes(alloc, page, limit) {
-        Ok((root, _)) => {
-            // Only a page that is UTF-8 is read.
-            let places = Places::new(str::from_utf8(page).unwrap());
-            Ok(asked_text(alloc, asked, root, places)?)
-        }
-        Err(fault) => Err(fault),
-    }
+    let page = decode_page_bytes(alloc, page)?;
+    let text = page.text.as_str();
+    let (root, _) = read_page(alloc, text, limit)?;
+    Ok(asked_text(alloc, asked, root, Places::new(text))?)
 }
 
 fn asked_text(
