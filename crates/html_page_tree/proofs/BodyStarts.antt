@@ -5,7 +5,7 @@ use Rattle.html_page_names.specs.PageNames.{of}
 use Rattle.html_page_names.specs.declared.kind.Kind.TheVariants as kind
 use Rattle.html_page_stack.specs.{OpenElements.{OpenElement, holds_html_in, holds_text_in, is_html, is_in_foreign, mode}, Pages.{Page, Start, StartTag}}
 use Rattle.html_page_stack.specs.declared.modes.{Mode.{Mode}, Space.{Space}, Mode.TheVariants.{InBody, InCell}}
-use Rattle.html_page_stack.specs.declared.modes.Space.TheVariants.{Html, Svg, MathMl}
+use Rattle.html_page_stack.specs.declared.modes.Space.TheVariants.{Html, Svg, MathMl, Removed}
 use Rattle.html_page_tree.specs.{BodyStarts.{begins_in, begins_in_body}, PageBodies.{in_body_start}}
 use Rattle.html_page_tree.specs.PageTrees.{by_mode, holds_svg_in, in_foreign, is_foreign_token, turn}
 
@@ -14,6 +14,7 @@ stands : (s : Space) (o : OpenElement) (b c : Bool) → not (not (is_html s)) �
 stands Html o b c h = refl
 stands Svg o b c h = absurd (false≢true h)
 stands MathMl o b c h = absurd (false≢true h)
+stands Removed o b c h = absurd (false≢true h)
 
 no_foreign : (t : StartTag) (os : List OpenElement) → not (is_in_foreign os) ≡ true →
     is_foreign_token (Start t) os ≡ false
