@@ -311,7 +311,7 @@ static void pages_are_refused(void) {
         {1, "", TYPST_HTML_REFUSED, 8, 0, 1, 1},
         {50, "<table>\r\n<p>a", TYPST_HTML_REFUSED, 32, 9, 2, 1},
         {50, "<svg></svg><frameset>", TYPST_HTML_REFUSED, 35, 11, 1, 12},
-        {50, "<!DOCTYPE html>\n<p>\xc3\xa9\xe9</p>", TYPST_HTML_BAD_INPUT, 0, 21, 2, 5},
+        {50, "<!DOCTYPE html>\n<meta charset=utf-8><p>\xc3\xa9\xe9</p>", TYPST_HTML_BAD_INPUT, 0, 41, 2, 25},
         {50, "\xef\xbb\xbf\xff", TYPST_HTML_BAD_INPUT, 0, 3, 1, 1},
     };
     uint8_t output[64];
@@ -384,7 +384,7 @@ static void strings_end_with_nul(void) {
 /* Each number has words of its own, and what is none has others. */
 static void refusals_have_words(void) {
     for (unsigned number = 0; number < 256; number++) {
-        bool is_one = (number >= 1 && number <= 15) || number == 28 || number == 32 || number == 35 || number == 39 || number == 40;
+        bool is_one = (number >= 1 && number <= 15) || number == 25 || number == 28 || number == 32 || number == 35 || number == 39 || number == 40;
         expect("the words of a number", is_one == !!strcmp(typst_html_words(number), "refused"));
         for (unsigned other = 0; is_one && other < number; other++)
             expect("words of their own", strcmp(typst_html_words(number), typst_html_words(other)));
