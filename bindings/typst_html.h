@@ -86,8 +86,6 @@ enum typst_html_refusal {
     TYPST_HTML_REFUSAL_FRAME_REFUSED = 15,
     TYPST_HTML_REFUSAL_UNKNOWN_LABEL = 25,
     TYPST_HTML_REFUSAL_TOO_MANY_ATTRIBUTES = 28,
-    TYPST_HTML_REFUSAL_FOSTER_PARENTING = 32,
-    TYPST_HTML_REFUSAL_UNREAD_ELEMENT = 35,
     TYPST_HTML_REFUSAL_UNSETTLED = 39,
     TYPST_HTML_REFUSAL_TOO_MANY_COPIES = 40,
 };
@@ -129,10 +127,6 @@ static inline const char *typst_html_words(uint8_t number) {
         return "the page names an encoding that is not known";
     case TYPST_HTML_REFUSAL_TOO_MANY_ATTRIBUTES:
         return "an element has too many attributes";
-    case TYPST_HTML_REFUSAL_FOSTER_PARENTING:
-        return "a text or an element would be moved out of a table";
-    case TYPST_HTML_REFUSAL_UNREAD_ELEMENT:
-        return "a frameset, plaintext or template";
     case TYPST_HTML_REFUSAL_UNSETTLED:
         return "a token finds no place";
     case TYPST_HTML_REFUSAL_TOO_MANY_COPIES:
@@ -250,9 +244,8 @@ struct typst_html_reply typst_html_unused(uint32_t limit, const uint8_t *input, 
  * with it. Read the members by their names: there may be more.
  *
  * The page is read as a browser with scripting disabled reads it: tags that may be left out are
- * implied, and errors are recovered from. But a page in which a browser would move nodes out of a
- * table is refused, with the place of the tag or the character, and so is one in which an element
- * would stand deeper than `limit`, which is from 1 to 1,000; `html` stands at 1.
+ * implied, and errors are recovered from. But a page in which an element would stand deeper than
+ * `limit` is refused, with the place of the tag; `limit` is from 1 to 1,000, and `html` stands at 1.
  *
  * The page is decoded first. It has the encoding of its byte order mark (UTF-8 or UTF-16), or is in
  * UTF-16 if an XML declaration begins so, or else has the encoding that a `meta` or an XML

@@ -52,9 +52,9 @@ int main() {
     text = text_of([](char *output, size_t room) { return typst_html_links_string(50, "<p>", output, room); },
                    reply);
     expect(reply.status == TYPST_HTML_DONE && text == "{\"ids\":[],\"names\":[],\"links\":[]}");
-    text_of([](char *output, size_t room) { return typst_html_check_string(50, "<table>a", output, room); },
+    text_of([](char *output, size_t room) { return typst_html_check_string(2, "<p>a", output, room); },
             reply);
-    expect(reply.status == TYPST_HTML_REFUSED && reply.number == TYPST_HTML_REFUSAL_FOSTER_PARENTING);
-    expect(!std::strcmp(typst_html_words(reply.number), "a text or an element would be moved out of a table"));
+    expect(reply.status == TYPST_HTML_REFUSED && reply.number == TYPST_HTML_REFUSAL_TOO_DEEP);
+    expect(!std::strcmp(typst_html_words(reply.number), "a body, or an element of a page, stands deeper than the limit"));
     return failed;
 }

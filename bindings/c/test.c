@@ -282,9 +282,9 @@ static void links_of_pages_are_reported(void) {
     expect("links", reply.status == TYPST_HTML_DONE && reply.length == room &&
                         !memcmp(output, found, room) && output[room] == '.');
     expect("links with limit 0", linked(0, page, output, room).status == TYPST_HTML_BAD_INPUT);
-    reply = linked(50, "<table>\r\n<p>a", output, room);
-    expect("links of a page that is refused", reply.status == TYPST_HTML_REFUSED && reply.number == 32 &&
-                                                  reply.span == 9 && reply.line == 2 && reply.column == 1);
+    reply = linked(3, "<p>\r\n<b>a", output, room);
+    expect("links of a page that is refused", reply.status == TYPST_HTML_REFUSED && reply.number == 8 &&
+                                                  reply.span == 5 && reply.line == 2 && reply.column == 1);
 }
 
 /* A page as it stands in the wild, in which a multi-byte character stands before the link. */
@@ -309,8 +309,8 @@ static void pages_are_refused(void) {
     } pages[] = {
         {3, "<!DOCTYPE html><p>\xc3\xa9\n<b></b></p>", TYPST_HTML_REFUSED, 8, 21, 2, 1},
         {1, "", TYPST_HTML_REFUSED, 8, 0, 1, 1},
-        {50, "<table>\r\n<p>a", TYPST_HTML_REFUSED, 32, 9, 2, 1},
-        {50, "<svg></svg><frameset>", TYPST_HTML_REFUSED, 35, 11, 1, 12},
+        {4, "<svg></svg><table><tr>", TYPST_HTML_REFUSED, 8, 18, 1, 19},
+        {50, "<svg></svg><meta charset=big5>", TYPST_HTML_REFUSED, 25, 25, 1, 26},
         {50, "<!DOCTYPE html>\n<meta charset=utf-8><p>\xc3\xa9\xe9</p>", TYPST_HTML_BAD_INPUT, 0, 41, 2, 25},
         {50, "\xef\xbb\xbf\xff", TYPST_HTML_BAD_INPUT, 0, 3, 1, 1},
     };
@@ -384,7 +384,7 @@ static void strings_end_with_nul(void) {
 /* Each number has words of its own, and what is none has others. */
 static void refusals_have_words(void) {
     for (unsigned number = 0; number < 256; number++) {
-        bool is_one = (number >= 1 && number <= 15) || number == 25 || number == 28 || number == 32 || number == 35 || number == 39 || number == 40;
+        bool is_one = (number >= 1 && number <= 15) || number == 25 || number == 28 || number == 39 || number == 40;
         expect("the words of a number", is_one == !!strcmp(typst_html_words(number), "refused"));
         for (unsigned other = 0; is_one && other < number; other++)
             expect("words of their own", strcmp(typst_html_words(number), typst_html_words(other)));

@@ -475,7 +475,7 @@ class Calls(unittest.TestCase):
         links = tuple(html.PageLink(path, href, place) for href, (path, place) in (("b.html#c", a), ("", area)))
         self.assertEqual(listed.links, links)
         self.assertEqual(html.links(page.encode()), listed)
-        for bad, limit, failure in (("<table>a", 50, Refused), ("", 0, html.BadInput), (b"\xef\xbb\xbf\xff", 50, html.BadInput)):
+        for bad, limit, failure in (("<p><b>a", 3, Refused), ("", 0, html.BadInput), (b"\xef\xbb\xbf\xff", 50, html.BadInput)):
             with self.subTest(bad), self.assertRaises(failure):
                 html.links(bad, limit=limit)
 
@@ -505,9 +505,10 @@ class Calls(unittest.TestCase):
             with self.subTest(bad, limit=limit), self.assertRaises(html.BadInput) as caught:
                 html.check(bad, limit=limit)
             self.assertIsNone(caught.exception.place)
+        many = "".join(f" a{count}" for count in range(257))
         for page, number, place in (
-            ("<table>\r\n<p>é", 32, (9, 2, 1)),
-            ("<head></head>\r<template>", 35, (14, 2, 1)),
+            (f"<p>\r\n<b{many}>", 28, (5, 2, 1)),
+            (f"<head></head>\r<template{many}>", 28, (14, 2, 1)),
         ):
             with self.subTest(page), self.assertRaises(Refused) as caught:
                 html.check(page)

@@ -37,7 +37,8 @@ PAGES = (
     ("a.html", b"<p id=x><a href=#x>up</a>", []),
     ("b/c.htm", b"<p>x\n<a href=#no>y</a>", [(2, 1, '"#no" leads nowhere')]),
     ("b/d.HTML", b"<p id=a><b id=a>", [(1, 9, 'an element before has the id "a"')]),
-    ("e.html", b"<table>a", [(1, 8, "not read: a text or an element would be moved out of a table (refusal 32 at 1:8)")]),
+    ("e.html", b"<table>a", []),
+    ("h.html", b"a<meta charset=big5>", [(1, 16, "not read: the page names an encoding that is not known (refusal 25 at 1:16)")]),
     ("f.html", b"\xef\xbb\xbfa\xff", [(1, 2, "not read: bad input: a byte that is no text at 1:2")]),
     ("g.txt", b"<table>a", None),
 )

@@ -137,8 +137,8 @@ class Failure(Exception):
 
 
 class Refused(Failure):
-    """The input breaks a rule of HTML, or holds something where it may not stand. Or a page that is checked is not read: a
-    browser would move nodes out of a table, or its elements are deeper than the limit.
+    """The input breaks a rule of HTML, or holds something where it may not stand. Or a page that is checked is not read: its
+    elements are deeper than the limit, say, or its encoding is not known.
 
     >>> try:
     ...     write([block("a", element("br", "no"))])
@@ -146,10 +146,10 @@ class Refused(Failure):
     ...     print(refused.number, refused.words, refused.span, refused.path, refused.item)
     12 a void element has a child 3 ('items', 0, 1, 1) ['el', 'br', [], [['text', 'no']]]
     >>> try:
-    ...     check("<table>\\n<p>1</p></table>")
+    ...     check("<p>\\n<b>1</b></p>", limit=3)
     ... except Refused as refused:
     ...     print(refused.number, refused.words, refused.place)
-    32 a text or an element would be moved out of a table 2:1
+    8 a body, or an element of a page, stands deeper than the limit 2:1
     """
 
     number: int
@@ -821,8 +821,7 @@ def check(page: bytes | str, *, limit: int = 50) -> Findings:
     has, and nodes that would make a browser build another tree if the tree of the page were written.
 
     Reads any page, as a browser without scripting does: what may be left out is implied, and errors are recovered from.
-    But if a browser would move nodes out of a table, the page is `Refused`. So is a page with
-    an element that is deeper than `limit`, which is from 1 to 1,000: `html` has depth 1.
+    But a page with an element that is deeper than `limit` is `Refused`. The limit is from 1 to 1,000: `html` has depth 1.
 
     Bytes are decoded first, by their byte order mark, or else by the encoding that a `meta` names among the first 1,024.
     Without either, they are UTF-8 if they can be, and windows-1252 otherwise. A page whose encoding is not UTF-8, UTF-16
@@ -830,10 +829,10 @@ def check(page: bytes | str, *, limit: int = 50) -> Findings:
 
     >>> check("<title>Pie</title>\\n<p>Salt & <a href=#pepper>pepper</a>").dead_fragments
     (DeadFragment(path=(1, 0, 1), fragment='pepper', place=Place(offset=29, line=2, column=11)),)
-    >>> check("<table>\\n<p>1</p></table>")
+    >>> check("<p>\\n<b>1</b></p>", limit=3)
     Traceback (most recent call last):
         ...
-    typst_html_proved.Refused: a text or an element would be moved out of a table (refusal 32 at 2:1)
+    typst_html_proved.Refused: a body, or an element of a page, stands deeper than the limit (refusal 8 at 2:1)
 
     Raises `Refused`, `BadInput` or `OutOfMemory`.
     """

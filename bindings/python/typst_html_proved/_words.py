@@ -23,8 +23,6 @@ WORDS: Final[Mapping[int, str]] = MappingProxyType({
     15: "a frame is refused",
     25: "the page names an encoding that is not known",
     28: "an element has too many attributes",
-    32: "a text or an element would be moved out of a table",
-    35: "a frameset, plaintext or template",
     39: "a token finds no place",
     40: "too many elements are made again",
 })

@@ -310,10 +310,9 @@ pub fn unused(document: &Document, limit: u32) -> Result<Vec<String>, Refusal> {
 /// they are if the tree of the page were written.
 ///
 /// Reads any page, as a browser without scripting does: what may be left out is implied, and errors
-/// are recovered from. But if a browser would move nodes out of a table, the call fails with
-/// [`Refusal::PageRefused`]. It does so too if an element is deeper than `limit`, which is from 1 to
-/// 1,000: `html` has depth 1. An encoding that the page declares counts for nothing, since the page is
-/// a text.
+/// are recovered from. But a page with an element deeper than `limit` fails with
+/// [`Refusal::PageRefused`]. The limit is from 1 to 1,000: `html` has depth 1. An encoding that the
+/// page declares counts for nothing, since the page is a text.
 ///
 /// ```
 /// use typst_html_proved::{check, Place, Refusal};
@@ -328,9 +327,9 @@ pub fn unused(document: &Document, limit: u32) -> Result<Vec<String>, Refusal> {
 /// let findings = check("<p><table></table>", 50)?;
 /// assert_eq!(findings.to_string(), "1:4: a node closes the p that it stands in");
 ///
-/// let refusal = check("<table>\n<p>1</p></table>", 50).unwrap_err();
-/// let moved = "a text or an element would be moved out of a table (refusal 32 at 2:1)";
-/// assert_eq!(refusal.to_string(), moved);
+/// let refusal = check("<p>\n<b>1</b></p>", 3).unwrap_err();
+/// let deep = "a body, or an element of a page, stands deeper than the limit (refusal 8 at 2:1)";
+/// assert_eq!(refusal.to_string(), deep);
 /// # Ok::<(), Refusal>(())
 /// ```
 pub fn check(page: &str, limit: u32) -> Result<Findings, Refusal> {

@@ -81,8 +81,8 @@ pub enum Refusal {
         /// The path of that item, if the refusal has a place.
         path: Option<ItemPath>,
     },
-    /// A page that is checked is not read: a browser would move nodes out of a table, or its
-    /// elements are deeper than the limit.
+    /// A page that is checked is not read: its elements are deeper than the limit, say, or have too
+    /// many attributes.
     #[error("{} (refusal {number} at {place})", words(.number))]
     #[non_exhaustive]
     PageRefused {
@@ -246,8 +246,6 @@ fn words(number: &u8) -> &'static str {
         15 => "a frame is refused",
         25 => "the page names an encoding that is not known",
         28 => "an element has too many attributes",
-        32 => "a text or an element would be moved out of a table",
-        35 => "a frameset, plaintext or template",
         39 => "a token finds no place",
         40 => "too many elements are made again",
         _ => "refused",

@@ -1,5 +1,6 @@
 pub mod AttributeSteps
 pub mod ContentSteps
+pub mod DeclaredEncodings
 pub mod Fronts
 pub mod Labels
 pub mod Lengths

@@ -1,11 +1,11 @@
 -- The results of calls: the value of the definition, or its fault. An allocation may fail before
 -- either.
 use Rattle.std.specs.{Borrow.{Bor}, Str.Lossy.{utf8_valid_len}, declared.alloc.Global.{Global}}
-use Rattle.std.specs.Prelude.{◌≡◌, ℕ, List, String, chars, Result, Ok, Err, IfErr, IfOk, IsErr, OnErr}
+use Rattle.std.specs.Prelude.{◌≡◌, ℕ, List, String, chars, Option, Result, Ok, Err, IfErr, IfOk, IsErr, OnErr}
 use Rattle.html_names_core.specs.Texts.{text_view}
 use Rattle.html_page_encoding.specs.Decoded.{utf8_text}
 use Rattle.html_page_encoding.specs.PageEncodings as pages
-use Rattle.html_page_encoding.specs.PageEncodings.{FaultView}
+use Rattle.html_page_encoding.specs.PageEncodings.{FaultView, declared_encoding, page_encoding}
 use Rattle.html_page_encoding.specs.declared.encoding.Encoding.{Encoding}
 use Rattle.html_page_encoding.specs.declared.fault.EncodingFault.{EncodingFault}
 use Rattle.html_page_encoding.specs.declared.fault.EncodingFault.TheVariants as fault
@@ -36,6 +36,12 @@ pub record FindsEncoding (r : Result Encoding EncodingFault)
     (expected : Result Encoding FaultView) : Type 0 where
   pub made : IfOk r (λ encoding. expected ≡ Ok encoding)
   pub fault : IfErr r (IsRefusal expected)
+
+-- a call returns the encoding that a page declares, if it declares one
+pub record FindsDeclared (r : Result (Option Encoding) EncodingFault) (page : List ℕ) : Type 0
+  where
+    pub made : IfOk r (λ found. declared_encoding page ≡ Ok found)
+    pub fault : IfErr r (IsRefusal (page_encoding page))
 
 -- a call returns a text with the expected characters
 pub record Decodes (r : Result (String Global) EncodingFault)

@@ -48,6 +48,26 @@ head bs = take 1024 bs
 unfoldable pub declared : List ℕ → Option Part
 declared bs = option_or (scanned bs) (xml_label bs)
 
+-- the encoding of a label, as one that is declared
+abbrev pub found : Result Encoding FaultView → Result (Option Encoding) FaultView
+found (Ok e) = Ok (Some e)
+found (Err fault) = Err fault
+
+-- by a label in so many bytes, if there is one
+abbrev pub if_labelled : (length : ℕ) → Option Part → Result (Option Encoding) FaultView
+if_labelled length None = Ok None
+if_labelled length (Some p) = found (labelled length p)
+
+-- by the first bytes, or else in the other way
+abbrev pub marked_or : Result (Option Encoding) FaultView → Option Encoding →
+    Result (Option Encoding) FaultView
+marked_or other None = other
+marked_or other (Some e) = Ok (Some e)
+
+-- by the first bytes or a label, if there is either
+unfoldable pub declared_encoding : List ℕ → Result (Option Encoding) FaultView
+declared_encoding bs = marked_or (if_labelled (length (head bs)) (declared (head bs))) (marked bs)
+
 unfoldable pub page_encoding : List ℕ → Result Encoding FaultView
 page_encoding bs = known_or (label_or (Ok (guessed bs)) (length (head bs)) (declared (head bs)))
     (marked bs)

@@ -1,7 +1,14 @@
 //! The encoding of a page, and its text.
 
-ghost use Rattle.std.specs.Prelude.{◌≡◌};
-ghost use Rattle.html_page_encoding.specs.Answers.{Decodes, DecodesPage, FindsEncoding, Shares};
+ghost use Rattle.std.specs.Prelude.{◌≡◌, IfOk, Ok};
+ghost use Rattle.html_names_core.specs.Texts.{text_view};
+ghost use Rattle.html_page_encoding.specs.Answers.{
+  Decodes,
+  DecodesPage,
+  FindsDeclared,
+  FindsEncoding,
+  Shares,
+};
 ghost use Rattle.html_page_encoding.specs.Decoded as decoded;
 ghost use Rattle.html_page_encoding.specs.PageEncodings as pages;
 ghost use Rattle.html_page_encoding.specs.Views.{part_view, parts_view};
@@ -13,7 +20,7 @@ use crate::part::Part;
 use crate::utf16::utf16_text;
 use crate::windows::{text_of_bytes, windows_text};
 use crate::xml::xml_label;
-use std::alloc::Global;
+use std::alloc::{AllocError, Global};
 use std::str;
 
 /// The number of bytes in which a label is looked for.
@@ -94,6 +101,21 @@ fn head(page: &[u8]) -> &[u8]
     &page[..HEAD_LENGTH]
 }
 
+/// Returns the encoding that a page declares, by its first bytes or by a label, if it declares one.
+#[tactic(auto, unfolding(crate::specs::PageEncodings::declared_encoding, crate::specs::PageEncodings::page_encoding))]
+fn declared_encoding(alloc: Global, page: &[u8]) -> Result<Option<Encoding>, EncodingFault>
+    ensures { FindsDeclared result page.now }
+{
+    if let Some(encoding) = marked(page) {
+        return Ok(Some(encoding));
+    }
+    let head = head(page);
+    match declared(head) {
+        Some(label) => Ok(Some(labelled(alloc, head.len(), label)?)),
+        None => Ok(None),
+    }
+}
+
 /// Returns the encoding of a page (HTML Standard 13.2.3.1, 13.2.3.2).
 ///
 /// A byte order mark decides, or the beginning of an XML declaration in UTF-16. If there is none,
@@ -125,16 +147,12 @@ fn head(page: &[u8]) -> &[u8]
 /// assert_eq!(rt; label.as_str(), "big5");
 /// assert_eq!(rt; place, 14);
 /// ```
-#[tactic(auto, unfolding(crate::specs::PageEncodings::page_encoding))]
+#[tactic(auto, using(crate::proofs::DeclaredEncodings::declares, crate::proofs::DeclaredEncodings::declares_none))]
 pub fn encoding_of(alloc: Global, page: &[u8]) -> Result<Encoding, EncodingFault>
     ensures { FindsEncoding result (pages.page_encoding page.now) }
 {
-    if let Some(encoding) = marked(page) {
-        return Ok(encoding);
-    }
-    let head = head(page);
-    match declared(head) {
-        Some(label) => labelled(alloc, head.len(), label),
+    match declared_encoding(alloc, page)? {
+        Some(encoding) => Ok(encoding),
         None => Ok(guessed(page)),
     }
 }
@@ -186,6 +204,26 @@ pub fn decode(alloc: Global, encoding: Encoding, page: &[u8]) -> Result<String, 
     }
 }
 
+/// Returns the encoding of a page that declares none, and its text.
+///
+/// The bytes are looked through once, where [`guessed`] and [`decode`] do so twice.
+#[tactic(auto, using(crate::proofs::Texts::utf8_page, crate::proofs::Texts::other_page))]
+fn decode_guessed(alloc: Global, page: &[u8]) -> Result<DecodedPage, AllocError>
+    ensures { IfOk result (λ made. pages.text_in page.now (Ok (pages.guessed page.now))
+        ≡ Ok (made.encoding, text_view made.text)) }
+{
+    match str::from_utf8(page) {
+        Ok(text) => Ok(DecodedPage {
+            text: String::from_str(alloc, text)?,
+            encoding: Encoding::Utf8,
+        }),
+        Err(_) => Ok(DecodedPage {
+            text: windows_text(alloc, page)?,
+            encoding: Encoding::Windows1252,
+        }),
+    }
+}
+
 /// Returns the encoding of a page, as [`encoding_of`] does, and its text, as [`decode`] does.
 ///
 /// Copies a page in UTF-8, which [`utf8_text`] does not.
@@ -201,11 +239,15 @@ pub fn decode(alloc: Global, encoding: Encoding, page: &[u8]) -> Result<String, 
 /// assert_eq!(rt; page.encoding, Encoding::Windows1252);
 /// assert_eq!(rt; page.text.as_str(), "<meta charset=latin1>caf\u{e9}");
 /// ```
-#[tactic(auto, unfolding(crate::specs::PageEncodings::page_text))]
+#[tactic(auto, using(crate::proofs::DeclaredEncodings::declares, crate::proofs::DeclaredEncodings::declares_none), unfolding(crate::specs::PageEncodings::page_text))]
 pub fn decode_page(alloc: Global, page: &[u8]) -> Result<DecodedPage, EncodingFault>
     ensures { DecodesPage result (pages.page_text page.now) }
 {
-    let encoding = encoding_of(alloc, page)?;
-    let text = decode(alloc, encoding, page)?;
-    Ok(DecodedPage { text, encoding })
+    match declared_encoding(alloc, page)? {
+        Some(encoding) => {
+            let text = decode(alloc, encoding, page)?;
+            Ok(DecodedPage { text, encoding })
+        }
+        None => Ok(decode_guessed(alloc, page)?),
+    }
 }

@@ -44,7 +44,7 @@ scalar-lowered c is =
       | inr high ↦ ap scalar (high_stays c high) ∙ is
     ]
 
-encodes-lowered : (cs : List ℕ) → lowered (encodes cs) ≡ encodes (lowered cs)
+pub encodes-lowered : (cs : List ℕ) → lowered (encodes cs) ≡ encodes (lowered cs)
 encodes-lowered [] = refl
 encodes-lowered (c ∷ cs) =
     map-append to_ascii_lowercase (encode c) (encodes cs)

@@ -44,8 +44,8 @@ kind_names kind.Table = listed_names (codes "table")
 kind_names kind.Template = listed_names (codes "template")
 kind_names kind.Tr = listed_names (codes "tr")
 kind_names kind.Root = listed_names (codes "body html")
--- elements that the reader does not support
-kind_names kind.Unread = listed_names (codes "frameset plaintext template")
+kind_names kind.Frameset = listed_names (codes "frameset")
+kind_names kind.Plaintext = listed_names (codes "plaintext")
 -- elements in the head without an end tag
 kind_names kind.HeadLeaf = listed_names (codes "base basefont bgsound link meta")
 -- RCDATA: text in which references are read
@@ -55,15 +55,14 @@ kind_names kind.Raw = listed_names (codes "iframe noembed noframes script style 
 kind_names kind.ScriptOrStyle = listed_names (codes "script style")
 -- the content of the head, which begins no body (13.2.6.4.4)
 kind_names kind.HeadContent =
-    listed_names (codes "base basefont bgsound link meta noframes script style title")
+    listed_names (codes "base basefont bgsound link meta noframes script style template title")
 -- the content of a `noscript` in the head (13.2.6.4.5)
 kind_names kind.NoscriptContent = listed_names (codes "basefont bgsound link meta noframes style")
 -- formatting elements (13.2.4.3)
 kind_names kind.Formatting =
     listed_names (codes "a b big code em font i nobr s small strike strong tt u")
 -- elements that hide the formatting elements around them
-kind_names kind.Marker = listed_names (codes "applet caption marquee object td th")
--- elements that only their own end tag closes
+kind_names kind.Marker = listed_names (codes "applet caption marquee object td template th")
 -- elements in the body without an end tag
 kind_names kind.Leaf =
     listed_names (codes "area br embed hr img input keygen param source track wbr")
@@ -77,13 +76,14 @@ kind_names kind.ClosesInScope =
 kind_names kind.ClosesP =
     listed_names (codes "address article aside blockquote center dd details dialog dir div dl dt")
     ++ listed_names (codes "fieldset figcaption figure footer form h1 h2 h3 h4 h5 h6 header hgroup")
-    ++ listed_names (codes "hr li listing main menu nav ol p pre search section summary ul xmp")
+    ++ listed_names (codes "hr li listing main menu nav ol p plaintext pre search section summary")
+    ++ listed_names (codes "ul xmp")
 -- elements before whose start tags no formatting elements are made again
 kind_names kind.Unformatted =
     listed_names (codes "address article aside blockquote center dd details dialog dir div dl dt")
     ++ listed_names (codes "fieldset figcaption figure footer form h1 h2 h3 h4 h5 h6 header hgroup")
-    ++ listed_names (codes "hr iframe li listing main menu nav noembed ol p param pre rb rp rt rtc")
-    ++ listed_names (codes "search section source summary table textarea track ul")
+    ++ listed_names (codes "hr iframe li listing main menu nav noembed ol p param plaintext pre rb")
+    ++ listed_names (codes "rp rt rtc search section source summary table textarea track ul")
 -- elements whose end tag is implied (13.2.6.3)
 kind_names kind.Implied = listed_names (codes "dd dt li optgroup option p rb rp rt rtc")
 -- sections of a table
@@ -121,6 +121,11 @@ kind_names kind.Breakout =
 kind_names kind.Glyph = listed_names (codes "malignmark mglyph")
 -- elements of MathML in which text and elements of HTML stand
 kind_names kind.MathText = listed_names (codes "mi mn mo ms mtext")
+-- elements whose start tags rule out that a `frameset` takes the place of the body (13.2.6.4.7, the
+-- frameset-ok flag); an `input` does so only if it is not hidden
+kind_names kind.BarsFrameset =
+    listed_names (codes "applet area body br button dd dt embed hr iframe image img input keygen li")
+    ++ listed_names (codes "listing marquee object pre select table textarea wbr xmp")
 -- elements of SVG in which text and elements of HTML stand
 kind_names kind.SvgHtml = listed_names (codes "desc foreignObject title")
 

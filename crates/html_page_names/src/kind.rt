@@ -39,7 +39,8 @@ pub enum Kind {
     Template,
     Tr,
     Root,
-    Unread,
+    Frameset,
+    Plaintext,
     HeadLeaf,
     EscapableRaw,
     Raw,
@@ -67,13 +68,14 @@ pub enum Kind {
     Breakout,
     Glyph,
     MathText,
+    BarsFrameset,
     SvgHtml,
 }
 
 impl Kind {
     fn place(self) -> u64
         ensures value { result ≡ kind_place self }
-        ensures bound { result < 63 }
+        ensures bound { result < 64 }
     {
         self as u64
     }

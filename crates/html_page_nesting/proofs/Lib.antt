@@ -1,2 +1,3 @@
+mod ScriptTexts
 pub mod Walks
 pub mod Passing

@@ -64,7 +64,7 @@ bounds_item a = is_of ends_item_search a || is_point a.space a.head.name
 
 -- whether an element hides the formatting elements around it (13.2.4.3, markers)
 abbrev pub hides_formatting : Ancestor → Bool
-hides_formatting a = is_of (λ n. of kind.Marker n || of kind.Template n) a
+hides_formatting a = is_of (of kind.Marker) a
 
 abbrev pub is_template : Ancestor → Bool
 is_template = is_of (of kind.Template)

@@ -1,12 +1,10 @@
 -- Content of an element that is not read as it is written.
-use Rattle.std.specs.List.{fold}
 use Rattle.std.specs.Prelude.{ℕ, Bool, true, false, not, ◌&&◌, ◌||◌, ◌==◌, List, [], ◌∷◌, codes, if◌then◌else◌, Option, Some, None}
 use Rattle.html_names_core.specs.{Kinds.{is_foreign_self_closing, is_void}, Names.{listed_names, stands_in}}
 use Rattle.html_dom_tree.specs.Tree.{Head, NodeView, tag_node, text_node, element_node, frame_node, NodesView, none, node}
 use Rattle.html_page_names.specs.PageNames.{of}
 use Rattle.html_page_names.specs.declared.kind.Kind.TheVariants as kind
-use Rattle.html_page_nesting.specs.{WrittenTexts.{is_plain_text}, declared.content.ScriptState.{ScriptState}}
-use Rattle.html_page_nesting.specs.declared.content.ScriptState.TheVariants as state
+use Rattle.html_page_nesting.specs.{ScriptTexts.{hides_end, joined_text}, WrittenTexts.{is_plain_text}}
 use Rattle.html_page_nesting.specs.declared.misnesting.Misnesting.{Misnesting}
 use Rattle.html_page_nesting.specs.declared.misnesting.Misnesting.TheVariants as why
 
@@ -30,35 +28,6 @@ begin_with_feed (node (text_node (c ∷ cs) span) ns) = c == 10
 begin_with_feed (node (element_node h kids) ns) = false
 begin_with_feed (node (frame_node f) ns) = false
 
--- the tokenizer's state behind a character of a script (13.2.5.4, 13.2.5.15, 13.2.5.18, 13.2.5.19):
--- from `<!--` on the script may hide its end tag
-abbrev pub state_behind : ScriptState → ℕ → ScriptState
-state_behind state.Escaped c = state.Escaped
-state_behind state.LessThan c = if c == 33 then state.EscapeStart
-    else (if c == 60 then state.LessThan else state.Data)
-state_behind state.EscapeStart c = if c == 45 then state.EscapeStartDash
-    else (if c == 60 then state.LessThan else state.Data)
-state_behind state.EscapeStartDash c = if c == 45 then state.Escaped
-    else (if c == 60 then state.LessThan else state.Data)
-state_behind state.Data c = if c == 60 then state.LessThan else state.Data
-
-abbrev pub state_behind_node : ScriptState → NodeView → ScriptState
-state_behind_node s (tag_node t) = s
-state_behind_node s (text_node text span) = fold state_behind s text
-state_behind_node s (element_node h kids) = s
-state_behind_node s (frame_node f) = s
-
-abbrev pub state_behind_nodes : ScriptState → NodesView → ScriptState
-state_behind_nodes s none = s
-state_behind_nodes s (node n ns) = state_behind_nodes (state_behind_node s n) ns
-
-abbrev pub is_escaped : ScriptState → Bool
-is_escaped state.Escaped = true
-is_escaped s = false
-
-abbrev pub hold_comment : NodesView → Bool
-hold_comment ns = is_escaped (state_behind_nodes state.Data ns)
-
 -- whether the start tag alone makes the element, and its end tag is ignored (13.2.6.4.4,
 -- 13.2.6.4.7)
 abbrev pub has_unread_end : (name : List ℕ) → Bool
@@ -79,4 +48,5 @@ content_misnesting h kids = if is_foreign_self_closing h.name then Some why.Stay
     else (if has_unread_end h.name then Some why.UnreadEnd
     else (if is_raw_when_read h.name && not (are_plain h.pre_span kids) then Some why.RawText
     else (if is_listing h.name && begin_with_feed kids then Some why.FirstLineFeed
-    else (if of kind.Script h.name && hold_comment kids then Some why.ScriptComment else None))))
+    else (if of kind.Script h.name && hides_end (joined_text kids)
+    then Some why.ScriptComment else None))))

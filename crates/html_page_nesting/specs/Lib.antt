@@ -3,6 +3,7 @@ pub mod Ancestors
 pub mod Surroundings
 pub mod WrittenTexts
 pub mod WrittenTags
+pub mod ScriptTexts
 pub mod Contents
 pub mod PageRoots
 pub mod NestingRules

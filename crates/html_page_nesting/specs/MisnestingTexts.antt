@@ -23,7 +23,7 @@ rule_texts why.ForeignText =
 rule_texts why.FirstLineFeed =
     (codes "FirstLineFeed", codes "begins with a line feed, which is not read as one")
 rule_texts why.ScriptComment =
-    (codes "ScriptComment", codes "has a <!--, behind which it may not end")
+    (codes "ScriptComment", codes "has a <script in a <!--, where its end tag is text")
 rule_texts why.NotInHead =
     (codes "NotInHead", codes "closes the head or noscript that it stands in")
 rule_texts why.NotInTable =

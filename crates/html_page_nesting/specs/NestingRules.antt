@@ -48,7 +48,7 @@ is_in_tables name = of kind.ScriptOrStyle name || of kind.Template name
 -- whether elements of that name may stand there
 abbrev pub has_place : Place → (name : List ℕ) → Bool
 has_place place.Page name = true
-has_place place.Head name = of kind.HeadContent name || of kind.Noscript name || of kind.Template name
+has_place place.Head name = of kind.HeadContent name || of kind.Noscript name
 has_place place.HeadNoscript name = of kind.NoscriptContent name
 has_place place.Table name = of kind.Caption name || of kind.Colgroup name || of kind.Section name
     || is_in_tables name
@@ -60,7 +60,7 @@ has_place place.Body name = false
 -- whether start tags of that name are ignored in a body, read as another or never end (13.2.6.4.7)
 abbrev pub is_never_read : (name : List ℕ) → Bool
 is_never_read name = of kind.Root name || of kind.Misplaced name || of kind.Image name
-    || (of kind.Unread name && not (of kind.Template name))
+    || of kind.Frameset name || of kind.Plaintext name
 
 unfoldable pub is_selected_content : (name : List ℕ) → Bool
 is_selected_content name = stands_in (listed_names (codes "selectedcontent")) name

@@ -15,7 +15,8 @@ fn is_never_read(known: &KnownElement<'_>) -> bool
     known.is(Kind::Root)
         || known.is(Kind::Misplaced)
         || known.is(Kind::Image)
-        || (known.is(Kind::Unread) && !known.is(Kind::Template))
+        || known.is(Kind::Frameset)
+        || known.is(Kind::Plaintext)
 }
 
 fn closes_paragraph(known: &KnownElement<'_>, around: &Open) -> bool

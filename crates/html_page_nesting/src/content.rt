@@ -1,29 +1,16 @@
 //! Content of an element that is not read as it is written.
 
-ghost use Rattle.std.specs.{List.{fold}, Prelude.{◌≡◌, chars}};
+ghost use Rattle.std.specs.Prelude.{◌≡◌};
 ghost use Rattle.html_dom_tree.specs.Views.{element_view, node_view, nodes_view};
 ghost use Rattle.html_page_nesting.specs.Contents as content;
 
 use crate::element::KnownElement;
 use crate::misnesting::Misnesting;
+use crate::script::hide_end;
 use crate::texts::is_plain_text;
 use html_dom_tree::HtmlNode;
 use html_names_core::tag::is_foreign_self_closing;
 use html_page_names::Kind;
-
-/// The tokenizer's state in a script (HTML Standard 13.2.5.4, 13.2.5.15, 13.2.5.18, 13.2.5.19).
-#[derive(Clone, Copy)]
-pub enum ScriptState {
-    Data,
-    /// Behind `<`.
-    LessThan,
-    /// Behind `<!`.
-    EscapeStart,
-    /// Behind `<!-`.
-    EscapeStartDash,
-    /// Behind `<!--`.
-    Escaped,
-}
 
 fn is_plain(pre_span: bool, node: &HtmlNode) -> bool
     ensures { result ≡ content.is_plain pre_span (node_view node.now) }
@@ -65,46 +52,6 @@ pub(crate) fn begin_with_feed(nodes: &[HtmlNode]) -> bool
     false
 }
 
-impl ScriptState {
-    fn behind(self, c: char) -> ScriptState
-        ensures { result ≡ content.state_behind self c }
-    {
-        match (self, c) {
-            (ScriptState::Escaped, _) => ScriptState::Escaped,
-            (ScriptState::LessThan, '!') => ScriptState::EscapeStart,
-            (ScriptState::EscapeStart, '-') => ScriptState::EscapeStartDash,
-            (ScriptState::EscapeStartDash, '-') => ScriptState::Escaped,
-            (_, '<') => ScriptState::LessThan,
-            _ => ScriptState::Data,
-        }
-    }
-
-    fn behind_text(self, text: &str) -> ScriptState
-        ensures { result ≡ fold content.state_behind self (chars text.now) }
-    {
-        text.chars().fold(self, |state, c| state.behind(c))
-    }
-
-    fn behind_node(self, node: &HtmlNode) -> ScriptState
-        ensures { result ≡ content.state_behind_node self (node_view node.now) }
-    {
-        match node {
-            HtmlNode::Text(text, _) => self.behind_text(text.as_str()),
-            HtmlNode::Tag(_) | HtmlNode::Element(_) | HtmlNode::Frame(_) => self,
-        }
-    }
-}
-
-fn hold_comment(nodes: &[HtmlNode]) -> bool
-    ensures { result ≡ content.hold_comment (nodes_view nodes.now) }
-{
-    let mut state = ScriptState::Data;
-    for node in nodes {
-        state = state.behind_node(node);
-    }
-    matches!(state, ScriptState::Escaped)
-}
-
 /// Returns the rule that the content of an element of HTML breaks.
 pub(crate) fn content_misnesting(known: &KnownElement<'_>) -> Option<Misnesting>
     ensures { let e = element_view known.now.element.now in
@@ -123,7 +70,7 @@ pub(crate) fn content_misnesting(known: &KnownElement<'_>) -> Option<Misnesting>
     if known.is_listing() && begin_with_feed(&element.children) {
         return Some(Misnesting::FirstLineFeed);
     }
-    if known.is(Kind::Script) && hold_comment(&element.children) {
+    if known.is(Kind::Script) && hide_end(&element.children) {
         return Some(Misnesting::ScriptComment);
     }
     None

@@ -156,7 +156,7 @@ impl Ancestor<'_> {
     fn hides_formatting(&self) -> bool
         ensures { result ≡ ancestors.hides_formatting (ancestor_view self.now) }
     {
-        self.space.is_html() && (self.known.is(Kind::Marker) || self.known.is(Kind::Template))
+        self.is(Kind::Marker)
     }
 
     fn parent(&self) -> Parent

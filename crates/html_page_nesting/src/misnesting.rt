@@ -39,7 +39,8 @@ pub enum Misnesting {
     /// A line feed at the beginning of a `listing` is dropped (13.2.6.4.7); the extra one that is
     /// written in a `textarea` of SVG or MathML is kept.
     FirstLineFeed,
-    /// The end tag of a `script` may be read as text after a `<!--` (13.2.5.15 to 13.2.5.31).
+    /// The end tag of a `script` is read as text behind a `<script` in a `<!--` (13.2.5.26 to
+    /// 13.2.5.31).
     ScriptComment,
     /// Not part of a `head`, or of a `noscript` there: the node closes it (13.2.6.4.4, 13.2.6.4.5).
     NotInHead,
@@ -118,7 +119,10 @@ impl Misnesting {
                 "FirstLineFeed",
                 "begins with a line feed, which is not read as one",
             ),
-            Self::ScriptComment => ("ScriptComment", "has a <!--, behind which it may not end"),
+            Self::ScriptComment => (
+                "ScriptComment",
+                "has a <script in a <!--, where its end tag is text",
+            ),
             Self::NotInHead => ("NotInHead", "closes the head or noscript that it stands in"),
             Self::NotInTable => ("NotInTable", "is moved before the table that it stands in"),
             Self::NotInColumns => ("NotInColumns", "closes the colgroup that it stands in"),

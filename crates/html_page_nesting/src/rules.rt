@@ -56,7 +56,7 @@ fn is_in_tables(known: &KnownElement<'_>) -> bool
 fn is_head_content(known: &KnownElement<'_>) -> bool
     ensures { result ≡ rules.has_place Place.Head (element_view known.now.element.now).0.name }
 {
-    known.is(Kind::HeadContent) || known.is(Kind::Noscript) || known.is(Kind::Template)
+    known.is(Kind::HeadContent) || known.is(Kind::Noscript)
 }
 
 fn is_table_part(known: &KnownElement<'_>) -> bool

@@ -1,10 +1,8 @@
 -- What stands for a name that no element can have is a name.
-use Rattle.std.proofs.Common.{◌≡◌, ℕ, ◌<◌, ◌^◌, Bool, true, false, not, List, [], ◌∷◌, ◌++◌, eqb, length, refl, ap, ◌∙◌, arith}
+use Rattle.std.proofs.Common.{◌≡◌, ℕ, ◌<◌, ◌^◌, true, false, List, [], ◌∷◌, ◌++◌, refl, ◌∙◌, arith}
 use Rattle.std.proofs.lemmas.{Bool.{and_from}, Bool.Decides.{nat_tests}, Fmt.{digits_is_IsNumeral}, List.Folds.{list_all-append}}
 use Rattle.std.specs.{Char.{digit_value}, Fmt.{digits}, List.{list_all}, Str.Parse.{AllDigits}}
 use Rattle.html_names_core.specs.Characters.{is_tag_char}
-use Rattle.html_page_read.proofs.TagNames.{name_from}
-use Rattle.html_page_read.specs.PageTokens.{is_name}
 
 digit_is : (c : ℕ) → digit_value c < 16 → is_tag_char c ≡ true
 digit_is c h = grind (arith, nat_tests)

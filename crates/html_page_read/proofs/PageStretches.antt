@@ -9,10 +9,10 @@ use Rattle.html_page_read.specs.PageTokens.{TagDraft, TokenState, Value, PageRea
 use Rattle.html_page_read.specs.declared.reader.{Reader.{Reader}, State.{State}}
 use Rattle.html_page_read.specs.declared.reader.State.TheVariants as state
 use Rattle.html_page_read.specs.declared.reading.Reading as declared
-use Rattle.html_page_stack.specs.{OpenElements.{mode}, Pages.{Page, Char}, declared.modes.Mode.{Mode}}
+use Rattle.html_page_stack.specs.{Pages.{Page, Char}, declared.modes.Mode.{Mode}}
 use Rattle.html_page_stack.specs.declared.modes.Mode.TheVariants.{InText}
 use Rattle.html_page_tree.proofs.TakenTexts.{text_taken}
-use Rattle.html_page_tree.specs.{PageTrees.{is_foreign_token, is_unseen}, TakenTexts.{mode_takes_text, takes_text}}
+use Rattle.html_page_tree.specs.{PageBodies.{is_barred}, PageTrees.{is_foreign_token, is_unseen, page_mode}, TakenTexts.{mode_takes_text, takes_text}}
 use Rattle.html_page_read.proofs.Fronts.{front_read}
 
 -- a character of a kind is none that is not of it
@@ -28,8 +28,9 @@ taken_still : (text : List ℕ) (s : ℕ) (p : Page) →
     takes_text (record p { text = text; start = s }) ≡ takes_text p
 unfolding takes_text
 taken_still text s p =
-    ap (λ b. not (is_unseen p.tables) && (is_foreign_token (Char 0) p.stack || b))
-    (mode_kept (mode p.stack) text s p)
+    ap (λ b. (not (is_unseen p.tables) && is_barred p.framesets)
+    && (is_foreign_token (Char 0) p.stack || b))
+    (mode_kept (page_mode p) text s p)
 
 char_step : (c : ℕ) (r : Reading) → is_common c ≡ true → r.fresh ≡ false →
     takes_text r.page ≡ true → step (in_data r) c ≡ in_data (behind_char c r)

@@ -8,7 +8,7 @@ use Rattle.html_page_read.proofs.{Fronts.{begins_on, front_read}, PageStretches.
 use Rattle.html_page_read.proofs.TagNames.{name_from}
 use Rattle.html_page_read.specs.{Fronts.{begins_small}, PageReading.{run}, PageReferences.{is_letter}}
 use Rattle.html_page_read.specs.PageStretches.{behind_chars, in_data, in_quotes, ReadsFront}
-use Rattle.html_page_read.specs.PageTokens.{TagDraft, TokenState, PageReader, Reading, TagName, BeforeAttr, AttrName, Data, goes, is_name, moved, step}
+use Rattle.html_page_read.specs.PageTokens.{TagDraft, TokenState, PageReader, Reading, TagName, BeforeAttr, AttrName, goes, is_name, moved, step}
 use Rattle.html_page_read.specs.TagFronts.{EndsOwn, behind_own_end, in_name, tag_open}
 use Rattle.html_page_stack.specs.{OpenElements.{current_name}, Pages.{End, closed}}
 use Rattle.html_page_tree.proofs.OwnEnds.{own_end_taken}

@@ -36,9 +36,8 @@ place_in (Err fault) = label_place
 abbrev pub no_text_place : (page : List ℕ) → (offset : ℕ) → Place
 no_text_place page = place_in (page_encoding page) page
 
--- a fault behind bytes in that encoding, with its place
-abbrev pub placed_fault : Encoding → (page : List ℕ) → EncodingFault → PageFault
-placed_fault e page encoding.OutOfMemory = fault.OutOfMemory
-placed_fault e page (encoding.UnknownLabel label n) =
-    fault.UnknownLabel label (byte_place e page n)
-placed_fault e page (encoding.NotText n) = fault.NotText (byte_place e page n)
+-- a fault of the bytes of a page, with its place
+abbrev pub placed_fault : (page : List ℕ) → EncodingFault → PageFault
+placed_fault page encoding.OutOfMemory = fault.OutOfMemory
+placed_fault page (encoding.UnknownLabel label n) = fault.UnknownLabel label (label_place page n)
+placed_fault page (encoding.NotText n) = fault.NotText (no_text_place page n)

@@ -1,7 +1,7 @@
 -- The results of reading a page: the element and the errors of the definition, or its refusal. An
 -- allocation may fail before either.
 use Rattle.std.specs.Prelude.{◌≡◌, ℕ, List, map, Result, Ok, Err, IfOk, IfErr}
-use Rattle.html_dom_tree.specs.{Tree.{ElementView}, Views.{element_view}, declared.node.HtmlElement.{HtmlElement}}
+use Rattle.html_dom_tree.specs.{Views.{element_view}, declared.node.HtmlElement.{HtmlElement}}
 use Rattle.html_names_core.specs.Texts.{text_view}
 use Rattle.html_page_encoding.specs.PageEncodings.{FaultView, NotText, UnknownLabel, page_text}
 use Rattle.html_page_encoding.specs.declared.{encoding.Encoding.{Encoding}, page.DecodedPage.{DecodedPage}}

@@ -77,6 +77,7 @@ state_at state.Comment r = tokens.Comment r.part
 state_at state.Doctype r = tokens.Doctype (text_view r.inner)
 state_at state.Cdata r = tokens.Cdata (bracket_count r.brackets)
 state_at state.Raw r = raw_at r
+state_at state.Plaintext r = tokens.Plaintext
 state_at state.Reference r = tokens.Reference (text_view r.since.text) (holder_at r.holder r)
 
 abbrev pub reader_of : Reader → tokens.PageReader

@@ -1,5 +1,4 @@
--- Reading a page as a browser does (HTML Standard 13.2), except that the page is refused if nodes
--- would be moved out of a table.
+-- Reading a page as a browser does (HTML Standard 13.2), except that the page is refused at limits.
 use Rattle.std.specs.Prelude.{ℕ, false, ◌==◌, List, [], ◌∷◌, if◌then◌else◌, Option, Some, None, Result, Ok, Err}
 use Rattle.html_dom_tree.specs.Tree.{ElementView}
 use Rattle.html_page_stack.specs.{OpenElements.{root_of}, Pages.{Notes, Page, first_page, settled}}

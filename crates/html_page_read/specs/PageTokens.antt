@@ -1,4 +1,4 @@
--- The tokens of a page, read from left to right (HTML Standard 13.2.5): all states but PLAINTEXT.
+-- The tokens of a page, read from left to right (HTML Standard 13.2.5).
 use Rattle.std.specs.{Char.{len_utf8, to_ascii_lowercase}, Fmt.{digits}, List.{list_all, starts_with}}
 use Rattle.std.specs.Prelude.{ℕ, zero, suc, ◌+◌, min, Bool, true, false, not, ◌&&◌, ◌||◌, ◌==◌, nat_lt, nat_le, List, [], ◌∷◌, ◌++◌, if◌then◌else◌, codes, bytes_eq, length, Option, Some, None, is_some}
 use Rattle.html_dom_tree.specs.{Attributes.{has_name}, Tree.{TextPair}}
@@ -10,7 +10,7 @@ use Rattle.html_page_stack.specs.OpenElements.{OpenElement, current_name, is_at,
 use Rattle.html_page_tree.specs.PageBodies.{is_space}
 use Rattle.html_page_names.specs.declared.kind.Kind.TheVariants as kind
 use Rattle.html_page_read.specs.PageReferences.{is_letter, continues, Resolved, resolved}
-use Rattle.html_page_tree.specs.PageTrees.{token_read, is_unseen}
+use Rattle.html_page_tree.specs.PageTrees.{text_ended, token_read, is_unseen}
 use Rattle.html_page_stack.specs.Pages.{Page, Notes, most_attrs, with_note, StartTag, Token, Char, Start, End, Finish, noted_if, refused}
 use Rattle.html_page_stack.specs.declared.error.PageError.{PageError}
 use Rattle.html_page_stack.specs.declared.error.PageError.TheVariants as error
@@ -52,6 +52,8 @@ pub data TokenState : Type 0 where
   -- in an element of text alone: the depth in a script's comments, and the number of characters
   -- since the last reference, at most 255
   Raw : (depth run : ℕ) → TokenState
+  -- behind `<plaintext>`, where all is text (13.2.5.5)
+  Plaintext : TokenState
   -- after `&`: the text since, and the state before it
   Reference : (since : List ℕ) → TokenState → TokenState
 
@@ -111,7 +113,8 @@ chars_emitted (c ∷ cs) r = chars_emitted cs (char_emitted c r)
 
 -- the state behind a start tag, which depends on whether it opens an element of text alone
 abbrev pub behind_start : List OpenElement → TokenState
-behind_start stack = if is_at (of kind.Raw) stack then Raw 0 0 else Data
+behind_start stack = if is_at (of kind.Raw) stack then Raw 0 0
+    else (if is_at (of kind.Plaintext) stack then Plaintext else Data)
 
 abbrev pub behind_start_tag : (drops_feed : Bool) → Reading → PageReader
 behind_start_tag drops_feed r = record {
@@ -177,8 +180,16 @@ data_read c r = if c == 60 then goes TagOpen (beginning r)
     else (if c == 38 then goes (Reference [] Data) (beginning r)
     else goes Data (char_emitted c (beginning r)))
 
+-- reads a character behind `<plaintext>`
+abbrev pub plaintext_read : ℕ → Reading → PageReader
+plaintext_read c r = goes Plaintext (char_emitted c (beginning r))
+
+-- the progress behind a comment or a document type, which leaves nothing
+abbrev pub behind_comment : Reading → Reading
+behind_comment r = record r { page = text_ended r.page; fresh = false }
+
 abbrev pub bogus_read : ℕ → Reading → PageReader
-bogus_read c r = if c == 62 then goes Data (record r { fresh = false }) else goes BogusComment r
+bogus_read c r = if c == 62 then goes Data (behind_comment r) else goes BogusComment r
 
 abbrev pub tag_open_read : ℕ → Reading → PageReader
 tag_open_read c r = if is_letter c
@@ -308,7 +319,7 @@ comment_error comment.EndBang c = if c == 62 then Some error.IncorrectlyClosedCo
 comment_error part c = None
 
 abbrev pub part_read : Option CommentPart → Reading → PageReader
-part_read None r = goes Data (record r { fresh = false })
+part_read None r = goes Data (behind_comment r)
 part_read (Some part) r = goes (Comment part) r
 
 abbrev pub comment_read : CommentPart → ℕ → Reading → PageReader
@@ -318,7 +329,7 @@ comment_read part c r = part_read (next_part part c) (erring_some (comment_error
 abbrev pub doctype_taken : (inner : List ℕ) → Reading → Reading
 doctype_taken inner r = if is_unseen r.page.tables
     then record r { page = record r.page { tables = table_rule inner }; fresh = false }
-    else erring error.MisplacedDocumentType (record r { fresh = false })
+    else erring error.MisplacedDocumentType (behind_comment r)
 
 abbrev pub doctype_read : (since : List ℕ) → ℕ → Reading → PageReader
 doctype_read since c r = if c == 62 then goes Data (doctype_taken since r)
@@ -429,6 +440,7 @@ moved (Comment part) c r = comment_read part c r
 moved (Doctype since) c r = doctype_read since c r
 moved (Cdata brackets) c r = cdata_read brackets c r
 moved (Raw depth run) c r = raw_read depth run c r
+moved Plaintext c r = plaintext_read c r
 moved (Reference since s) c r = reference_state_read since s c r
 
 abbrev pub past_char : ℕ → (place : ℕ) → PageReader → PageReader
@@ -478,6 +490,7 @@ left_over (Doctype since) r = doctype_taken since (erring error.EofInDoctype r)
 left_over (Cdata brackets) r = brackets_emitted brackets (erring error.EofInCdata r)
 left_over (Raw depth run) r =
     erring_if (not (depth == 0)) error.EofInScriptHtmlCommentLikeText r
+left_over Plaintext r = beginning r
 left_over (Reference since s) r = left_over_reference since s r
 left_over s r = erring error.EofInTag r
 

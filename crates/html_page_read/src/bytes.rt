@@ -6,7 +6,7 @@ ghost use Rattle.html_page_read.specs.PageAnswers.{GivesText};
 
 use crate::fault::PageFault;
 use crate::place::place_at;
-use html_page_encoding::{DecodedPage, Encoding, EncodingFault, decode, encoding_of};
+use html_page_encoding::{DecodedPage, Encoding, EncodingFault, decode, decode_page, encoding_of};
 use html_text::Place;
 use std::alloc::{AllocError, Global};
 
@@ -42,22 +42,22 @@ fn byte_place(
     })
 }
 
-/// Returns a fault with its place, behind bytes that are a text in that encoding.
-fn placed_fault(
-    alloc: Global,
-    encoding: Encoding,
-    page: &[u8],
-    fault: EncodingFault,
-) -> Result<PageFault, AllocError>
-    ensures { IfOk result (λ placed. placed ≡ placed_fault encoding page.now fault) }
+/// Returns a fault of a page of bytes, with its place.
+fn placed_fault(alloc: Global, page: &[u8], fault: EncodingFault) -> Result<PageFault, AllocError>
+    ensures { IfOk result (λ placed. placed ≡ placed_fault page.now fault) }
 {
     match fault {
         EncodingFault::OutOfMemory => Ok(PageFault::OutOfMemory),
         EncodingFault::UnknownLabel { label, place } => {
-            let place = byte_place(alloc, encoding, page, place)?;
+            // Each byte before a label counts as a character.
+            let place = byte_place(alloc, Encoding::Windows1252, page, place)?;
             Ok(PageFault::UnknownLabel { label, place })
         }
         EncodingFault::NotText { place } => {
+            // Only the bytes of a page whose encoding is known have such a fault.
+            let Ok(encoding) = encoding_of(alloc, page) else {
+                return Err(AllocError);
+            };
             let place = byte_place(alloc, encoding, page, place)?;
             Ok(PageFault::NotText { place })
         }
@@ -81,16 +81,12 @@ fn placed_fault(
 /// - [`PageFault::NotText`] if the page has bytes that are no text in its encoding.
 ///
 /// Takes time linear in the length of the page, and allocates memory for the text.
+#[tactic(auto, using(crate::proofs::BytePages::byte_faults))]
 pub fn decode_page_bytes(alloc: Global, page: &[u8]) -> Result<DecodedPage, PageFault>
     ensures { GivesText result page.now }
 {
-    let encoding = match encoding_of(alloc, page) {
-        Ok(encoding) => encoding,
-        // Each byte before a label counts as a character.
-        Err(fault) => return Err(placed_fault(alloc, Encoding::Windows1252, page, fault)?),
-    };
-    match decode(alloc, encoding, page) {
-        Ok(text) => Ok(DecodedPage { text, encoding }),
-        Err(fault) => Err(placed_fault(alloc, encoding, page, fault)?),
+    match decode_page(alloc, page) {
+        Ok(decoded) => Ok(decoded),
+        Err(fault) => Err(placed_fault(alloc, page, fault)?),
     }
 }

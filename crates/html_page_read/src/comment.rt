@@ -77,7 +77,7 @@ impl Reader {
         self.reading.note_some(error_of(self.part, c))?;
         match next_part(self.part, c) {
             None => {
-                self.reading.fresh = false;
+                self.reading.pass_comment()?;
                 self.state = State::Data;
             }
             Some(part) => {

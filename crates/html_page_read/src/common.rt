@@ -47,11 +47,15 @@ impl Reading {
 }
 
 impl Reader {
-    /// Returns whether each common character is only appended to the current node.
-    fn takes_common(&self) -> bool
+    /// Returns whether each common character is only appended to the current node. (At a tag, which
+    /// has none, it does not ask further.)
+    fn takes_common(&self, text: &str) -> bool
         ensures { result ≡ true → TakesCommon (reader_of self.now) }
     {
-        matches!(self.state, State::Data) && !self.reading.fresh && takes_text(&self.reading.page)
+        matches!(self.state, State::Data)
+            && !text.starts_with('<')
+            && !self.reading.fresh
+            && takes_text(&self.reading.page)
     }
 
     /// Returns whether the reader is in a value in double quotes.
@@ -111,7 +115,7 @@ impl Reader {
         ensures { IfOk result (λ rest.
             ReadsFront (reader_of self.old) (reader_of self.new) text.now rest.now) }
     {
-        if self.takes_common() {
+        if self.takes_common(text) {
             self.read_stretch(text)
         } else if self.is_in_quotes() {
             self.read_value(text)

@@ -1,4 +1,4 @@
-//! Text, and the beginnings of tags (HTML Standard 13.2.5.1, 13.2.5.6, 13.2.5.7, 13.2.5.41).
+//! Text, and the beginnings of tags (HTML Standard 13.2.5.1, 13.2.5.5, 13.2.5.6, 13.2.5.7, 13.2.5.41).
 
 ghost use Rattle.std.specs.Prelude.{◌≡◌, OnOk, []};
 ghost use Rattle.html_page_read.specs.PageTokens as tokens;
@@ -22,6 +22,7 @@ impl Reader {
         self.state = State::Reference;
     }
 
+    #[inline(always)]
     pub(crate) fn data(&mut self, c: char) -> Result<(), AllocError>
         ensures { OnOk result (reader_of self.new ≡ tokens.data_read c (reading_of self.old.reading)) }
     {
@@ -37,11 +38,22 @@ impl Reader {
         Ok(())
     }
 
+    /// Reads a character after `<plaintext>` (HTML Standard 13.2.5.5).
+    pub(crate) fn plaintext(&mut self, c: char) -> Result<(), AllocError>
+        ensures { OnOk result (reader_of self.new
+            ≡ tokens.plaintext_read c (reading_of self.old.reading)) }
+    {
+        self.reading.page.start = self.reading.place;
+        self.reading.emit_char(c)?;
+        self.state = State::Plaintext;
+        Ok(())
+    }
+
     pub(crate) fn bogus_comment(&mut self, c: char) -> Result<(), AllocError>
         ensures { OnOk result (reader_of self.new ≡ tokens.bogus_read c (reading_of self.old.reading)) }
     {
         if c == '>' {
-            self.reading.fresh = false;
+            self.reading.pass_comment()?;
             self.state = State::Data;
         } else {
             self.state = State::BogusComment;

@@ -98,7 +98,7 @@ impl Reader {
     {
         let reading = &mut self.reading;
         match self.state {
-            State::Data => reading.page.start = reading.place,
+            State::Data | State::Plaintext => reading.page.start = reading.place,
             State::TagOpen => {
                 reading.note(PageError::EofBeforeTagName)?;
                 reading.emit_char('<')?;

@@ -1,6 +1,6 @@
 //! Markup after `<!`, and document types (HTML Standard 13.2.5.42, 13.2.5.53).
 
-ghost use Rattle.std.specs.{Char.{to_ascii_lowercase}, Prelude.{◌≡◌, ◌∷◌, ◌++◌, [], OnOk, IsTrue, bytes_eq, chars, codes, map}};
+ghost use Rattle.std.specs.{Char.{to_ascii_lowercase}, Prelude.{◌≡◌, OnOk, IsTrue, bytes_eq, chars, codes, map}};
 ghost use Rattle.html_dom_tree.specs.Views.{text_view};
 ghost use Rattle.html_names_core.specs.Names.{is_ascii};
 ghost use Rattle.html_page_read.specs.PageTokens.{begins};
@@ -95,10 +95,11 @@ impl Reader {
         ensures { OnOk result (reading_of self.new.reading
             ≡ tokens.doctype_taken (text_view self.old.inner) (reading_of self.old.reading)) }
     {
-        self.reading.fresh = false;
         if !matches!(self.reading.page.tables, TableRule::Unseen) {
+            self.reading.pass_comment()?;
             return self.reading.note(PageError::MisplacedDocumentType);
         }
+        self.reading.fresh = false;
         self.reading.page.tables = table_rule(self.inner.as_str());
         Ok(())
     }

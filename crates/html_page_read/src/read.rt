@@ -23,7 +23,7 @@ pub(crate) const BYTE_ORDER_MARK: char = '\u{feff}';
 ///
 /// Reads as HTML Standard 13.2 says, with scripting disabled, and recovers from the errors that
 /// browsers recover from. Comments and document types leave nothing in the element. Refuses a page
-/// if a browser would move nodes out of a table; [`PageRefusal`] lists the cases.
+/// at the limits that [`PageRefusal`] lists.
 ///
 /// The span of an element is the offset in bytes of the `<` of its start tag, or of the tag or the
 /// character that implied it; [`Places`](crate::Places) maps it to a line and a column. A text has
@@ -51,11 +51,11 @@ pub(crate) const BYTE_ORDER_MARK: char = '\u{feff}';
 ///     assert_eq!(rt; note.place.offset, 29); // `</b>`, which closes nothing
 /// }
 ///
-/// let read = read_page(alloc, "<!DOCTYPE html><table>a", 50);
+/// let read = read_page(alloc, "<!DOCTYPE html><p><b>a", 3);
 /// let Err(PageFault::Refused { place, .. }) = read else {
-///     panic!(rt; "a text is moved out of a table");
+///     panic!(rt; "an element is too deep");
 /// };
-/// assert_eq!(rt; place.column, 23);
+/// assert_eq!(rt; place.column, 19);
 /// ```
 pub fn read_page(
     alloc: Global,

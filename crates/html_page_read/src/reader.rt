@@ -51,6 +51,8 @@ pub(crate) enum State {
     Cdata,
     /// In an element of text alone.
     Raw,
+    /// After `<plaintext>`, where all is text.
+    Plaintext,
     /// After `&`.
     Reference,
 }
@@ -163,6 +165,7 @@ impl Reader {
             State::Doctype => self.doctype(c),
             State::Cdata => self.cdata(c),
             State::Raw => self.raw(c),
+            State::Plaintext => self.plaintext(c),
             State::Reference => self.reference(c),
         }
     }

@@ -7,7 +7,7 @@ ghost use Rattle.html_page_stack.specs.PageViews.{token_of};
 
 use crate::reader::Brackets;
 use html_page_stack::{Page, PageError, Token};
-use html_page_tree::{read_token, takes_text};
+use html_page_tree::{end_text, read_token, takes_text};
 use std::alloc::AllocError;
 
 /// The progress in a page, without the state.
@@ -58,6 +58,7 @@ impl Reading {
 
     /// Emits a character. Drops a line feed right after a start tag that drops it.
     #[tactic(auto, using(html_page_tree::proofs::TakenTexts::text_taken))]
+    #[inline(always)]
     pub(crate) fn emit_char(&mut self, c: char) -> Result<(), AllocError>
         ensures { OnOk result (reading_of self.new ≡ tokens.char_emitted c (reading_of self.old)) }
     {
@@ -71,6 +72,15 @@ impl Reading {
             return Ok(());
         }
         self.emit(Token::Char(c))
+    }
+
+    /// Goes on behind a comment or a document type, which leaves nothing.
+    pub(crate) fn pass_comment(&mut self) -> Result<(), AllocError>
+        ensures { OnOk result (reading_of self.new ≡ tokens.behind_comment (reading_of self.old)) }
+    {
+        end_text(&mut self.page)?;
+        self.fresh = false;
+        Ok(())
     }
 
     pub(crate) fn emit_text(&mut self, text: &str) -> Result<(), AllocError>

@@ -27,6 +27,8 @@ impl Reader {
             self.depth = Depth::Outside;
             self.run = 0;
             self.state = State::Raw;
+        } else if stack.is_at(Kind::Plaintext) {
+            self.state = State::Plaintext;
         } else {
             self.state = State::Data;
         }

@@ -1,7 +1,7 @@
 -- Elements that are closed or taken off one by one.
 use Rattle.std.proofs.Common.{◌≡◌, ◌+◌, ◌-◌, ◌<◌, ◌≤◌, arith, ℕ, zero, suc, Bool, true, false, inl, inr, List, [], ◌∷◌, ◌++◌, drop, length, reverse, take, refl, sym, ap, ◌∙◌}
 use Rattle.std.{proofs.lemmas.Bool.{cases_Bool, leb-false}, proofs.lemmas.Option.{none-some, same_Some}, proofs.lemmas.List.{reverse-reverse}, specs.Prelude.{if◌then◌else◌, nat_le, IfSome, Option, Some, None}, specs.Option.{option_or}}
-use Rattle.html_page_stack.specs.{Adoption.{Adoption, closed_times, count_after, furthest_block, is_kept}, AdoptionViews.{IsInside}, Formats.{Format, entry_passes}, OpenElements.{OpenElement, is_special, without_current}}
+use Rattle.html_page_stack.specs.{Adoption.{Adoption, count_after, furthest_block, is_kept}, AdoptionViews.{IsInside}, Formats.{Format, entry_passes}, OpenElements.{OpenElement, closed_times, is_special, without_current}}
 
 pub times_once : (n k : ℕ) (os : List OpenElement) → k < n →
     closed_times (n - k) os ≡ closed_times (n - (k + 1)) (without_current os)

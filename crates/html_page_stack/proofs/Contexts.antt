@@ -2,6 +2,7 @@
 use Rattle.std.proofs.Common.{◌≡◌, ◌≤◌, ℕ, get_or, List, [], ◌∷◌, ◌++◌, length, map, reverse, Option, Some, None, refl, sym, ap, ◌∙◌}
 use Rattle.std.proofs.{Math.Bridge.{no_suc-le-zero}, Math.Dec.{eqb-suc-zero}, lemmas.List.{map-append, reverse-append}}
 use Rattle.std.specs.Prelude.{unwrap_or}
+use Rattle.html_dom_tree.specs.Tree.{ElementView}
 use Rattle.html_page_stack.proofs.Stacks.{last_first}
 use Rattle.html_page_stack.specs.Contexts.{AreKnown, brought_mode, context, context_of, contexts, own_mode, root_mode, some_or}
 use Rattle.html_page_stack.specs.{ElementViews.{element_of, list_of}, OpenElements.{OpenElement, html_mode, mode, placed, placed_in, with_text}}
@@ -45,15 +46,17 @@ pub text_keeps : (t : List ℕ) (o : OpenElement) (os : List OpenElement) →
 text_keeps [] o os = refl
 text_keeps (c ∷ cs) o os = refl
 
-placed_keeps : (d : Destination) (o p : OpenElement) (os : List OpenElement) →
-    context (placed_in d o p ∷ os) ≡ context (p ∷ os)
-placed_keeps to.Parent o p os = refl
-placed_keeps to.Head o p os = refl
-placed_keeps to.Replaced o p os = refl
+placed_keeps : (d : Destination) (e : ElementView) (p : OpenElement) (os : List OpenElement) →
+    context (placed_in d e p ∷ os) ≡ context (p ∷ os)
+placed_keeps to.Parent e p os = refl
+placed_keeps to.Head e p os = refl
+placed_keeps to.Replaced e p os = refl
+placed_keeps to.BeforeTable e p os = refl
+placed_keeps to.ReplacedBeforeTable e p os = refl
 
 pub child_keeps : (o p : OpenElement) (os : List OpenElement) →
     context (placed o p ∷ os) ≡ context (p ∷ os)
-child_keeps o p os = placed_keeps o.destination o p os
+child_keeps o p os = placed_keeps o.destination (o.head, o.children) p os
 
 contexts_last : (es : List PageElement) (e : PageElement) →
     reverse (map context_of (es ++ e ∷ [])) ≡ e.context ∷ reverse (map context_of es)

@@ -1,9 +1,15 @@
 pub mod Adopting
+pub mod BeforeTables
 pub mod Children
 pub mod Closing
 pub mod Contexts
 pub mod Copies
+pub mod Currents
 pub mod Merging
+pub mod Milestones
+pub mod NameNumbers
 pub mod OpenFormats
+pub mod Roots
 pub mod Stacks
+pub mod Templates
 pub mod Uncovering

@@ -5,8 +5,8 @@ use Rattle.html_dom_tree.specs.Tree.{TextPair}
 use Rattle.html_page_names.specs.PageNames.{of}
 use Rattle.html_page_names.specs.declared.kind.Kind.TheVariants as kind
 use Rattle.html_page_stack.specs.Contexts.{AreKnown, bare, brought_mode, context, context_of, contexts, known_part, own_mode, some_or}
-use Rattle.html_page_stack.specs.{ElementViews.{element_of, list_of}, OpenElements.{OpenElement, attr_count_at, bounds, is_of, reaches, with_attrs, with_attrs_at}}
-use Rattle.html_page_stack.specs.declared.{context.Context.{Context}, element.PageElement.{PageElement}, modes.Scope.TheVariants.{Button}}
+use Rattle.html_page_stack.specs.{ElementViews.{element_of, list_of}, Milestones.{known_around, milestone, names}, OpenElements.{OpenElement, attr_count_at, bounds, bounds_item, is_of, reaches, with_attrs, with_attrs_at}}
+use Rattle.html_page_stack.specs.declared.{context.Context.{Context}, element.PageElement.{PageElement}, modes.Scope.TheVariants.{Button, General, ListItem, Table}}
 
 -- no fact depends on attributes
 
@@ -18,15 +18,39 @@ mode_bare [] = refl
 mode_bare (o ∷ []) = refl
 mode_bare (o ∷ p ∷ ps) = ap (some_or (own_mode o (p ∷ ps))) (mode_bare (p ∷ ps))
 
-reaches_bare : (test : List ℕ → Bool) (os : List OpenElement) →
-    reaches (is_of test) (bounds Button) (all_bare os) ≡ reaches (is_of test) (bounds Button) os
-reaches_bare test [] = refl
-reaches_bare test (o ∷ os) = rw (reaches_bare test os) refl
+reaches_bare : (bound : OpenElement → Bool) → ((o : OpenElement) → bound (bare o) ≡ bound o) →
+    (test : List ℕ → Bool) (os : List OpenElement) →
+    reaches (is_of test) bound (all_bare os) ≡ reaches (is_of test) bound os
+reaches_bare bound same test [] = refl
+reaches_bare bound same test (o ∷ os) = rw (same o, reaches_bare bound same test os) refl
+
+names_bare : (ends : OpenElement → Bool) → ((o : OpenElement) → ends (bare o) ≡ ends o) →
+    (os : List OpenElement) → names ends (all_bare os) ≡ names ends os
+names_bare ends same [] = refl
+names_bare ends same (o ∷ os) = rw (same o, names_bare ends same os) refl
+
+milestone_bare : (os : List OpenElement) → milestone (all_bare os) ≡ milestone os
+milestone_bare os = λ i. record {
+  has_select = reaches_bare (bounds General) (λ o. refl) (of kind.Select) os i;
+  has_ruby = reaches_bare (bounds General) (λ o. refl) (of kind.Ruby) os i;
+  has_heading = reaches_bare (bounds General) (λ o. refl) (of kind.Heading) os i;
+  has_open_item = reaches_bare (bounds ListItem) (λ o. refl) (of kind.ListItem) os i;
+  has_list_item = reaches_bare bounds_item (λ o. refl) (of kind.ListItem) os i;
+  has_description_part = reaches_bare bounds_item (λ o. refl) (of kind.DescriptionPart) os i;
+  near_names = names_bare (is_of (of kind.Special)) (λ o. refl) os i;
+  scope_names = names_bare (bounds General) (λ o. refl) os i;
+  table_names = names_bare (bounds Table) (λ o. refl) os i;
+}
+
+around_bare : (os : List OpenElement) → known_around (all_bare os) ≡ known_around os
+around_bare [] = refl
+around_bare (o ∷ os) = rw (length-map os bare, milestone_bare os) refl
 
 context_bare : (os : List OpenElement) → context (all_bare os) ≡ context os
 context_bare os = λ i. record {
   mode = mode_bare os i;
-  has_paragraph = reaches_bare (of kind.P) os i;
+  has_paragraph = reaches_bare (bounds Button) (λ o. refl) (of kind.P) os i;
+  milestone = around_bare os i;
 }
 
 contexts_bare : (os : List OpenElement) → contexts (all_bare os) ≡ contexts os

@@ -1,12 +1,23 @@
 -- The list of active formatting elements: the entry's element is open where the open element at its
 -- index is one of it.
 use Rattle.std.proofs.Common.{◌≡◌, ◌+◌, ◌<◌, ◌≤◌, arith, ℕ, zero, suc, Bool, true, false, ◌||◌, List, [], ◌∷◌, ◌++◌, append_assoc, drop, get_or, length, map, take, inl, inr, refl, sym, ap, ◌∙◌}
+use Rattle.std.proofs.Math.Bool.{and-false}
 use Rattle.std.proofs.lemmas.{Bool.{cases_Bool, eq-eqb, false≢true, ltb-false, ltb-true, ne_eqb}, List.{drop-map, length-append, length-map, length-reverse, map-append, reverse-append, take-map}}
 use Rattle.std.specs.{List.{remove}, Prelude.{nat_lt, Option, option_map}}
+use Rattle.html_page_names.specs.PageNames.{of}
+use Rattle.html_page_names.specs.declared.kind.Kind.TheVariants as kind
 use Rattle.html_page_stack.specs.FormatViews.{entries_of, format_of}
 use Rattle.html_page_stack.specs.declared.formats.{Format.Format as Entry}
-use Rattle.html_page_stack.specs.{ElementViews.{element_of, list_of}, Formats.{Format, is_open}, OpenElements.{OpenElement, is_opened}}
+use Rattle.html_page_stack.specs.{ElementViews.{element_of, list_of}, Formats.{Format, Formats, after_current, is_open}, OpenElements.{OpenElement, is_of, is_opened}}
 use Rattle.html_page_stack.specs.declared.element.PageElement.{PageElement}
+
+-- the end tag of another element removes no entry
+pub left_by_others : (os : List OpenElement) (fs : Formats) → after_current false os fs ≡ fs
+left_by_others [] fs = refl
+left_by_others (o ∷ os) fs = rw (
+  and-false (is_of (of kind.Marker) o),
+  and-false (is_of (of kind.Formatting) o),
+) refl
 
 pub as_many : (es : List PageElement) → length (list_of es) ≡ length es
 as_many es = length-reverse (map element_of es) ∙ length-map es element_of

@@ -1,22 +1,28 @@
 -- Elements that were removed.
-use Rattle.std.proofs.Common.{◌≡◌, ◌≤◌, ◌-◌, ℕ, arith, inl, inr, List, [], ◌∷◌, ◌++◌, drop, length, map, reverse, take, refl, sym, ap, ◌∙◌}
+use Rattle.std.proofs.Common.{◌≡◌, ◌+◌, ◌<◌, ◌≤◌, ◌-◌, ℕ, zero, suc, false, arith, inl, inr, List, [], ◌∷◌, ◌++◌, drop, length, map, reverse, take, refl, sym, ap, ◌∙◌}
 use Rattle.std.proofs.{Math.Seq.{drop-append_seam}, lemmas.Bool.{cases_Bool}}
 use Rattle.std.proofs.lemmas.List.{length-drop, map-append, reverse-append, take-append-drop}
+use Rattle.std.specs.Prelude.{if◌then◌else◌}
 use Rattle.html_page_stack.proofs.OpenFormats.{as_many}
 use Rattle.html_page_stack.specs.{Adoption.{around, shown_count}, ElementViews.{element_of, list_of}}
-use Rattle.html_page_stack.specs.OpenElements.{OpenElement, is_removed, placed, placed_in}
+use Rattle.html_page_stack.specs.OpenElements.{OpenElement, at, is_removed, uncovered, uncovered_times, without_current}
 use Rattle.html_page_stack.specs.declared.element.PageElement.{PageElement}
-use Rattle.html_page_stack.specs.declared.modes.Destination.{Destination}
-use Rattle.html_page_stack.specs.declared.modes.Destination.TheVariants as to
 
-placed_space_in : (d : Destination) (o p : OpenElement) → (placed_in d o p).space ≡ p.space
-placed_space_in to.Parent o p = refl
-placed_space_in to.Head o p = refl
-placed_space_in to.Replaced o p = refl
+-- completing removed elements goes on, or is done
+pub uncovered_once : (n k : ℕ) (os : List OpenElement) → k < n →
+    uncovered_times (n - k) os ≡ (if at (λ o. is_removed o.space) os
+    then uncovered_times (n - (k + 1)) (without_current os) else os)
+uncovered_once n k os h =
+    ap (λ m. uncovered_times m os) {x = n - k} {y = suc (n - (k + 1))} (omega (arith, h))
 
--- an element stays in its namespace when a child is complete
-pub placed_space : (o p : OpenElement) → (placed o p).space ≡ p.space
-placed_space o p = placed_space_in o.destination o p
+pub uncovered_done : (n k : ℕ) (os : List OpenElement) → n ≤ k → uncovered_times (n - k) os ≡ os
+uncovered_done n k os h =
+    ap (λ m. uncovered_times m os) {x = n - k} {y = zero} (omega (arith, h))
+
+pub none_removed : (os : List OpenElement) → at (λ o. is_removed o.space) os ≡ false →
+    uncovered os ≡ os
+none_removed [] h = refl
+none_removed (o ∷ os) h = rw h refl
 
 -- no more elements are open than there are
 pub fewer_shown : (os : List OpenElement) → shown_count os ≤ length os

@@ -5,8 +5,8 @@ use Rattle.std.specs.Option.{option_or}
 use Rattle.html_dom_tree.specs.Tree.{none, NodesView}
 use Rattle.html_page_stack.specs.Copies.{copies_size, spare_at}
 use Rattle.html_page_stack.specs.Formats.{Format, entry_passes, is_open, is_same}
-use Rattle.html_page_stack.specs.OpenElements.{OpenElement, is_removed, is_special, uncovered, without_current}
-use Rattle.html_page_stack.specs.Pages.{Page, made, refused, settled}
+use Rattle.html_page_stack.specs.OpenElements.{OpenElement, closed_times, is_removed, is_special, uncovered}
+use Rattle.html_page_stack.specs.Pages.{Page, body_destination, made, refused, settled}
 use Rattle.html_page_stack.specs.declared.fault.PageRefusal.TheVariants as refusal
 use Rattle.html_page_stack.specs.declared.modes.{Destination.TheVariants.{Parent}, Space.TheVariants.{Html}}
 
@@ -107,31 +107,30 @@ entries_after a count before [] = []
 entries_after a count before (e ∷ es) =
     entry_after a count before e ++ entries_after a count (count_after a before e) es
 
--- closes the current node, so many times
-abbrev pub closed_times : (times : ℕ) → List OpenElement → List OpenElement
-closed_times zero os = os
-closed_times (suc n) os = closed_times n (without_current os)
-
 -- an element for an entry, with these children
 abbrev pub made_for : Format → NodesView → OpenElement
 made_for f children = record (made Parent Html f.name f.attrs f.span) { children = children }
 
+-- an element as the rules of a body insert it in others
+abbrev pub put_in : (around : List OpenElement) → OpenElement → OpenElement
+put_in around o = record o { destination = body_destination Parent around }
+
 -- opens elements for entries, the first entry first
 abbrev pub all_made : List Format → List OpenElement → List OpenElement
 all_made [] os = os
-all_made (f ∷ fs) os = all_made fs (made_for f none ∷ os)
+all_made (f ∷ fs) os = all_made fs (put_in os (made_for f none) ∷ os)
 
--- an element without children, which stands in the element around it
-abbrev pub emptied : OpenElement → OpenElement
-emptied o = record o { destination = Parent; children = none }
+-- opens an element without its children
+abbrev pub emptied : OpenElement → List OpenElement → List OpenElement
+emptied o os = put_in os (record o { children = none }) ∷ os
 
 -- the open elements afterwards, from the block outwards, whose formatting element stands so many
 -- elements outside: elements stand around it for these entries, and in it one for the formatting
 -- element, which has its children so far
 abbrev pub block_moved : Format → (times : ℕ) → List Format → List OpenElement → List OpenElement
 block_moved f times kept [] = []
-block_moved f times kept (block ∷ os) = made_for f block.children ∷ emptied block
-    ∷ all_made kept (uncovered (closed_times times os))
+block_moved f times kept (block ∷ os) = made_for f block.children
+    ∷ emptied block (all_made kept (uncovered (closed_times times os)))
 
 abbrev pub stack_after : Adoption → List Format → List OpenElement
 stack_after a kept = inside a.block a.stack

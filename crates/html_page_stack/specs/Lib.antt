@@ -7,6 +7,8 @@ pub mod Endings
 pub mod FormatPlaces
 pub mod FormatViews
 pub mod Formats
+pub mod Milestones
+pub mod MovedViews
 pub mod OpenCounts
 pub mod OpenElements
 pub mod PageRefusals

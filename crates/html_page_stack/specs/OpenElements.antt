@@ -1,14 +1,14 @@
 -- The open elements, innermost first, what is in scope, and the insertion mode, which follows from
 -- them (HTML Standard 13.2.4).
 use Rattle.std.specs.List.{list_any}
-use Rattle.std.specs.Prelude.{ℕ, zero, suc, Bool, true, false, not, ◌&&◌, ◌||◌, ◌==◌, List, [], ◌∷◌, length, if◌then◌else◌, bytes_eq, Option, Some, None, unwrap_or}
+use Rattle.std.specs.Prelude.{ℕ, zero, suc, Bool, true, false, not, ◌&&◌, ◌||◌, ◌==◌, List, [], ◌∷◌, ◌++◌, length, codes, if◌then◌else◌, bytes_eq, Option, Some, None, unwrap_or}
 use Rattle.html_dom_tree.specs.Attributes.{union}
 use Rattle.html_dom_tree.specs.Tree.{TextPair, Head, NodeView, tag_node, text_node, element_node, frame_node, NodesView, none, node, ElementView, with_last}
 use Rattle.html_page_names.specs.{ForeignNames.{is_encoding, is_html_encoding, lowered}, PageNames.{is, of}}
 use Rattle.html_page_names.specs.declared.kind.Kind.TheVariants as kind
 use Rattle.html_page_stack.specs.declared.modes.{Destination.{Destination}, Mode.{Mode}, Scope.{Scope}, Space.{Space}}
 use Rattle.html_page_stack.specs.declared.modes.Destination.TheVariants as to
-use Rattle.html_page_stack.specs.declared.modes.Mode.TheVariants.{BeforeHtml, BeforeHead, InHead, InHeadNoscript, AfterHead, InBody, InText, InTable, InCaption, InColumns, InSection, InRow, InCell}
+use Rattle.html_page_stack.specs.declared.modes.Mode.TheVariants.{BeforeHtml, BeforeHead, InHead, InHeadNoscript, AfterHead, InBody, InText, InTable, InCaption, InColumns, InSection, InRow, InCell, InTemplate, InFrameset}
 use Rattle.html_page_stack.specs.declared.modes.Scope.TheVariants.{General, ListItem, Button, Table}
 use Rattle.html_page_stack.specs.declared.modes.Space.TheVariants.{Html, Svg, MathMl, Removed}
 
@@ -19,6 +19,8 @@ pub record OpenElement : Type 0 where
   -- where it stands once it is complete
   pub destination : Destination
   pub children : NodesView
+  -- what stands right behind it, if it is a part of a table right in a `template`
+  pub behind : NodesView
 
 abbrev pub is_html : Space → Bool
 is_html Html = true
@@ -54,6 +56,16 @@ at goal (o ∷ os) = goal o
 -- whether the current node is an element of HTML whose name passes the test
 abbrev pub is_at : (test : List ℕ → Bool) → List OpenElement → Bool
 is_at test = at (is_of test)
+
+-- whether it is a table, a section of it or a row: where such an element is the current node, what
+-- a body's rules insert stands before the table (13.2.6.1, foster parenting)
+abbrev pub is_table_context : OpenElement → Bool
+is_table_context =
+    is_of (λ n. of kind.Table n || (of kind.Section n || of kind.Tr n))
+
+-- whether a text in it is judged as a whole by the rules of tables (13.2.6.4.9)
+abbrev pub holds_table_text : OpenElement → Bool
+holds_table_text o = is_table_context o || is_of (of kind.Template) o
 
 -- the namespace of the current node
 abbrev pub current_space : List OpenElement → Space
@@ -139,7 +151,9 @@ named_mode name below = if of kind.Cell name then Some InCell
     else (if of kind.Head name then Some InHead
     else (if of kind.Raw name then Some InText
     else (if of kind.Noscript name && is_at (of kind.Head) below then Some InHeadNoscript
-    else None)))))))))
+    else (if of kind.Template name then Some InTemplate
+    else (if of kind.Frameset name then Some InFrameset
+    else None)))))))))))
 
 -- whether any of the nodes is an element
 abbrev pub has_elements : NodesView → Bool
@@ -148,6 +162,12 @@ has_elements (node (tag_node t) ns) = has_elements ns
 has_elements (node (text_node text span) ns) = has_elements ns
 has_elements (node (element_node h children) ns) = true
 has_elements (node (frame_node f) ns) = has_elements ns
+
+-- whether any of the nodes is an element whose name passes the test
+abbrev pub hold_named : (test : List ℕ → Bool) → NodesView → Bool
+hold_named test none = false
+hold_named test (node (element_node h children) ns) = test h.name || hold_named test ns
+hold_named test (node n ns) = hold_named test ns
 
 -- the mode within `html`, outside of head and body
 abbrev pub html_mode : NodesView → Mode
@@ -159,11 +179,36 @@ mode [] = BeforeHtml
 mode (o ∷ os) = unwrap_or (if is_html o.space then named_mode o.head.name os else None)
     (if length os == 0 then html_mode o.children else mode os)
 
+abbrev pub is_text : NodeView → Bool
+is_text (text_node text span) = true
+is_text n = false
+
+-- whether the last of the nodes is a text
+abbrev pub end_in_text : NodesView → Bool
+end_in_text none = false
+end_in_text (node n none) = is_text n
+end_in_text (node n (node m ms)) = end_in_text (node m ms)
+
+-- a text with another behind it
+abbrev pub longer : (more : List ℕ) → NodeView → NodeView
+longer more (text_node text span) = text_node (text ++ more) span
+longer more n = n
+
+abbrev pub with_longer_last : (more : List ℕ) → NodesView → NodesView
+with_longer_last more none = none
+with_longer_last more (node n none) = node (longer more n) none
+with_longer_last more (node n (node m ms)) = node n (with_longer_last more (node m ms))
+
+-- nodes and a text behind them, which joins the last if that is a text too (13.2.6.1, insert a
+-- character)
+abbrev pub joined : (text : List ℕ) (span : ℕ) → NodesView → NodesView
+joined text span ns =
+    if end_in_text ns then with_longer_last text ns else with_last ns (text_node text span)
+
 -- appends a text to an element, with the span of the element, unless the text is empty
 abbrev pub with_text : List ℕ → OpenElement → OpenElement
 with_text [] o = o
-with_text (c ∷ cs) o =
-    record o { children = with_last o.children (text_node (c ∷ cs) o.head.span) }
+with_text (c ∷ cs) o = record o { children = joined (c ∷ cs) o.head.span o.children }
 
 -- appends a text to the current node, unless it is empty
 abbrev pub with_last_text : List ℕ → List OpenElement → List OpenElement
@@ -191,29 +236,88 @@ abbrev pub with_last_nodes : NodesView → NodesView → NodesView
 with_last_nodes ns none = ns
 with_last_nodes ns (node m ms) = with_last_nodes (with_last ns m) ms
 
--- a complete element at a destination in the element around it
-abbrev pub placed_in : Destination → OpenElement → OpenElement → OpenElement
-placed_in to.Parent o p = with_last_child (completed o) p
-placed_in to.Head o p = record p { children = with_head_child (completed o) p.children }
-placed_in to.Replaced o p = record p { children = with_last_nodes p.children o.children }
+-- an element with nodes behind its children
+abbrev pub with_nodes : NodesView → OpenElement → OpenElement
+with_nodes ns p = record p { children = with_last_nodes p.children ns }
 
+-- a complete element at a destination in the element around it
+abbrev pub placed_in : Destination → ElementView → OpenElement → OpenElement
+placed_in to.Parent e p = with_last_child (element_node e.0 e.1) p
+placed_in to.Head e p = record p { children = with_head_child (element_node e.0 e.1) p.children }
+placed_in to.Replaced e p = with_nodes e.1 p
+placed_in to.BeforeTable e p = with_last_child (element_node e.0 e.1) p
+placed_in to.ReplacedBeforeTable e p = with_nodes e.1 p
+
+-- adds a complete element, and what stands right behind it
 abbrev pub placed : OpenElement → OpenElement → OpenElement
-placed o p = placed_in o.destination o p
+placed o p = with_nodes o.behind (placed_in o.destination (o.head, o.children) p)
+
+-- a `template` with these children
+abbrev pub template_of : (children : NodesView) (span : ℕ) → OpenElement
+template_of children span = record {
+  head = record {
+    name = codes "template";
+    attrs = [];
+    css = [];
+    parent = None;
+    span = span;
+    pre_span = false;
+  };
+  space = Html;
+  destination = to.Parent;
+  children = children;
+  behind = none;
+}
+
+-- an open element right in a `template`, with more behind it there
+abbrev pub with_behind : (add : OpenElement → OpenElement) → OpenElement → OpenElement → OpenElement
+with_behind add o p = record o { behind = (add (template_of o.behind p.head.span)).children }
+
+-- adds to the element around the nearest table, or at the end of a `template` that is nearer
+-- (13.2.6.1)
+abbrev pub before_table : (add : OpenElement → OpenElement) → List OpenElement → List OpenElement
+before_table add [] = []
+before_table add (o ∷ []) = add o ∷ []
+before_table add (o ∷ p ∷ ps) = if is_of (of kind.Table) o then o ∷ add p ∷ ps
+    else (if is_of (of kind.Template) p then with_behind add o p ∷ p ∷ ps
+    else o ∷ before_table add (p ∷ ps))
+
+-- adds right behind the current node
+abbrev pub behind_current : (add : OpenElement → OpenElement) → List OpenElement →
+    List OpenElement
+behind_current add [] = []
+behind_current add (o ∷ []) = o ∷ []
+behind_current add (o ∷ p ∷ ps) = with_behind add o p ∷ p ∷ ps
+
+-- adds to the current node
+abbrev pub in_current : (add : OpenElement → OpenElement) → List OpenElement → List OpenElement
+in_current add [] = []
+in_current add (o ∷ os) = add o ∷ os
+
+abbrev pub leaves_table : Destination → Bool
+leaves_table to.BeforeTable = true
+leaves_table to.ReplacedBeforeTable = true
+leaves_table d = false
+
+-- whether it stands before the nearest table once it is complete
+abbrev pub is_before_table : OpenElement → Bool
+is_before_table o = leaves_table o.destination
 
 -- completes the current node, unless it is the root
 abbrev pub without_current : List OpenElement → List OpenElement
 without_current [] = []
 without_current (o ∷ []) = o ∷ []
-without_current (o ∷ p ∷ ps) = placed o p ∷ ps
+without_current (o ∷ p ∷ ps) = if is_before_table o then before_table (placed o) (p ∷ ps)
+    else placed o p ∷ ps
 
--- the open elements, of which the innermost is completed as long as it was removed
-abbrev pub uncovered_in : OpenElement → List OpenElement → List OpenElement
-uncovered_in o [] = o ∷ []
-uncovered_in o (p ∷ ps) = if is_removed o.space then uncovered_in (placed o p) ps else o ∷ p ∷ ps
+-- completes the current node as long as it was removed, at most so many times
+abbrev pub uncovered_times : (at_most : ℕ) → List OpenElement → List OpenElement
+uncovered_times zero os = os
+uncovered_times (suc n) os =
+    if at (λ o. is_removed o.space) os then uncovered_times n (without_current os) else os
 
 abbrev pub uncovered : List OpenElement → List OpenElement
-uncovered [] = []
-uncovered (o ∷ os) = uncovered_in o os
+uncovered os = uncovered_times (length os) os
 
 -- the open elements, of which the nearest goal is removed: it is open no longer, and complete once
 -- nothing in it is open
@@ -221,10 +325,10 @@ abbrev pub removed : (goal : OpenElement → Bool) → List OpenElement → List
 removed goal [] = []
 removed goal (o ∷ os) = if goal o then record o { space = Removed } ∷ os else o ∷ removed goal os
 
--- the root, with all open elements complete
-abbrev pub all_completed : OpenElement → List OpenElement → ElementView
-all_completed o [] = (o.head, o.children)
-all_completed o (p ∷ ps) = all_completed (placed o p) ps
+-- completes the current node, so many times
+abbrev pub closed_times : (times : ℕ) → List OpenElement → List OpenElement
+closed_times zero os = os
+closed_times (suc n) os = closed_times n (without_current os)
 
 -- an element, with those of the attributes that it lacks
 abbrev pub with_attrs : (others : List TextPair) → OpenElement → OpenElement
@@ -245,9 +349,26 @@ attr_count_at index test [] = 0
 attr_count_at zero test (o ∷ os) = if is_of test o then length o.head.attrs else 0
 attr_count_at (suc index) test (o ∷ os) = attr_count_at index test os
 
+abbrev pub current_element : List OpenElement → Option ElementView
+current_element [] = None
+current_element (o ∷ os) = Some (o.head, o.children)
+
+-- the outermost of the open elements alone
+abbrev pub root_alone : List OpenElement → List OpenElement
+root_alone [] = []
+root_alone (o ∷ []) = o ∷ []
+root_alone (o ∷ p ∷ ps) = root_alone (p ∷ ps)
+
+-- whether there is a `template` in an element among the nodes
+abbrev pub hold_template : NodesView → Bool
+hold_template none = false
+hold_template (node (element_node h children) ns) =
+    hold_named (of kind.Template) children || hold_template ns
+hold_template (node n ns) = hold_template ns
+
+-- the root, with all open elements complete
 abbrev pub root_of : List OpenElement → Option ElementView
-root_of [] = None
-root_of (o ∷ os) = Some (all_completed o os)
+root_of os = current_element (closed_times (length os) os)
 
 -- the name of the current node
 abbrev pub current_name : List OpenElement → Option (List ℕ)

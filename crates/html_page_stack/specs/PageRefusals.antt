@@ -7,7 +7,5 @@ use Rattle.html_page_stack.specs.declared.fault.PageRefusal.TheVariants as refus
 abbrev pub refusal_number : PageRefusal → ℕ
 refusal_number refusal.TooDeep = 8
 refusal_number refusal.TooManyAttributes = 28
-refusal_number refusal.FosterParenting = 32
-refusal_number refusal.UnreadElement = 35
 refusal_number refusal.Unsettled = 39
 refusal_number refusal.TooManyCopies = 40

@@ -1,5 +1,5 @@
 -- The program's page, tokens and searches as those of the definition.
-use Rattle.std.specs.Prelude.{ℕ, Bool, false, not, ◌&&◌, List, option_map}
+use Rattle.std.specs.Prelude.{ℕ, Bool, false, not, ◌&&◌, ◌||◌, List, option_map, reverse}
 use Rattle.html_dom_tree.specs.Views.{attrs_view, text_view}
 use Rattle.html_page_names.specs.PageNames.{is, of}
 pub use Rattle.html_page_stack.specs.ElementViews.{element_of, list_of}
@@ -31,11 +31,14 @@ notes_of notes = record { count = notes.count; first = notes.first.items }
 abbrev pub page_of : Page → pages.Page
 page_of p = record {
   text = text_view p.text;
+  moved = p.moved;
   stack = stack_of p.stack;
   formats = formats_of p.formats;
   copied = p.copied;
   form = option_map (λ span. span.0) p.form;
+  templates = reverse p.templates.items;
   tables = p.tables;
+  framesets = p.framesets;
   limit = p.limit;
   start = p.start;
   notes = notes_of p.notes;
@@ -72,6 +75,9 @@ abbrev pub while_test : While → List OpenElement → Bool
 while_test (while.Above g) = λ os. not (elements.at (goal_test g) os)
 while_test (while.Implied but) =
     elements.is_at (λ n. of kind.Implied n && not (target_test but n))
+while_test while.ImpliedThoroughly = elements.is_at (λ n. of kind.Implied n || of kind.TablePart n)
+while_test (while.InPart k) = λ os. not (elements.is_at
+    (λ n. of k n || of kind.Template n || of kind.Html n) os)
 
 abbrev pub bound_test : Bound → OpenElement → Bool
 bound_test (bound.Scope s) = bounds s

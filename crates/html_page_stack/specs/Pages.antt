@@ -1,18 +1,20 @@
 -- The state of a page that is being read, and the steps that its tokens take: they open and close
 -- elements (HTML Standard 13.2.4 and 13.2.6).
-use Rattle.std.specs.Prelude.{ℕ, zero, suc, ◌+◌, min, Bool, true, false, not, ◌&&◌, ◌==◌, nat_lt, nat_le, List, [], ◌∷◌, ◌++◌, length, reverse, if◌then◌else◌, Option, Some, None}
+use Rattle.std.specs.Prelude.{ℕ, zero, suc, ◌+◌, min, Bool, true, false, not, ◌&&◌, ◌||◌, ◌==◌, nat_lt, nat_le, List, [], ◌∷◌, ◌++◌, codes, drop, length, reverse, if◌then◌else◌, Option, Some, None}
 use Rattle.html_dom_tree.specs.Tree.{TextPair, Head, none}
 use Rattle.html_page_stack.specs.Copies.{copy_size, spare_at}
 use Rattle.html_page_stack.specs.Formats.{Format, Formats, after_current, before_closed, closed_entries, ends_closed, entered}
-use Rattle.html_page_stack.specs.OpenElements.{OpenElement, at, attr_count_at, with_attrs_at, is_of, is_at, in_scope, removed, uncovered, with_last_text, without_current}
+use Rattle.html_page_stack.specs.OpenElements.{OpenElement, at, attr_count_at, before_table, with_attrs_at, is_of, is_at, is_table_context, in_scope, removed, uncovered, with_last_text, with_text, without_current}
 use Rattle.html_page_names.specs.PageNames.{of}
 use Rattle.html_page_names.specs.declared.kind.Kind.TheVariants as kind
 use Rattle.html_page_stack.specs.declared.error.PageError.{PageError}
 use Rattle.html_page_stack.specs.declared.error.PageError.TheVariants as error
 use Rattle.html_page_stack.specs.declared.fault.PageRefusal.{PageRefusal}
 use Rattle.html_page_stack.specs.declared.fault.PageRefusal.TheVariants as refusal
-use Rattle.html_page_stack.specs.declared.modes.{Destination.{Destination}, Destination.TheVariants.{Parent, Replaced}, Scope.{Scope}}
-use Rattle.html_page_stack.specs.declared.modes.{Space.{Space}, TableRule.{TableRule}, Space.TheVariants.{Html}}
+use Rattle.html_page_stack.specs.declared.modes.{Destination.{Destination}, Destination.TheVariants.{Parent, Replaced, BeforeTable, ReplacedBeforeTable}, Scope.{Scope}}
+use Rattle.html_page_stack.specs.declared.modes.{FramesetRule.{FramesetRule}, Mode.{Mode}, Space.{Space}, TableRule.{TableRule}, Space.TheVariants.{Html}}
+use Rattle.html_page_stack.specs.declared.modes.FramesetRule.TheVariants as frameset
+use Rattle.html_page_stack.specs.declared.modes.Mode.TheVariants.{InTemplate}
 use Rattle.html_page_stack.specs.declared.modes.TableRule.TheVariants as rule
 
 -- the errors that the reader recovered from: their number (at most that of 32 bits), and the first
@@ -30,6 +32,8 @@ with_note e place notes = record {
 pub record Page : Type 0 where
   -- the text since the last child of the current node
   pub text : List ℕ
+  -- whether it is moved before the nearest table
+  pub moved : Bool
   -- the open elements, innermost first
   pub stack : List OpenElement
   -- the active formatting elements, the last first
@@ -38,7 +42,10 @@ pub record Page : Type 0 where
   pub copied : ℕ
   -- the span of the `form` that was begun last, unless its end tag ended it (13.2.4.4)
   pub form : Option ℕ
+  -- the modes of the open `template` elements, innermost first (13.2.4.1)
+  pub templates : List Mode
   pub tables : TableRule
+  pub framesets : FramesetRule
   -- the greatest depth of elements
   pub limit : ℕ
   -- the offset of the token in bytes
@@ -51,11 +58,14 @@ pub record Page : Type 0 where
 abbrev pub first_page : (limit : ℕ) → Page
 first_page limit = record {
   text = [];
+  moved = false;
   stack = [];
   formats = [];
   copied = 0;
   form = None;
+  templates = [];
   tables = rule.Unseen;
+  framesets = frameset.Ignored;
   limit = limit;
   start = 0;
   notes = record { count = 0; first = [] };
@@ -101,15 +111,25 @@ with_char c p = record p { text = p.text ++ c ∷ [] }
 abbrev pub with_chars : List ℕ → Page → Page
 with_chars cs p = record p { text = p.text ++ cs }
 
--- makes the text a child of the current node
+-- makes the text a child of the current node, or of the element around the nearest table
 abbrev pub settled : Page → Page
-settled p = record p { text = []; stack = with_last_text p.text p.stack }
+settled p = record p {
+  text = [];
+  moved = false;
+  stack = if p.moved then before_table (with_text p.text) p.stack
+      else with_last_text p.text p.stack;
+}
 
+-- whether a `template` is open
+abbrev pub has_template : Page → Bool
+has_template p = not (length p.templates == 0)
+
+-- opens an element; a form outside of templates is begun
 abbrev pub with_element : OpenElement → Page → Page
 with_element o p = record p {
   stack = o ∷ p.stack;
   formats = entered o (length p.stack) p.formats;
-  form = if is_of (of kind.Form) o then Some o.head.span else p.form;
+  form = if not (has_template p) && is_of (of kind.Form) o then Some o.head.span else p.form;
 }
 
 -- the head of an element that a tag makes; its span is the offset in bytes of the token that opens
@@ -131,6 +151,7 @@ made destination space name attrs start = record {
   space = space;
   destination = destination;
   children = none;
+  behind = none;
 }
 
 -- whether an element in the current node would be too deep
@@ -148,11 +169,25 @@ abbrev pub destination_of : (name : List ℕ) → Destination
 destination_of [] = Parent
 destination_of (c ∷ cs) = if c == 45 then Replaced else Parent
 
+-- the destination before the nearest table for one in the current node
+abbrev pub fostered : Destination → Destination
+fostered Replaced = ReplacedBeforeTable
+fostered d = BeforeTable
+
+-- the destination of what the rules of a body insert, where they would put it into the current node
+abbrev pub body_destination : Destination → List OpenElement → Destination
+body_destination d os = if at is_table_context os then fostered d else d
+
 abbrev pub opened_in : Space → (name : List ℕ) → List TextPair → Page → Page
-opened_in space name attrs p = opened_to (destination_of name) space name attrs p
+opened_in space name attrs p =
+    opened_to (body_destination (destination_of name) p.stack) space name attrs p
 
 abbrev pub opened : (name : List ℕ) → List TextPair → Page → Page
 opened = opened_in Html
+
+-- opens an element in the current node, also if that is a table
+abbrev pub opened_here : (name : List ℕ) → List TextPair → Page → Page
+opened_here name attrs p = opened_to (destination_of name) Html name attrs p
 
 -- the greatest number of attributes of an element
 abbrev pub most_attrs : ℕ
@@ -171,12 +206,16 @@ merged index test others p =
 abbrev pub form_after : (own : Bool) → List OpenElement → Option ℕ → Option ℕ
 form_after own os form = if is_at (of kind.Form) os && own then None else form
 
+-- the same in a page, where forms in templates do not count
+abbrev pub form_left : (own : Bool) → Page → Option ℕ
+form_left own p = if has_template p then p.form else form_after own p.stack p.form
+
 -- closes the current node, whose text is already a child of it, by its own end tag or another
 abbrev pub settled_closed : (own : Bool) → Page → Page
 settled_closed own p = record p {
   stack = uncovered (without_current p.stack);
   formats = after_current own p.stack p.formats;
-  form = form_after own p.stack p.form;
+  form = form_left own p;
 }
 
 abbrev pub closed : (own : Bool) → Page → Page
@@ -194,7 +233,8 @@ added_to destination space name attrs p = if is_full p then refused refusal.TooD
     else closed true (with_element (made destination space name attrs p.start) (settled p))
 
 abbrev pub added_in : Space → (name : List ℕ) → List TextPair → Page → Page
-added_in space name attrs p = added_to (destination_of name) space name attrs p
+added_in space name attrs p =
+    added_to (body_destination (destination_of name) p.stack) space name attrs p
 
 -- closes the current node while the condition holds, at most so many times
 abbrev pub closed_while : (goes_on : List OpenElement → Bool) → (at_most : ℕ) → Page → Page
@@ -217,6 +257,23 @@ implied_closed but p =
 abbrev pub no_name : List ℕ → Bool
 no_name name = false
 
+-- closes elements whose end tag is implied at the end of a `template` (13.2.6.3, generate all implied
+-- end tags thoroughly)
+abbrev pub thoroughly_closed : Page → Page
+thoroughly_closed p =
+    closed_while (is_at (λ n. of kind.Implied n || of kind.TablePart n)) (length p.stack) p
+
+-- closes the innermost `template` with everything in it
+abbrev pub template_closed : Page → Page
+template_closed p = let q = closed_to (of kind.Template) p in
+    record q { templates = drop 1 q.templates }
+
+-- opens a `template`, unless it is too deep; a `frameset` can no longer take the place of the body
+abbrev pub template_opened : Destination → List TextPair → Page → Page
+template_opened destination attrs p = let q = opened_to destination Html (codes "template") attrs p in
+    if is_full p then q
+    else record q { templates = InTemplate ∷ q.templates; framesets = frameset.Ignored }
+
 -- closes the nearest element of HTML whose name passes `test`; records an error unless the current
 -- node is the named one
 abbrev pub closed_named : (named test : List ℕ → Bool) → Page → Page
@@ -235,7 +292,7 @@ closed_in scope named test but p = if in_scope scope test p.stack then closed_ov
 -- opens an element for an entry, which stands on the list for it then
 abbrev pub reopened : Format → Page → Page
 reopened f p = record p {
-  stack = made Parent Html f.name f.attrs f.span ∷ p.stack;
+  stack = made (body_destination Parent p.stack) Html f.name f.attrs f.span ∷ p.stack;
   formats = Some (record f { index = length p.stack }) ∷ p.formats;
   copied = p.copied + copy_size f;
 }

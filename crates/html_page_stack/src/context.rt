@@ -1,5 +1,6 @@
 //! Facts about an open element that save a walk over those around it.
 
+use crate::milestone::Milestone;
 use crate::modes::Mode;
 
 /// Facts about an open element and those around it.
@@ -9,6 +10,8 @@ pub(crate) struct Context {
     pub(crate) mode: Option<Mode>,
     /// Whether a `p` is in button scope.
     pub(crate) has_paragraph: bool,
+    /// What it knows of those around it, if it is a milestone.
+    pub(crate) milestone: Option<Milestone>,
 }
 
 impl Context {
@@ -16,5 +19,6 @@ impl Context {
     pub(crate) const OUTSIDE: Context = Context {
         mode: None,
         has_paragraph: false,
+        milestone: None,
     };
 }

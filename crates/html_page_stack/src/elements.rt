@@ -3,7 +3,7 @@
 ghost use Rattle.std.specs.Prelude.{◌≡◌, OnOk, map};
 ghost use Rattle.html_dom_tree.specs.Views.{attrs_view};
 ghost use Rattle.html_page_names.specs.PageNames.{of};
-ghost use Rattle.html_page_stack.specs.{Adoption.{furthest_block, index_outwards, shown_count}, Contexts.{known_part, own_mode, root_mode}, Formats.{is_open}, OpenElements.{at, attr_count_at, html_mode, named_mode, reaches, with_attrs_at}};
+ghost use Rattle.html_page_stack.specs.{Adoption.{furthest_block, index_outwards, shown_count}, Contexts.{AreKnown, known_part, own_mode, root_mode}, Formats.{is_open}, OpenElements.{at, attr_count_at, html_mode, named_mode, reaches, with_attrs_at}};
 ghost use Rattle.html_page_stack.specs.PageViews.{bound_test, element_of, format_of, goal_test, list_of};
 
 use crate::element::PageElement;
@@ -16,6 +16,7 @@ use std::alloc::{AllocError, Global};
 
 /// Returns whether a search from the last element on reaches the goal before the bound.
 pub(crate) fn reaches(elements: &[PageElement], goal: Goal<'_>, bound: Bound) -> bool
+    requires { AreKnown elements.now }
     ensures { result ≡ reaches (goal_test goal.entry) (bound_test bound) (list_of elements.now) }
 {
     let mut outer = elements;
@@ -25,6 +26,11 @@ pub(crate) fn reaches(elements: &[PageElement], goal: Goal<'_>, bound: Bound) ->
         }
         if bound.is(element) {
             return false;
+        }
+        if let Some(milestone) = element.context.milestone
+            && let Some(reached) = milestone.reaches(goal, bound)
+        {
+            return reached;
         }
         outer = rest;
     }
@@ -165,6 +171,10 @@ fn named_mode(element: &PageElement, outer: &[PageElement]) -> Option<Mode>
         Some(Mode::InText)
     } else if element.has_kind(Kind::Noscript) && at(outer, Goal::Of(Target::Kind(Kind::Head))) {
         Some(Mode::InHeadNoscript)
+    } else if element.has_kind(Kind::Template) {
+        Some(Mode::InTemplate)
+    } else if element.has_kind(Kind::Frameset) {
+        Some(Mode::InFrameset)
     } else {
         None
     }

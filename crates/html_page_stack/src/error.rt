@@ -91,6 +91,12 @@ pub enum PageError {
     /// A `</br>`, which is read as `<br>`.
     #[error("an end tag of br")]
     EndTagBr,
+    /// A `frameset` takes the place of the body, with everything in it.
+    #[error("a frameset in place of a body")]
+    BodyReplaced,
+    /// A text that can't stand there.
+    #[error("a text that is ignored")]
+    IgnoredText,
     /// A start tag whose element can't stand there.
     #[error("a start tag that is ignored")]
     IgnoredStartTag,
@@ -118,6 +124,10 @@ pub enum PageError {
     /// A `noscript` in the head is closed before content that can't stand in it.
     #[error("a noscript of the head that ends early")]
     UnexpectedInNoscript,
+    /// A text or a tag stands in a table, outside its cells and captions: what it makes is moved
+    /// before the table (foster parenting).
+    #[error("a text or a tag that is moved out of a table")]
+    FosterParenting,
     /// A `form` or a hidden `input` stands in a table, outside its cells, and stays there.
     #[error("a form or a hidden input in a table")]
     UnexpectedInTable,

@@ -5,8 +5,7 @@ ghost use Rattle.html_page_stack.specs.PageRefusals.{refusal_number};
 
 use thiserror::Error;
 
-/// Content for which a page is refused: in a browser, nodes would be moved out of a table, or a limit
-/// is reached.
+/// Content for which a page is refused: more of it than a limit allows.
 #[derive(Clone, Copy, Debug, PartialEq, Eq, Error)]
 pub enum PageRefusal {
     /// An element would be deeper than the limit.
@@ -16,12 +15,6 @@ pub enum PageRefusal {
     /// are more.
     #[error("an element has too many attributes")]
     TooManyAttributes,
-    /// A text or an element would be moved out of a table.
-    #[error("a text or an element would be moved out of a table")]
-    FosterParenting,
-    /// An element that the reader does not support: `frameset`, `plaintext`, `template`.
-    #[error("a frameset, plaintext or template")]
-    UnreadElement,
     /// A token went from one insertion mode to another more often than in any known page.
     #[error("a token finds no place")]
     Unsettled,
@@ -40,8 +33,6 @@ impl PageRefusal {
         match self {
             PageRefusal::TooDeep => 8,
             PageRefusal::TooManyAttributes => 28,
-            PageRefusal::FosterParenting => 32,
-            PageRefusal::UnreadElement => 35,
             PageRefusal::Unsettled => 39,
             PageRefusal::TooManyCopies => 40,
         }

@@ -355,6 +355,7 @@ impl Formats {
     }
 
     /// Returns whether the last entry is no marker, and its element is closed.
+    #[inline(always)]
     pub fn ends_closed(&self, stack: &Stack) -> bool
         ensures { result ≡ formats.ends_closed (stack_of stack.now) (formats_of self.now) }
     {

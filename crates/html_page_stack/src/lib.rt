@@ -3,12 +3,14 @@
 #![tactic(auto)]
 
 mod adoption;
+mod before_table;
 mod context;
 mod element;
 mod elements;
 mod error;
 mod fault;
 mod formats;
+mod milestone;
 mod modes;
 mod moving;
 mod notes;
@@ -21,7 +23,7 @@ pub use element::PageElement;
 pub use error::PageError;
 pub use fault::PageRefusal;
 pub use formats::{Entry, Format, Formats};
-pub use modes::{Destination, Mode, Scope, Space, TableRule};
+pub use modes::{Destination, FramesetRule, Mode, Scope, Space, TableRule};
 pub use notes::Notes;
 pub use page::Page;
 pub use search::{Bound, Goal, Target, While};

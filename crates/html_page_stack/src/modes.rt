@@ -19,6 +19,11 @@ pub enum Destination {
     Head,
     /// Nowhere: its children stand in its place.
     Replaced,
+    /// In the element around the nearest table, before that table (HTML Standard 13.2.6.1, foster
+    /// parenting).
+    BeforeTable,
+    /// Nowhere: its children stand before the nearest table.
+    ReplacedBeforeTable,
 }
 
 /// The bounds of the elements that an end tag may close (HTML Standard 13.2.4.2).
@@ -46,6 +51,10 @@ pub enum Mode {
     InSection,
     InRow,
     InCell,
+    /// That of the innermost open `template`.
+    InTemplate,
+    InFrameset,
+    AfterFrameset,
 }
 
 /// What a table does to an open `p`, which depends on the document type.
@@ -55,4 +64,17 @@ pub enum TableRule {
     Unseen,
     ClosesP,
     KeepsP,
+}
+
+/// What a `frameset` does, which depends on the body (HTML Standard 13.2.6.4.7, frameset-ok flag).
+#[derive(Clone, Copy, Debug, PartialEq, Eq)]
+pub enum FramesetRule {
+    /// It is ignored in the body.
+    Ignored,
+    /// It takes the place of the body, which no tag began and in which nothing is shown yet.
+    ReplacesBody,
+    /// One has ended.
+    Behind,
+    /// One has ended, and `html` behind it.
+    BehindHtml,
 }

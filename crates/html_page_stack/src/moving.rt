@@ -2,6 +2,7 @@
 
 ghost use Rattle.std.specs.Prelude.{◌≡◌, ◌∷◌, ◌++◌, IfOk, OnOk, drop, map, take};
 ghost use Rattle.html_page_stack.specs.Adoption as adoptions;
+ghost use Rattle.html_page_stack.specs.OpenElements.{closed_times};
 ghost use Rattle.html_page_stack.specs.PageViews.{element_of, format_of, stack_of};
 
 use crate::element::PageElement;
@@ -50,8 +51,8 @@ impl Stack {
 
     /// Completes the current node, so many times.
     #[tactic(auto, using(crate::proofs::Adopting::times_once, crate::proofs::Adopting::times_done))]
-    fn close_times(&mut self, times: usize) -> Result<(), AllocError>
-        ensures { OnOk result (stack_of self.new ≡ adoptions.closed_times times (stack_of self.old)) }
+    pub(crate) fn close_times(&mut self, times: usize) -> Result<(), AllocError>
+        ensures { OnOk result (stack_of self.new ≡ closed_times times (stack_of self.old)) }
     {
         for count in 0..times {
             self.close_current()?;
@@ -65,7 +66,7 @@ impl Stack {
             ≡ adoptions.all_made (map format_of kept.now) (stack_of self.old)) }
     {
         for format in kept {
-            self.push(format.element(alloc)?)?;
+            self.insert(format.element(alloc)?)?;
         }
         Ok(())
     }
@@ -81,13 +82,13 @@ impl Stack {
     ) -> Result<(), AllocError>
         ensures { OnOk result (stack_of self.new ≡ (let o = element_of block in
             adoptions.made_for (format_of format.now) o.children ∷ adoptions.emptied o
-            ∷ adoptions.all_made (map format_of kept.now) (stack_of self.old))) }
+            (adoptions.all_made (map format_of kept.now) (stack_of self.old)))) }
     {
         let mut block = block;
         let mut inner = format.element(alloc)?;
         inner.take_children(alloc, &mut block);
         self.open_all(alloc, kept)?;
-        self.push(block)?;
+        self.insert(block)?;
         self.push(inner)
     }
 

@@ -1,26 +1,28 @@
 //! A page that is being read, and the steps that its tokens take.
 
-ghost use Rattle.std.specs.Prelude.{◌≡◌, ◌+◌, ◌^◌, ◌<◌, OnOk, chars, length, map, nat_lt, reverse};
-ghost use Rattle.html_dom_tree.specs.Views.{attrs_view};
+ghost use Rattle.std.specs.Prelude.{◌≡◌, ◌+◌, ◌^◌, ◌<◌, ◌==◌, [], OnOk, chars, drop, false, length, map, nat_lt, not, reverse};
+ghost use Rattle.html_dom_tree.specs.Views.{attrs_view, text_view};
 ghost use Rattle.html_page_names.specs.{Kinds.{IsKindsOf}, PageNames.{of}};
 ghost use Rattle.html_page_names.specs.declared.kind.Kind.TheVariants as kind;
 ghost use Rattle.html_page_stack.specs.Adoption.{adopted_from, adoption, entries_after, stack_after};
-ghost use Rattle.html_page_stack.specs.{Copies.{copy_size, spare_at}, Endings.{Finishes}, Formats.{after_current}, OpenElements.{in_scope}};
+ghost use Rattle.html_page_stack.specs.{Copies.{copy_size, spare_at}, Endings.{Finishes}, Formats.{after_current}, OpenElements.{in_scope, root_alone}};
 ghost use Rattle.html_page_stack.specs.PageViews.{element_of, format_of, goal_test, page_of, target_test, while_test};
 ghost use Rattle.html_page_stack.specs.Pages as pages;
 ghost use Rattle.html_page_stack.specs.Pages.{most_attrs};
 
 use crate::adoption::Adoption;
+use crate::before_table::Moved;
 use crate::element::PageElement;
 use crate::error::PageError;
 use crate::fault::PageRefusal;
 use crate::formats::{Entry, Format, Formats, copies_size};
-use crate::modes::{Destination, Scope, Space, TableRule};
+use crate::modes::{Destination, FramesetRule, Mode, Scope, Space, TableRule};
 use crate::notes::Notes;
 use crate::search::{Bound, Goal, Target, While};
 use crate::stack::Stack;
+use crate::token::TagName;
 use html_dom_tree::{HtmlAttrs, HtmlElement, Span, text};
-use html_names_core::HtmlTag;
+use html_names_core::{HtmlTag, tag};
 use html_page_names::{Kind, Kinds};
 use std::alloc::{AllocError, Global};
 
@@ -57,6 +59,8 @@ pub struct Page {
     pub alloc: Global,
     /// The text since the last child of the current node.
     pub text: String,
+    /// Whether it is moved before the nearest table.
+    pub moved: bool,
     /// The open elements.
     pub stack: Stack,
     /// The active formatting elements.
@@ -66,8 +70,12 @@ pub struct Page {
     /// The span of the `form` that was begun last, unless its end tag ended it (HTML Standard
     /// 13.2.4.4).
     pub form: Option<Span>,
+    /// The modes of the open `template` elements, outermost first (HTML Standard 13.2.4.1).
+    pub templates: Vec<Mode>,
     /// What a table does to an open `p`.
     pub tables: TableRule,
+    /// What a `frameset` does.
+    pub framesets: FramesetRule,
     pub(crate) limit: usize,
     /// The offset of the token in the text, in bytes.
     pub start: usize,
@@ -86,11 +94,14 @@ impl Page {
         Page {
             alloc,
             text: String::new(alloc),
+            moved: false,
             stack: Stack::new(alloc),
             formats: Formats::new(alloc),
             copied: 0,
             form: None,
+            templates: Vec::new(alloc),
             tables: TableRule::Unseen,
+            framesets: FramesetRule::Ignored,
             limit,
             start: 0,
             notes: Notes::new(alloc),
@@ -148,23 +159,50 @@ impl Page {
         Ok(())
     }
 
-    /// Makes the text a child of the current node.
-    pub(crate) fn settle(&mut self) -> Result<(), AllocError>
+    /// Returns whether there is a text that is no child yet.
+    pub fn has_text(&self) -> bool
+        ensures { result ≡ not (length (page_of self.now).text == 0) }
+    {
+        !self.text.as_str().is_empty()
+    }
+
+    /// Takes the text that is no child yet.
+    pub fn take_text(&mut self) -> String
+        ensures taken { text_view result ≡ (page_of self.old).text }
+        ensures left { page_of self.new ≡ record (page_of self.old) { text = [] } }
+    {
+        text::take(self.alloc, &mut self.text)
+    }
+
+    /// Makes the text a child of the current node, or of the element around the nearest table.
+    pub fn settle(&mut self) -> Result<(), AllocError>
         ensures { OnOk result (page_of self.new ≡ pages.settled (page_of self.old)) }
     {
+        let is_moved = self.moved;
+        self.moved = false;
         if self.text.as_str().is_empty() {
             return Ok(());
         }
         let text = text::take(self.alloc, &mut self.text);
-        self.stack.add_text(text)?;
-        Ok(())
+        if is_moved {
+            self.stack.add_before_table(Moved::Text(text))
+        } else {
+            self.stack.add_text(text)
+        }
+    }
+
+    /// Returns whether a `template` is open.
+    pub fn has_template(&self) -> bool
+        ensures { result ≡ pages.has_template (page_of self.now) }
+    {
+        !self.templates.is_empty()
     }
 
     fn push(&mut self, element: PageElement) -> Result<(), AllocError>
         ensures { OnOk result (page_of self.new ≡ pages.with_element (element_of element) (page_of self.old)) }
     {
         self.formats.enter(&element, self.stack.len())?;
-        if element.is(Kind::Form) {
+        if !self.has_template() && element.is(Kind::Form) {
             self.form = Some(element.element.span);
         }
         self.stack.push(element)?;
@@ -172,7 +210,7 @@ impl Page {
     }
 
     /// Opens an element that is not too deep.
-    fn open_here(
+    fn open_new(
         &mut self,
         destination: Destination,
         space: Space,
@@ -214,7 +252,7 @@ impl Page {
             self.refuse(PageRefusal::TooDeep);
             return Ok(());
         }
-        self.open_here(destination, space, tag, kinds, attrs)
+        self.open_new(destination, space, tag, kinds, attrs)
     }
 
     /// Appends an element without children, unless it would be too deep: then the page is refused.
@@ -234,11 +272,11 @@ impl Page {
             self.refuse(PageRefusal::TooDeep);
             return Ok(());
         }
-        self.open_here(destination, space, tag, kinds, attrs)?;
+        self.open_new(destination, space, tag, kinds, attrs)?;
         self.close(true)
     }
 
-    /// Opens an element where its name says, unless it would be too deep: then the page is refused.
+    /// Opens an element where its name and the rules of a body say, unless it would be too deep: then the page is refused.
     pub fn open_in(
         &mut self,
         space: Space,
@@ -250,11 +288,27 @@ impl Page {
         ensures { OnOk result (page_of self.new
             ≡ pages.opened_in space tag (attrs_view attrs) (page_of self.old)) }
     {
-        self.open_to(destination_of(&tag), space, tag, kinds, attrs)
+        let destination = self.stack.body_destination(destination_of(&tag));
+        self.open_to(destination, space, tag, kinds, attrs)
     }
 
-    /// Appends an element without children where its name says, unless it would be too deep: then
-    /// the page is refused.
+    /// Opens an element of HTML where its name says in the current node, also if that is a table,
+    /// unless it would be too deep: then the page is refused.
+    pub fn open_here(
+        &mut self,
+        tag: HtmlTag,
+        kinds: Kinds,
+        attrs: HtmlAttrs,
+    ) -> Result<(), AllocError>
+        requires { IsKindsOf tag kinds }
+        ensures { OnOk result (page_of self.new
+            ≡ pages.opened_here tag (attrs_view attrs) (page_of self.old)) }
+    {
+        self.open_to(destination_of(&tag), Space::Html, tag, kinds, attrs)
+    }
+
+    /// Appends an element without children where its name and the rules of a body say, unless it would
+    /// be too deep: then the page is refused.
     pub fn add_in(
         &mut self,
         space: Space,
@@ -266,7 +320,8 @@ impl Page {
         ensures { OnOk result (page_of self.new
             ≡ pages.added_in space tag (attrs_view attrs) (page_of self.old)) }
     {
-        self.add_to(destination_of(&tag), space, tag, kinds, attrs)
+        let destination = self.stack.body_destination(destination_of(&tag));
+        self.add_to(destination, space, tag, kinds, attrs)
     }
 
     /// Gives the attributes of another tag to the element of HTML at that index, outermost first, if
@@ -291,26 +346,34 @@ impl Page {
 
     /// Removes what the list of active formatting elements loses when the current node is closed, by
     /// its own end tag or another.
+    #[tactic(auto, using(crate::proofs::OpenFormats::left_by_others))]
     fn leave_formats(&mut self, own: bool)
         ensures { page_of self.new ≡ (let p = page_of self.old in
             record p { formats = after_current own p.stack p.formats }) }
     {
+        if !own {
+            return;
+        }
         let stack = &self.stack;
         let Some((element, outer)) = stack.items.split_last() else {
             return;
         };
-        if element.is(Kind::Marker) && own {
+        if element.is(Kind::Marker) {
             self.formats.remove_marker();
-        } else if element.is(Kind::Formatting) && own {
+        } else if element.is(Kind::Formatting) {
             self.formats.remove(Entry::Of(element, outer.len()), 0);
         }
     }
 
-    /// Forgets the form if the current node is one, and is closed by its own end tag.
+    /// Forgets the form if the current node is one, and is closed by its own end tag, outside of
+    /// templates.
     fn leave_form(&mut self, own: bool)
         ensures { page_of self.new ≡ (let p = page_of self.old in
-            record p { form = pages.form_after own p.stack p.form }) }
+            record p { form = pages.form_left own p }) }
     {
+        if self.has_template() {
+            return;
+        }
         match self.stack.items.last() {
             Some(element) if own && element.is(Kind::Form) => self.form = None,
             _ => {}
@@ -377,6 +440,63 @@ impl Page {
         ensures { OnOk result (page_of self.new ≡ pages.implied_closed (target_test but.entry) (page_of self.old)) }
     {
         self.close_while(While::Implied(but))
+    }
+
+    /// Closes elements whose end tag is implied at the end of a `template` (HTML Standard 13.2.6.3).
+    pub fn close_thoroughly(&mut self) -> Result<(), AllocError>
+        ensures { OnOk result (page_of self.new ≡ pages.thoroughly_closed (page_of self.old)) }
+    {
+        self.close_while(While::ImpliedThoroughly)
+    }
+
+    /// Opens a `template`, unless it would be too deep: then the page is refused.
+    #[tactic(auto, unfolding(html_names_core::specs::Tables::known_tags))]
+    pub fn open_template(
+        &mut self,
+        destination: Destination,
+        attrs: HtmlAttrs,
+    ) -> Result<(), AllocError>
+        ensures { OnOk result (page_of self.new
+            ≡ pages.template_opened destination (attrs_view attrs) (page_of self.old)) }
+    {
+        let is_full = self.is_full();
+        let name = TagName::new(tag::template);
+        self.open_to(destination, Space::Html, name.tag, name.kinds, attrs)?;
+        if is_full {
+            return Ok(());
+        }
+        self.templates.push(Mode::InTemplate)?;
+        self.framesets = FramesetRule::Ignored;
+        Ok(())
+    }
+
+    /// Forgets the mode of the innermost `template`.
+    #[tactic(auto, using(crate::proofs::Templates::outer_modes))]
+    pub fn leave_template(&mut self)
+        ensures { page_of self.new ≡ (let p = page_of self.old in
+            record p { templates = drop 1 p.templates }) }
+    {
+        let _ = self.templates.pop();
+    }
+
+    /// Closes the innermost `template` with everything in it.
+    pub fn close_template(&mut self) -> Result<(), AllocError>
+        ensures { OnOk result (page_of self.new
+            ≡ pages.template_closed (page_of self.old)) }
+    {
+        self.close_to(Target::Kind(Kind::Template))?;
+        self.leave_template();
+        Ok(())
+    }
+
+    /// Drops the text that is no child yet, and all open elements but the root.
+    pub fn keep_root(&mut self)
+        ensures { page_of self.new ≡ (let p = page_of self.old in
+            record p { text = []; moved = false; stack = root_alone p.stack }) }
+    {
+        let _ = self.take_text();
+        self.moved = false;
+        self.stack.keep_root();
     }
 
     /// Closes such an element, and records an error unless the current node is the named one.
@@ -446,7 +566,7 @@ impl Page {
         self.copied += size;
         let element = format.element(self.alloc)?;
         let index = self.stack.len();
-        self.stack.push(element)?;
+        self.stack.insert(element)?;
         self.formats.push(Format { index, ..format })
     }
 

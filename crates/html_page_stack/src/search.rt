@@ -1,7 +1,7 @@
 //! The goals and bounds of a search among the open elements.
 
 ghost use Rattle.std.specs.Prelude.{◌≡◌};
-ghost use Rattle.html_page_stack.specs.OpenElements.{bounds, bounds_general, is_foreign_bound, is_special};
+ghost use Rattle.html_page_stack.specs.OpenElements.{bounds, bounds_general, bounds_item, is_foreign_bound, is_special};
 ghost use Rattle.html_page_stack.specs.PageViews.{bound_test, element_of, goal_test};
 
 use crate::element::PageElement;
@@ -41,6 +41,10 @@ pub enum While<'a> {
     Above(Goal<'a>),
     /// While its end tag is implied, unless it is one of these.
     Implied(Target<'a>),
+    /// While its end tag is implied at the end of a `template`.
+    ImpliedThoroughly,
+    /// While the current node is in such a part of a table, and no `template` nor `html`.
+    InPart(Kind),
 }
 
 /// The bound at which a search ends.
@@ -104,7 +108,15 @@ pub(crate) fn is_special(element: &PageElement) -> bool
     element.is(Kind::Special) || is_foreign_bound(element)
 }
 
+/// Returns whether the element ends the search for an item.
+pub(crate) fn bounds_item(element: &PageElement) -> bool
+    ensures { result ≡ bounds_item (element_of element.now) }
+{
+    is_special(element) && !element.is(Kind::PassedByItems)
+}
+
 impl Goal<'_> {
+    #[inline(always)]
     pub(crate) fn is(self, element: &PageElement) -> bool
         ensures { result ≡ goal_test self.entry (element_of element.now) }
     {
@@ -124,7 +136,7 @@ impl Bound {
         match self {
             Bound::Scope(scope) => bounds(scope, element),
             Bound::Special => is_special(element),
-            Bound::Item => is_special(element) && !element.is(Kind::PassedByItems),
+            Bound::Item => bounds_item(element),
             Bound::Html => element.is_html(),
             Bound::Nothing => false,
         }

@@ -2,25 +2,21 @@
 use Rattle.std.proofs.Common.{◌≡◌, arith, ℕ, Bool, true, false, not, ◌&&◌, ◌||◌, ◌==◌, List, [], ◌∷◌, length, inl, inr, refl, sym, ap, subst, ◌∙◌}
 use Rattle.std.proofs.lemmas.Bool.{and_from, and_parts, and_right, cases_Bool, eqb-true, false≢true, le-leb, not-true, or_left, or_parts}
 use Rattle.std.proofs.lemmas.{Option.{none-some, same_Some}, Slice.Eq.{bytes_eq-Decides}}
-use Rattle.std.specs.{Option.{option_or}, Prelude.{Option, Some, None, codes, if◌then◌else◌}}
+use Rattle.std.specs.{Option.{option_or}, Prelude.{Some, None, codes, if◌then◌else◌}}
 use Rattle.html_page_names.specs.PageNames.{is, of}
 use Rattle.html_page_names.specs.declared.kind.Kind.TheVariants as kind
 use Rattle.html_page_stack.specs.Adoption.{furthest_block}
 use Rattle.html_page_stack.specs.Formats.{Format, Formats, ends_with, is_entry_of, is_last, is_listed, is_named, is_open, last_entry}
-use Rattle.html_page_stack.specs.OpenElements.{OpenElement, at, bounds, current_name, in_scope, is_at, is_html, is_near, is_of, is_opened, is_special, mode, reaches}
-use Rattle.html_page_stack.specs.Pages.{Page, Token, End, Taken, added_to, closed, closed_in, closed_named, closed_over, closed_to, closed_to_goal, closed_while, implied_closed, no_name, noted, noted_if, taken_with}
+use Rattle.html_page_stack.specs.OpenElements.{OpenElement, at, bounds, current_name, in_scope, is_at, is_html, is_of, is_opened, is_special, mode, reaches}
+use Rattle.html_page_stack.specs.Pages.{Page, End, Taken, added_in, closed, closed_in, closed_named, closed_over, closed_to, closed_to_goal, closed_while, implied_closed, no_name, noted, noted_if, taken_with}
 use Rattle.html_page_stack.specs.declared.error.PageError.TheVariants as error
-use Rattle.html_page_stack.specs.declared.modes.{Destination.TheVariants.{Parent}, Space.TheVariants.{Html}}
+use Rattle.html_page_stack.specs.declared.modes.Space.TheVariants.{Html}
 use Rattle.html_page_stack.specs.declared.modes.{Mode.{Mode}, Scope.{Scope}, Mode.TheVariants.{InBody, InTable, InSection, InRow, InCell}}
 use Rattle.html_page_stack.specs.declared.modes.Scope.TheVariants as scope
+use Rattle.html_page_tree.proofs.Branches.{either, pick, skip}
 use Rattle.html_page_tree.specs.OwnEnds.{closes_in, closes_in_body, closes_in_cell, is_of_table, takes_own_end}
 use Rattle.html_page_tree.specs.PageBodies.{Agency, Settled, adopted, agency, agency_run, behind_agency, element_ended, format_closed, format_ended, format_removed, format_taken, in_body_end, other_closed, p_closed, p_ended}
-use Rattle.html_page_tree.specs.PageTrees.{by_mode, in_cell, current_part_closed, in_foreign, is_unseen, part_closed, processed, token_read, turn}
-
--- both branches are the same
-pub either : {A : Type 0} (b : Bool) (x y r : A) → (b ≡ true → x ≡ r) → (b ≡ false → y ≡ r) →
-    (if b then x else y) ≡ r
-either b x y r h k = grind arith
+use Rattle.html_page_tree.specs.PageTrees.{by_mode, cleared_to, in_cell, current_part_closed, in_foreign, is_unseen, mode_within, page_mode, part_closed, processed, token_read, turn}
 
 -- the last entry is one that passes the test
 record EndsWith (test : Format → Bool) (fs : Formats) : Type 0 where
@@ -55,6 +51,9 @@ module _ (p : Page) (o : OpenElement) (os : List OpenElement) (html : is_html o.
   pub closes : (test : List ℕ → Bool) → test n ≡ true → closed_to test q ≡ closed true q
   closes test h = rw (html, h) refl
 
+  pub cleared : (test : List ℕ → Bool) → test n ≡ true → cleared_to test q ≡ q
+  cleared test h = rw (html, h) refl
+
   pub at_name : (test : List ℕ → Bool) → test n ≡ true → is_at test q.stack ≡ true
   at_name test h = and_from (is_html o.space) (test n) html h
 
@@ -85,7 +84,7 @@ module _ (p : Page) (o : OpenElement) (os : List OpenElement) (html : is_html o.
   end_p h =
       let scoped = reached (of kind.P) (bounds scope.Button) h in
       ap (λ b. if b then p_closed q
-      else added_to Parent Html (codes "p") [] (noted error.EndTagWithoutStart q)) scoped
+      else added_in Html (codes "p") [] (noted error.EndTagWithoutStart q)) scoped
       ∙ (ap (λ b. if b then closed_over (of kind.P) (of kind.P) (of kind.P) q else q) scoped
       ∙ over (of kind.P) (of kind.P) (of kind.P) h h (but_named (of kind.P) h))
 
@@ -171,6 +170,7 @@ module _ (p : Page) (o : OpenElement) (os : List OpenElement) (html : is_html o.
       element_ended n q ≡ closed true q
   end_element h l =
       let form : of kind.Form n ≡ false = grind arith in
+      let template : of kind.Template n ≡ false = grind arith in
       let implied : (of kind.Implied n && (of kind.Heading n || of kind.ClosesInScope n)) ≡ false =
       grind arith in
       rw form (either (of kind.P n) _ _ (closed true q) end_p (λ p.
@@ -183,14 +183,14 @@ module _ (p : Page) (o : OpenElement) (os : List OpenElement) (html : is_html o.
       either (of kind.ClosesInScope n) _ _ (closed true q)
       (λ h. within scope.General (is n) no_name named (grind arith)) (λ c.
       either (of kind.Formatting n) _ _ (closed true q)
-      (λ h. end_formatting h l) (λ f. end_other)))))))
+      (λ h. end_formatting h l) (λ f. skip _ template end_other)))))))
 
   end_in_body : closes_in_body n ≡ true → IsFree →
       in_body_end n q ≡ Taken (closed true q)
   end_in_body h l =
       let root : of kind.Root n ≡ false = grind arith in
       let br : of kind.Br n ≡ false = grind arith in
-      rw (root, br) (ap Taken (end_element h l))
+      skip (Taken q) root (skip _ br (ap Taken (end_element h l)))
 
   pub none_implied_at_all : of kind.Implied n ≡ false → implied_closed no_name q ≡ q
   none_implied_at_all h = none_implied no_name (ap (λ b. b && true) h)
@@ -215,21 +215,30 @@ module _ (p : Page) (o : OpenElement) (os : List OpenElement) (html : is_html o.
         let parts = or_parts (of kind.Section n) _ (not-true _ both.0) in
         let row = or_parts (of kind.Tr n) _ parts.1 in
         let table = or_parts (of kind.Table n) (of kind.TablePart n) row.1 in
-        let body = and_parts (not (of kind.Root n || (of kind.Br n || of kind.Form n))) _ both.1 in
+        let body = and_parts (not (of kind.Root n
+        || (of kind.Br n || (of kind.Form n || of kind.Template n)))) _ both.1 in
         let root = (or_parts (of kind.Root n) _ (not-true _ body.0)).0 in
-        rw (other, parts.0, row.0, table.0, table.1)
-        (ap (λ b. if b then taken_with error.EndTagWithoutStart q else in_body_end n q) root
-        ∙ end_in_body both.1 l)
+        let closes : (of kind.Cell n || of kind.Section n || of kind.Tr n || of kind.Table n) ≡ false =
+        rw (other, parts.0, row.0, table.0) refl in
+        let part : (of kind.TablePart n || of kind.Table n || of kind.Root n) ≡ false =
+        rw (table.1, table.0, root) refl in
+        skip _ (ap (λ b. b && in_scope scope.Table (is n) q.stack) closes)
+        (skip (taken_with error.EndTagWithoutStart q) part (end_in_body both.1 l))
   ]
 
   end_in_mode : (m : Mode) → closes_in m n ≡ true → IsFree →
-      by_mode m (End n) q ≡ Taken (closed true q)
+      by_mode (mode_within m p.templates p.framesets) (End n) q ≡ Taken (closed true q)
   end_in_mode InBody h l = end_in_body h l
   end_in_mode InCell h l = end_in_cell h l
-  end_in_mode InRow h l = rw h refl
-  end_in_mode InSection h l = rw (h, html, named) refl
-  end_in_mode InTable h l = either (of kind.Table n) _ _ (Taken (closed true q))
-      (λ k. ap Taken (closes (of kind.Table) k)) (λ k. absurd (false≢true (sym k ∙ h)))
+  end_in_mode InRow h l = pick _
+      (and_from (of kind.Tr n) _ h (reached (of kind.Tr) (bounds scope.Table) h))
+      (ap (λ s. Taken (closed true s)) (cleared (of kind.Tr) h))
+  end_in_mode InSection h l = pick _
+      (and_from (of kind.Section n) _ h (reached (is n) (bounds scope.Table) named))
+      (ap (λ s. Taken (closed true s)) (cleared (of kind.Section) h))
+  end_in_mode InTable h l = pick _
+      (and_from (of kind.Table n) _ h (reached (of kind.Table) (bounds scope.Table) h))
+      (ap Taken (closes (of kind.Table) h))
   end_in_mode _ h l = absurd (false≢true h)
 
   end_taken : takes_own_end q ≡ true → token_read (End n) q ≡ closed true q
@@ -239,7 +248,7 @@ module _ (p : Page) (o : OpenElement) (os : List OpenElement) (html : is_html o.
       let kept = and_parts (is_at (closes_in (mode q.stack)) q.stack) _ seen.1 in
       let closes_itself = (and_parts (is_html o.space) _ kept.0).1 in
       let turned : turn (End n) q ≡ Taken (closed true q) =
-      ap (λ b. if not b then in_foreign (End n) q else by_mode (mode q.stack) (End n) q) html
+      ap (λ b. if not b then in_foreign (End n) q else by_mode (page_mode q) (End n) q) html
       ∙ end_in_mode (mode q.stack) closes_itself kept.1 in
       rw (seen.0, turned) refl
 

@@ -1,8 +1,9 @@
 -- Processing a token again, and moving another block, once more and no more.
-use Rattle.std.proofs.Common.{◌≡◌, ℕ, zero, suc, ◌+◌, ◌-◌, ◌<◌, ◌≤◌, List, ap, arith}
+use Rattle.std.proofs.Common.{◌≡◌, ℕ, zero, suc, ◌+◌, ◌-◌, ◌<◌, ◌≤◌, List, ap, arith, false, refl, sym, true}
+use Rattle.std.proofs.lemmas.Bool.{false≢true}
 use Rattle.html_page_tree.specs.PageBodies.{agency, agency_run, behind_agency}
-use Rattle.html_page_tree.specs.PageTrees.{behind_turn, processed, turn}
-use Rattle.html_page_stack.specs.{Pages.{Page, Token, refused}, declared.fault.PageRefusal.TheVariants.{Unsettled}}
+use Rattle.html_page_tree.specs.PageTrees.{behind_token, behind_turn, is_char, processed, text_ended, turn}
+use Rattle.html_page_stack.specs.{Pages.{Page, Token, Char, Start, End, Finish, refused}, declared.fault.PageRefusal.TheVariants.{Unsettled}}
 
 pub processed_once : (n k : ℕ) (t : Token) (p : Page) → k < n →
     processed (n - k) t p ≡ behind_turn (processed (n - (k + 1))) (turn t p)
@@ -24,3 +25,17 @@ agency_once n k name p h =
 pub agency_out : (n k : ℕ) (name : List ℕ) (p : Page) → n ≤ k → agency_run (n - k) name p ≡ p
 unfolding agency_run
 agency_out n k name p h = ap (λ m. agency_run m name p) {x = n - k} {y = zero} (omega (arith, h))
+
+-- what follows a character, and any other token
+
+pub behind_char : (t : Token) (p : Page) → is_char t ≡ true → behind_token t p ≡ p
+behind_char (Char c) p h = refl
+behind_char (Start tag) p h = absurd (false≢true h)
+behind_char (End name) p h = absurd (false≢true h)
+behind_char Finish p h = absurd (false≢true h)
+
+pub behind_other : (t : Token) (p : Page) → is_char t ≡ false → behind_token t p ≡ text_ended p
+behind_other (Char c) p h = absurd (false≢true (sym h))
+behind_other (Start tag) p h = refl
+behind_other (End name) p h = refl
+behind_other Finish p h = refl

@@ -8,7 +8,8 @@ use Rattle.html_page_tree.specs.PageTrees.{is_unseen}
 
 -- whether the end tag of a current node of that name in a body closes it, and does nothing else
 abbrev pub closes_in_body : (name : List ℕ) → Bool
-closes_in_body name = not (of kind.Root name || (of kind.Br name || of kind.Form name))
+closes_in_body name = not (of kind.Root name
+    || (of kind.Br name || (of kind.Form name || of kind.Template name)))
     && not (of kind.Implied name && (of kind.Heading name || of kind.ClosesInScope name))
 
 abbrev pub is_of_table : (name : List ℕ) → Bool

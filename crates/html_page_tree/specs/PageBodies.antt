@@ -1,18 +1,19 @@
 -- The steps of a token in a body (HTML Standard 13.2.6.4.7), and before it (13.2.6.4.2 to
 -- 13.2.6.4.6).
-use Rattle.std.specs.Prelude.{ℕ, zero, suc, Bool, true, false, not, ◌&&◌, ◌||◌, ◌==◌, List, [], length, if◌then◌else◌, codes, map, Option, Some, None, is_some}
-use Rattle.html_dom_tree.specs.Tree.{TextPair}
-use Rattle.html_page_names.specs.{ForeignNames.{svg_names, svg_attrs, math_attrs, with_capitals}, PageNames.{is, of}}
+use Rattle.std.specs.Prelude.{ℕ, zero, suc, Bool, true, false, not, ◌&&◌, ◌||◌, ◌==◌, List, [], length, if◌then◌else◌, codes, map, Option, Some, None, is_some, option_map}
+use Rattle.html_names_core.specs.Names.{listed_names, stands_in}
+use Rattle.html_dom_tree.specs.{Attributes.{first}, Tree.{TextPair}}
+use Rattle.html_page_names.specs.{ForeignNames.{lowered, svg_names, svg_attrs, math_attrs, with_capitals}, PageNames.{is, of}}
 use Rattle.html_page_stack.specs.Adoption.{adopted_from, furthest_block}
-use Rattle.html_page_stack.specs.Formats.{Format, is_listed, is_named, is_open, is_same, last_entry, without_entry}
-use Rattle.html_page_stack.specs.OpenElements.{OpenElement, at, bounds, is_at, is_opened, in_scope, is_near, reaches, has_item}
-use Rattle.html_page_stack.specs.Pages.{Page, StartTag, Token, Char, Start, End, Finish, merged, refused, noted, noted_if, with_char, added_in, added_to, opened, opened_in, opened_to, closed, closed_named, closed_around, closed_to, closed_to_goal, implied_closed, no_name, closed_over, closed_in, reconstructed, Turn, Taken, Again, taken_with}
+use Rattle.html_page_stack.specs.Formats.{Format, has_value, is_listed, is_named, is_open, is_same, last_entry, without_entry}
+use Rattle.html_page_stack.specs.OpenElements.{OpenElement, at, bounds, hold_template, is_at, is_opened, in_scope, is_near, reaches, has_item, root_alone}
+use Rattle.html_page_stack.specs.Pages.{Page, StartTag, Token, Char, Start, End, Finish, has_template, merged, noted, noted_if, template_closed, template_opened, thoroughly_closed, with_char, added_in, body_destination, added_to, opened, opened_in, opened_to, closed, closed_around, closed_to, closed_to_goal, implied_closed, no_name, closed_over, closed_in, reconstructed, Turn, Taken, Again, taken_with}
 use Rattle.html_page_stack.specs.declared.error.PageError.TheVariants as error
-use Rattle.html_page_stack.specs.declared.fault.PageRefusal.TheVariants as refusal
 use Rattle.html_page_names.specs.declared.kind.Kind.{Kind}
 use Rattle.html_page_names.specs.declared.kind.Kind.TheVariants as kind
 use Rattle.html_page_stack.specs.declared.modes.Scope.TheVariants as scope
-use Rattle.html_page_stack.specs.declared.modes.{Space.{Space}, TableRule.{TableRule}, Space.TheVariants.{Html, Svg, MathMl}}
+use Rattle.html_page_stack.specs.declared.modes.{FramesetRule.{FramesetRule}, Space.{Space}, TableRule.{TableRule}, Space.TheVariants.{Html, Svg, MathMl}}
+use Rattle.html_page_stack.specs.declared.modes.FramesetRule.TheVariants as frameset
 use Rattle.html_page_stack.specs.declared.modes.Destination.{Destination}
 use Rattle.html_page_stack.specs.declared.modes.Destination.TheVariants as to
 use Rattle.html_page_stack.specs.declared.modes.TableRule.TheVariants as rule
@@ -23,7 +24,7 @@ is_space c = (c == 9) || (c == 10) || (c == 12) || (c == 13) || (c == 32)
 
 -- appends an element without content
 abbrev pub leaf : StartTag → Page → Page
-leaf tag p = added_to to.Parent Html tag.name tag.attrs p
+leaf tag p = added_to (body_destination to.Parent p.stack) Html tag.name tag.attrs p
 
 -- gives the attributes of a second `html` or `body` to the first: `html` is the outermost of the
 -- open elements, and `body` the second, if it is open (13.2.6.4.7)
@@ -31,15 +32,16 @@ abbrev pub merged_again : StartTag → Page → Page
 merged_again tag p = if of kind.Body tag.name then merged 1 (of kind.Body) tag.attrs p
     else merged 0 (of kind.Html) tag.attrs p
 
--- handles a second `html` or `body`
+-- handles a second `html` or `body`, which is ignored in a `template`
 abbrev pub repeated : StartTag → Page → Page
-repeated tag p = if length tag.attrs == 0 then noted error.SecondStartTag p
+repeated tag p = if length tag.attrs == 0 || has_template p then noted error.SecondStartTag p
     else merged_again tag (noted error.MergedAttributes p)
 
 abbrev pub head_element : Destination → StartTag → Page → Page
 head_element destination tag p =
     if of kind.HeadLeaf tag.name then added_to destination Html tag.name tag.attrs p
-    else opened_to destination Html tag.name tag.attrs p
+    else (if of kind.Template tag.name then template_opened destination tag.attrs p
+    else opened_to destination Html tag.name tag.attrs p)
 
 -- the name of an element of SVG or MathML, with its capitals (13.2.6.5)
 abbrev pub foreign_name : Space → List ℕ → List ℕ
@@ -205,15 +207,53 @@ inserted tag p = if of kind.Leaf tag.name then leaf tag p
 abbrev pub element_begun : StartTag → Page → Page
 element_begun tag p = inserted tag (formatted tag.name (closed_before tag.name p))
 
--- whether the start tag is ignored: that of a form, while another is begun
+-- whether the start tag is ignored: that of a form, while another is begun and no `template` is open
 abbrev pub is_nested : (name : List ℕ) → Page → Bool
-is_nested name p = of kind.Form name && is_some p.form
+is_nested name p = not (has_template p) && (of kind.Form name && is_some p.form)
 
-abbrev pub in_body_start : StartTag → Page → Turn
-in_body_start tag p = let name = tag.name in
+-- whether it is that of a hidden `input`
+abbrev pub is_hidden_input : StartTag → Bool
+is_hidden_input tag = of kind.Input tag.name
+    && has_value (option_map lowered (first tag.attrs (codes "type"))) (codes "hidden")
+
+-- the page in which a `frameset` can no longer take the place of the body
+abbrev pub frameset_barred : Page → Page
+frameset_barred p = record p { framesets = frameset.Ignored }
+
+-- the same, if the start tag of an element that is shown says so (13.2.6.4.7)
+abbrev pub barred_by_tag : StartTag → Page → Page
+barred_by_tag tag p =
+    if of kind.BarsFrameset tag.name && not (is_hidden_input tag) then frameset_barred p else p
+
+-- the same, if the character is no white space
+abbrev pub barred_by_char : ℕ → Page → Page
+barred_by_char c p = if is_space c then p else frameset_barred p
+
+-- whether a `frameset` is ignored in the body
+abbrev pub is_barred : FramesetRule → Bool
+is_barred frameset.Ignored = true
+is_barred rule = false
+
+-- opens a `frameset` in the place of the body, with everything in it
+abbrev pub body_replaced : StartTag → Page → Page
+body_replaced tag p = opened tag.name tag.attrs (noted error.BodyReplaced (record p {
+  text = [];
+  moved = false;
+  stack = root_alone p.stack;
+}))
+
+-- handles a `frameset` in a body
+abbrev pub frameset_in_body : StartTag → Page → Page
+frameset_in_body tag p = if is_barred p.framesets then noted error.IgnoredStartTag p
+    else body_replaced tag p
+
+-- handles a start tag by the rules of a body
+abbrev pub in_body_begun : StartTag → Page → Turn
+in_body_begun tag p = let name = tag.name in
     if of kind.Root name then Taken (repeated tag p)
-    else (if of kind.HeadContent name then Taken (head_element to.Parent tag p)
-    else (if of kind.Unread name then Taken (refused refusal.UnreadElement p)
+    else (if of kind.HeadContent name
+    then Taken (head_element (body_destination to.Parent p.stack) tag p)
+    else (if of kind.Frameset name then Taken (frameset_in_body tag p)
     else (if of kind.Misplaced name
     then taken_with error.IgnoredStartTag p
     else (if of kind.Image name
@@ -222,6 +262,9 @@ in_body_start tag p = let name = tag.name in
     else (if of kind.Select name && in_scope scope.General (of kind.Select) p.stack
     then Taken (select_closed p)
     else Taken (element_begun tag p)))))))
+
+abbrev pub in_body_start : StartTag → Page → Turn
+in_body_start tag p = in_body_begun tag (barred_by_tag tag p)
 
 -- closes the `form` with that span, but nothing that is open in it
 abbrev pub form_left : (goal : OpenElement → Bool) → Page → Page
@@ -242,11 +285,23 @@ form_closed (Some span) p =
 -- handles a `</p>`, which makes an empty `p` if there is none
 abbrev pub p_ended : Page → Page
 p_ended p = if in_scope scope.Button (of kind.P) p.stack then p_closed p
-    else added_to to.Parent Html (codes "p") [] (noted error.EndTagWithoutStart p)
+    else added_in Html (codes "p") [] (noted error.EndTagWithoutStart p)
+
+-- handles the end tag of a form, which in a `template` is any form (13.2.6.4.7)
+abbrev pub any_form_closed : Page → Page
+any_form_closed p = if has_template p
+    then closed_in scope.General (of kind.Form) (of kind.Form) no_name p
+    else form_closed p.form p
+
+-- handles a `</template>`
+abbrev pub template_ended : Page → Page
+template_ended p = if has_template p then (let q = thoroughly_closed p in template_closed
+    (noted_if (not (is_at (of kind.Template) q.stack)) error.EndTagOverOpenElements q))
+    else noted error.EndTagWithoutStart p
 
 -- handles an end tag that closes an element
 abbrev pub element_ended : (name : List ℕ) → Page → Page
-element_ended name p = if of kind.Form name then form_closed p.form p
+element_ended name p = if of kind.Form name then any_form_closed p
     else (if of kind.P name then p_ended p
     else (if of kind.ListItem name then closed_in scope.ListItem (is name) (is name) (is name) p
     else (if of kind.DescriptionPart name
@@ -256,23 +311,28 @@ element_ended name p = if of kind.Form name then form_closed p.form p
     else (if of kind.ClosesInScope name
     then closed_in scope.General (is name) (is name) no_name p
     else (if of kind.Formatting name then adopted name p
-    else other_closed name p))))))
+    else (if of kind.Template name then template_ended p
+    else other_closed name p)))))))
 
 abbrev pub in_body_end : (name : List ℕ) → Page → Turn
 in_body_end name p = if of kind.Root name then Taken p
-    else (if of kind.Br name then Again (noted error.EndTagBr p)
-    (Start (record { name = name; attrs = []; closed = false }))
+    else (if of kind.Br name
+    then in_body_start (record { name = name; attrs = []; closed = false }) (noted error.EndTagBr p)
     else Taken (element_ended name p))
 
 -- handles a character in a body, where U+0000 is dropped
 abbrev pub char_in_body : ℕ → Page → Page
-char_in_body c p = if c == 0 then p else with_char c (reconstructed p)
+char_in_body c p = if c == 0 then p else with_char c (barred_by_char c (reconstructed p))
+
+-- handles the end of the page, at which each `template` ends (13.2.6.4.18)
+abbrev pub body_finished : Page → Turn
+body_finished p = if has_template p then Again (template_closed p) Finish else Taken p
 
 abbrev pub in_body : Token → Page → Turn
 in_body (Char c) p = Taken (char_in_body c p)
 in_body (Start tag) p = in_body_start tag p
 in_body (End name) p = in_body_end name p
-in_body Finish p = Taken p
+in_body Finish p = body_finished p
 
 -- whether an end tag of that name begins a body, as start tags do (13.2.6.4.6)
 abbrev pub opens_body : List ℕ → Bool
@@ -324,8 +384,14 @@ in_head_noscript (End name) p = if of kind.Noscript name then Taken (closed true
     else taken_with error.EndTagWithoutStart p)
 in_head_noscript Finish p = noscript_left Finish p
 
+-- what a `frameset` does in a body that no tag begins
+abbrev pub frameset_rule : List OpenElement → FramesetRule
+frameset_rule os =
+    if at (λ o. hold_template o.children) os then frameset.Ignored else frameset.ReplacesBody
+
+-- opens the body before the token
 abbrev pub body_implied : Token → Page → Turn
-body_implied token p = implied (codes "body") token p
+body_implied token p = implied (codes "body") token (record p { framesets = frameset_rule p.stack })
 
 -- puts an element into the head, which is complete already
 abbrev pub head_reopened : StartTag → Page → Page
@@ -335,13 +401,55 @@ abbrev pub after_head : Token → Page → Turn
 after_head (Char c) p = if is_space c then Taken (with_char c p) else body_implied (Char c) p
 after_head (Start tag) p = if of kind.Html tag.name then Taken (repeated tag p)
     else (if of kind.Body tag.name then Taken (opened tag.name tag.attrs p)
-    else (if of kind.Unread tag.name then Taken (refused refusal.UnreadElement p)
+    else (if of kind.Frameset tag.name then Taken (opened tag.name tag.attrs p)
     else (if of kind.HeadContent tag.name then Taken (head_reopened tag p)
     else (if of kind.Head tag.name then taken_with error.SecondStartTag p
     else body_implied (Start tag) p))))
 after_head (End name) p = if opens_body name then body_implied (End name) p
     else taken_with error.EndTagWithoutStart p
 after_head Finish p = body_implied Finish p
+
+unfoldable pub is_frame : (name : List ℕ) → Bool
+is_frame name = stands_in (listed_names (codes "frame")) name
+
+unfoldable pub is_noframes : (name : List ℕ) → Bool
+is_noframes name = stands_in (listed_names (codes "noframes")) name
+
+-- the page behind the end tag of a `frameset`, of which the outermost ends the last
+abbrev pub frameset_ended : Page → Page
+frameset_ended p = if is_at (of kind.Frameset) p.stack then p
+    else record p { framesets = frameset.Behind }
+
+-- handles a token in a `frameset` (13.2.6.4.20)
+abbrev pub in_frameset : Token → Page → Turn
+in_frameset (Char c) p = if is_space c then Taken (with_char c p)
+    else taken_with error.IgnoredText p
+in_frameset (Start tag) p = if of kind.Html tag.name then Taken (repeated tag p)
+    else (if of kind.Frameset tag.name then Taken (opened tag.name tag.attrs p)
+    else (if is_frame tag.name then Taken (leaf tag p)
+    else (if is_noframes tag.name then Taken (head_element to.Parent tag p)
+    else taken_with error.IgnoredStartTag p)))
+in_frameset (End name) p = if of kind.Frameset name then Taken (frameset_ended (closed true p))
+    else taken_with error.EndTagWithoutStart p
+in_frameset Finish p = Taken p
+
+-- whether `html` has ended behind a `frameset`
+abbrev pub is_behind_html : FramesetRule → Bool
+is_behind_html frameset.BehindHtml = true
+is_behind_html rule = false
+
+-- handles a token behind a `frameset` in `html` (13.2.6.4.21 and 13.2.6.4.23)
+abbrev pub after_frameset : Token → Page → Turn
+after_frameset (Char c) p = if is_space c
+    then Taken (with_char c (if is_behind_html p.framesets then reconstructed p else p))
+    else taken_with error.IgnoredText p
+after_frameset (Start tag) p = if of kind.Html tag.name then Taken (repeated tag p)
+    else (if is_noframes tag.name then Taken (head_element to.Parent tag p)
+    else taken_with error.IgnoredStartTag p)
+after_frameset (End name) p = if of kind.Html name
+    then Taken (record p { framesets = frameset.BehindHtml })
+    else taken_with error.EndTagWithoutStart p
+after_frameset Finish p = Taken p
 
 -- handles a token in an element of text alone: its characters, and its end tag
 abbrev pub in_text : Token → Page → Turn

@@ -3,16 +3,17 @@
 ghost use Rattle.std.specs.Prelude.{◌≡◌, [], OnOk, codes};
 ghost use Rattle.html_page_stack.specs.{Endings.{Turns}, PageViews.{goal_test, page_of, token_of}};
 ghost use Rattle.html_page_stack.specs.Pages as pages;
-ghost use Rattle.html_page_stack.specs.declared.modes.{Destination.TheVariants.{Parent}, Space.TheVariants.{Html}};
+ghost use Rattle.html_page_stack.specs.declared.modes.Space.TheVariants.{Html};
 ghost use Rattle.html_page_tree.specs.PageBodies as bodies;
 
 use crate::adoption::{adopt, close_other};
 use crate::body_start::{close_p, in_body_start};
+use crate::frameset::bar_by_char;
 use html_dom_tree::HtmlAttrs;
 use html_names_core::tag;
 use html_page_names::Kind;
 use html_page_stack::{
-    Bound, Destination, Goal, Page, PageError, Scope, Space, StartTag, TagName, Target, Token,
+    Bound, Goal, Page, PageError, Scope, Space, StartTag, TagName, Target, Token,
 };
 use std::alloc::AllocError;
 
@@ -38,7 +39,7 @@ fn end_form(page: &mut Page, goal: Goal<'_>) -> Result<(), AllocError>
     leave_form(page, goal)
 }
 
-/// Handles the end tag of a form.
+/// Handles the end tag of a form outside of templates.
 #[tactic(auto, unfolding(html_names_core::specs::Tables::known_tags))]
 fn close_form(page: &mut Page) -> Result<(), AllocError>
     ensures { OnOk result (page_of page.new
@@ -50,20 +51,39 @@ fn close_form(page: &mut Page) -> Result<(), AllocError>
     end_form(page, Goal::Opened(&tag::form, span))
 }
 
+/// Handles the end tag of a form, which in a `template` is any form.
+fn close_any_form(page: &mut Page) -> Result<(), AllocError>
+    ensures { OnOk result (page_of page.new ≡ bodies.any_form_closed (page_of page.old)) }
+{
+    let form = Target::Kind(Kind::Form);
+    if page.has_template() {
+        page.close_in(Scope::General, form, form, Target::Nothing)
+    } else {
+        close_form(page)
+    }
+}
+
+/// Handles a `</template>`.
+pub(crate) fn end_template(page: &mut Page) -> Result<(), AllocError>
+    ensures { OnOk result (page_of page.new ≡ bodies.template_ended (page_of page.old)) }
+{
+    if !page.has_template() {
+        return page.note(PageError::EndTagWithoutStart);
+    }
+    page.close_thoroughly()?;
+    let is_over_others = !page.stack.is_at(Kind::Template);
+    page.note_if(is_over_others, PageError::EndTagOverOpenElements)?;
+    page.close_template()
+}
+
 #[tactic(auto, unfolding(html_names_core::specs::Tables::known_tags))]
 fn add_p(page: &mut Page) -> Result<(), AllocError>
     ensures { OnOk result (page_of page.new
-        ≡ pages.added_to Parent Html (codes "p") [] (page_of page.old)) }
+        ≡ pages.added_in Html (codes "p") [] (page_of page.old)) }
 {
     let name = TagName::new(tag::p);
     let attrs = HtmlAttrs::new(page.alloc);
-    page.add_to(
-        Destination::Parent,
-        Space::Html,
-        name.tag,
-        name.kinds,
-        attrs,
-    )
+    page.add_in(Space::Html, name.tag, name.kinds, attrs)
 }
 
 /// Handles a `</p>`, which makes an empty `p` if there is none.
@@ -84,7 +104,7 @@ fn end_element(page: &mut Page, name: &TagName) -> Result<(), AllocError>
 {
     let named = Target::Named(&name.tag);
     if name.is(Kind::Form) {
-        close_form(page)
+        close_any_form(page)
     } else if name.is(Kind::P) {
         end_p(page)
     } else if name.is(Kind::ListItem) {
@@ -98,6 +118,8 @@ fn end_element(page: &mut Page, name: &TagName) -> Result<(), AllocError>
         page.close_in(Scope::General, named, named, Target::Nothing)
     } else if name.is(Kind::Formatting) {
         adopt(page, name)
+    } else if name.is(Kind::Template) {
+        end_template(page)
     } else {
         close_other(page, name)
     }
@@ -113,11 +135,12 @@ pub(crate) fn in_body_end(page: &mut Page, name: TagName) -> Result<Option<Token
         page.note(PageError::EndTagBr)?;
         let attrs = HtmlAttrs::new(page.alloc);
         let closed = false;
-        return Ok(Some(Token::Start(StartTag {
+        let start = StartTag {
             name,
             attrs,
             closed,
-        })));
+        };
+        return in_body_start(page, start);
     }
     end_element(page, &name)?;
     Ok(None)
@@ -131,7 +154,19 @@ fn add_char_to_body(page: &mut Page, c: char) -> Result<(), AllocError>
         return Ok(());
     }
     page.reconstruct()?;
+    bar_by_char(page, c);
     page.add_char(c)
+}
+
+/// Handles the end of the page, at which each `template` ends (HTML Standard 13.2.6.4.18).
+pub(crate) fn finish_body(page: &mut Page) -> Result<Option<Token>, AllocError>
+    ensures { Turns result (bodies.body_finished (page_of page.old)) (page_of page.new) }
+{
+    if !page.has_template() {
+        return Ok(None);
+    }
+    page.close_template()?;
+    Ok(Some(Token::Finish))
 }
 
 pub(crate) fn in_body(page: &mut Page, token: Token) -> Result<Option<Token>, AllocError>
@@ -144,6 +179,6 @@ pub(crate) fn in_body(page: &mut Page, token: Token) -> Result<Option<Token>, Al
         }
         Token::Start(start) => in_body_start(page, start),
         Token::End(name) => in_body_end(page, name),
-        Token::Finish => Ok(None),
+        Token::Finish => finish_body(page),
     }
 }

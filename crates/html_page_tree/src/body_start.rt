@@ -5,16 +5,18 @@ ghost use Rattle.html_dom_tree.specs.Views.{attrs_view};
 ghost use Rattle.html_page_names.specs.PageNames.{of};
 ghost use Rattle.html_page_stack.specs.{Endings.{Turns}, PageViews.{page_of, start_of}};
 ghost use Rattle.html_page_stack.specs.Pages as pages;
+ghost use Rattle.html_page_stack.specs.declared.modes.Space.TheVariants.{Html};
 ghost use Rattle.html_page_tree.specs.PageBodies as bodies;
 
 use crate::adoption::{adopt, close_anchor};
 use crate::foreign::enter;
+use crate::frameset::{bar_by_tag, frameset_in_body};
 use html_dom_tree::HtmlAttrs;
 use html_names_core::{HtmlTag, tag};
 use html_page_names::Kind;
 use html_page_stack::{
-    Bound, Destination, Goal, Page, PageError, PageRefusal, Scope, Space, StartTag, TableRule,
-    TagName, Target, Token,
+    Bound, Destination, Goal, Page, PageError, Scope, Space, StartTag, TableRule, TagName, Target,
+    Token,
 };
 use std::alloc::AllocError;
 
@@ -51,14 +53,21 @@ pub(crate) fn open_implied(page: &mut Page, tag: HtmlTag) -> Result<(), AllocErr
 pub(crate) fn add_leaf(page: &mut Page, start: StartTag) -> Result<(), AllocError>
     ensures { OnOk result (page_of page.new ≡ bodies.leaf (start_of start) (page_of page.old)) }
 {
+    let destination = page.stack.body_destination(Destination::Parent);
+    add_to(page, destination, start)
+}
+
+/// Appends an element without content at a destination.
+pub(crate) fn add_to(
+    page: &mut Page,
+    destination: Destination,
+    start: StartTag,
+) -> Result<(), AllocError>
+    ensures { OnOk result (page_of page.new ≡ (let tag = start_of start in
+        pages.added_to destination Html tag.name tag.attrs (page_of page.old))) }
+{
     let StartTag { name, attrs, .. } = start;
-    page.add_to(
-        Destination::Parent,
-        Space::Html,
-        name.tag,
-        name.kinds,
-        attrs,
-    )
+    page.add_to(destination, Space::Html, name.tag, name.kinds, attrs)
 }
 
 /// Gives the attributes of a second `html` or `body` to the first: `html` is the outermost of the
@@ -74,12 +83,12 @@ fn merge_again(page: &mut Page, start: StartTag) -> Result<(), AllocError>
     }
 }
 
-/// Handles a second `html` or `body`.
+/// Handles a second `html` or `body`, which is ignored in a `template`.
 pub(crate) fn repeat(page: &mut Page, start: StartTag) -> Result<(), AllocError>
     ensures { OnOk result (page_of page.new
         ≡ bodies.repeated (start_of start) (page_of page.old)) }
 {
-    if start.attrs.0.is_empty() {
+    if start.attrs.0.is_empty() || page.has_template() {
         return page.note(PageError::SecondStartTag);
     }
     page.note(PageError::MergedAttributes)?;
@@ -99,6 +108,9 @@ pub(crate) fn add_to_head(
     let StartTag { name, attrs, .. } = start;
     if name.is(Kind::HeadLeaf) {
         return page.add_to(destination, Space::Html, name.tag, name.kinds, attrs);
+    }
+    if name.is(Kind::Template) {
+        return page.open_template(destination, attrs);
     }
     page.open_to(destination, Space::Html, name.tag, name.kinds, attrs)
 }
@@ -308,20 +320,22 @@ fn start_in_body(page: &mut Page, start: StartTag) -> Result<(), AllocError>
 fn is_nested(page: &Page, name: &TagName) -> bool
     ensures { result ≡ bodies.is_nested name.now.tag (page_of page.now) }
 {
-    name.is(Kind::Form) && page.form.is_some()
+    !page.has_template() && name.is(Kind::Form) && page.form.is_some()
 }
 
-pub(crate) fn in_body_start(page: &mut Page, start: StartTag) -> Result<Option<Token>, AllocError>
-    ensures { Turns result (bodies.in_body_start (start_of start) (page_of page.old))
+/// Handles a start tag by the rules of a body.
+fn begin_in_body(page: &mut Page, start: StartTag) -> Result<Option<Token>, AllocError>
+    ensures { Turns result (bodies.in_body_begun (start_of start) (page_of page.old))
         (page_of page.new) }
 {
     let name = &start.name;
     if name.is(Kind::Root) {
         repeat(page, start)?;
     } else if name.is(Kind::HeadContent) {
-        add_to_head(page, Destination::Parent, start)?;
-    } else if name.is(Kind::Unread) {
-        page.refuse(PageRefusal::UnreadElement);
+        let destination = page.stack.body_destination(Destination::Parent);
+        add_to_head(page, destination, start)?;
+    } else if name.is(Kind::Frameset) {
+        frameset_in_body(page, start)?;
     } else if name.is(Kind::Misplaced) {
         page.note(PageError::IgnoredStartTag)?;
     } else if name.is(Kind::Image) {
@@ -335,4 +349,12 @@ pub(crate) fn in_body_start(page: &mut Page, start: StartTag) -> Result<Option<T
         start_in_body(page, start)?;
     }
     Ok(None)
+}
+
+pub(crate) fn in_body_start(page: &mut Page, start: StartTag) -> Result<Option<Token>, AllocError>
+    ensures { Turns result (bodies.in_body_start (start_of start) (page_of page.old))
+        (page_of page.new) }
+{
+    bar_by_tag(page, &start);
+    begin_in_body(page, start)
 }

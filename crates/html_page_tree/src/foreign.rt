@@ -8,6 +8,7 @@ ghost use Rattle.html_page_stack.specs.{OpenElements.{at, holds_tags}, Pages.{cl
 ghost use Rattle.html_page_tree.specs.PageBodies as bodies;
 ghost use Rattle.html_page_tree.specs.PageTrees as trees;
 
+use crate::frameset::bar_by_char;
 use crate::turn::by_mode;
 use html_dom_tree::HtmlAttrs;
 use html_names_core::{HtmlAttr, HtmlTag};
@@ -152,6 +153,16 @@ fn shown(c: char) -> char
     if c == '\0' { '\u{fffd}' } else { c }
 }
 
+/// Adds a character to SVG or MathML.
+fn add_char_to_foreign(page: &mut Page, c: char) -> Result<(), AllocError>
+    ensures { OnOk result (page_of page.new ≡ trees.char_in_foreign c (page_of page.old)) }
+{
+    if c != '\0' {
+        bar_by_char(page, c);
+    }
+    page.add_char(shown(c))
+}
+
 fn end_in_foreign(page: &mut Page, name: TagName) -> Result<Option<Token>, AllocError>
     ensures { Turns result (trees.in_foreign_end name.tag (page_of page.old)) (page_of page.new) }
 {
@@ -170,7 +181,7 @@ pub(crate) fn in_foreign(page: &mut Page, token: Token) -> Result<Option<Token>,
         (page_of page.new) }
 {
     match token {
-        Token::Char(c) => page.add_char(shown(c))?,
+        Token::Char(c) => add_char_to_foreign(page, c)?,
         Token::Start(start) => {
             if breaks_out(&start) {
                 return resume_html(page, Token::Start(start));

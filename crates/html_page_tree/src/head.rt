@@ -6,9 +6,10 @@ ghost use Rattle.html_page_stack.specs.{Endings.{Turns}, PageViews.{page_of, sta
 ghost use Rattle.html_page_tree.specs.PageBodies as bodies;
 
 use crate::body_start::{add_to_head, open, open_implied, repeat};
+use crate::frameset::allow_frameset;
 use html_names_core::{HtmlTag, tag};
 use html_page_names::Kind;
-use html_page_stack::{Destination, Page, PageError, PageRefusal, StartTag, TagName, Token};
+use html_page_stack::{Destination, Page, PageError, StartTag, TagName, Token};
 use std::alloc::AllocError;
 
 /// Returns whether it is a tab, a line feed, a form feed, a carriage return or a space.
@@ -40,6 +41,7 @@ fn imply_body(page: &mut Page, token: Token) -> Result<Option<Token>, AllocError
     ensures { Turns result (bodies.body_implied (token_of token) (page_of page.old))
         (page_of page.new) }
 {
+    allow_frameset(page);
     imply(page, tag::body, token)
 }
 
@@ -165,8 +167,8 @@ pub(crate) fn after_head(page: &mut Page, token: Token) -> Result<Option<Token>,
         Token::Start(start) if start.name.is(Kind::Body) => {
             open(page, start.name, start.attrs)?;
         }
-        Token::Start(start) if start.name.is(Kind::Unread) => {
-            page.refuse(PageRefusal::UnreadElement);
+        Token::Start(start) if start.name.is(Kind::Frameset) => {
+            open(page, start.name, start.attrs)?;
         }
         Token::Start(start) if start.name.is(Kind::HeadContent) => reopen_head(page, start)?,
         Token::Start(start) if start.name.is(Kind::Head) => {

@@ -1,5 +1,5 @@
 //! Tree construction: the element that the tokens of a page make, as in a browser (HTML Standard
-//! 13.2.6). A page is refused if nodes would be moved out of a table.
+//! 13.2.6). A page is refused at a limit.
 #![tactic(auto)]
 
 mod adoption;
@@ -7,12 +7,14 @@ mod body_end;
 mod body_start;
 mod foreign;
 mod fragment;
+mod frameset;
 mod head;
 mod own_end;
 mod table;
+mod template;
 mod turn;
 
 pub use fragment::begin_fragment;
 pub use head::is_space;
 pub use own_end::takes_own_end;
-pub use turn::{read_token, takes_text};
+pub use turn::{end_text, read_token, takes_text};

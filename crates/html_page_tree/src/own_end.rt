@@ -13,7 +13,8 @@ fn closes_in_body(element: &PageElement) -> bool
 {
     let is_other = element.has_kind(Kind::Root)
         || element.has_kind(Kind::Br)
-        || element.has_kind(Kind::Form);
+        || element.has_kind(Kind::Form)
+        || element.has_kind(Kind::Template);
     !is_other
         && !(element.has_kind(Kind::Implied)
             && (element.has_kind(Kind::Heading) || element.has_kind(Kind::ClosesInScope)))

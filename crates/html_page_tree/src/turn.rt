@@ -1,7 +1,8 @@
 //! The steps of a token in a page (HTML Standard 13.2.6).
 
 ghost use Rattle.std.specs.Prelude.{◌≡◌, OnOk};
-ghost use Rattle.html_page_stack.specs.{Endings.{Turns}, OpenElements.{mode}, PageViews.{page_of, start_of, token_of}};
+ghost use Rattle.html_page_stack.specs.{Endings.{Turns}, PageViews.{page_of, start_of, token_of}};
+ghost use Rattle.html_page_stack.specs.declared.modes.Mode.TheVariants.{AfterHead, InTemplate};
 ghost use Rattle.html_page_stack.specs.Pages as pages;
 ghost use Rattle.html_page_tree.specs.BodyStarts.{begins_in_body};
 ghost use Rattle.html_page_tree.specs.PageTrees as trees;
@@ -10,15 +11,19 @@ ghost use Rattle.html_page_tree.specs.TakenTexts.{takes_text};
 use crate::body_end::in_body;
 use crate::body_start::in_body_start;
 use crate::foreign::{in_foreign, is_foreign};
+use crate::frameset::{after_frameset, in_frameset, is_barred};
 use crate::head::{
     after_head, before_head, before_html, in_head, in_head_noscript, in_text, is_space,
 };
 use crate::table::{in_caption, in_cell, in_columns, in_row, in_section, in_table};
+use crate::template::in_template;
 use html_page_names::Kind;
-use html_page_stack::{Mode, Page, PageError, PageRefusal, StartTag, TableRule, TagName, Token};
+use html_page_stack::{
+    FramesetRule, Mode, Page, PageError, PageRefusal, StartTag, TableRule, TagName, Token,
+};
 use std::alloc::AllocError;
 
-/// The greatest number of times that a token is processed again.
+/// The number of times that a token is processed again at most, beside once for each open `template`.
 const MOST_TURNS: usize = 7;
 
 fn is_space_token(token: &Token) -> bool
@@ -30,12 +35,46 @@ fn is_space_token(token: &Token) -> bool
     }
 }
 
-/// Handles a token by the rules of the insertion mode.
-pub(crate) fn by_mode(page: &mut Page, token: Token) -> Result<Option<Token>, AllocError>
-    ensures { Turns result (trees.by_mode (mode (page_of page.old).stack) (token_of token) (page_of page.old))
-        (page_of page.new) }
+/// Returns the insertion mode (HTML Standard 13.2.4.1).
+#[inline(always)]
+fn page_mode(page: &Page) -> Mode
+    ensures { result ≡ trees.page_mode (page_of page.now) }
 {
     match page.stack.mode() {
+        Mode::InTemplate => template_mode(page),
+        Mode::AfterHead => html_mode(page),
+        mode => mode,
+    }
+}
+
+/// Returns the mode of the innermost `template`.
+fn template_mode(page: &Page) -> Mode
+    ensures { let p = page_of page.now in
+        result ≡ trees.mode_within InTemplate p.templates p.framesets }
+{
+    match page.templates.last() {
+        None => Mode::InTemplate,
+        Some(mode) => *mode,
+    }
+}
+
+/// Returns the mode behind the head, or behind a `frameset`.
+fn html_mode(page: &Page) -> Mode
+    ensures { let p = page_of page.now in
+        result ≡ trees.mode_within AfterHead p.templates p.framesets }
+{
+    match page.framesets {
+        FramesetRule::Behind | FramesetRule::BehindHtml => Mode::AfterFrameset,
+        FramesetRule::Ignored | FramesetRule::ReplacesBody => Mode::AfterHead,
+    }
+}
+
+/// Handles a token by the rules of the insertion mode.
+pub(crate) fn by_mode(page: &mut Page, token: Token) -> Result<Option<Token>, AllocError>
+    ensures { Turns result (let p = page_of page.old in
+        trees.by_mode (trees.page_mode p) (token_of token) p) (page_of page.new) }
+{
+    match page_mode(page) {
         Mode::BeforeHtml => before_html(page, token),
         Mode::BeforeHead => before_head(page, token),
         Mode::InHead => in_head(page, token),
@@ -49,6 +88,9 @@ pub(crate) fn by_mode(page: &mut Page, token: Token) -> Result<Option<Token>, Al
         Mode::InSection => in_section(page, token),
         Mode::InRow => in_row(page, token),
         Mode::InCell => in_cell(page, token),
+        Mode::InTemplate => in_template(page, token),
+        Mode::InFrameset => in_frameset(page, token),
+        Mode::AfterFrameset => after_frameset(page, token),
     }
 }
 
@@ -97,12 +139,12 @@ fn turn(page: &mut Page, token: Token) -> Result<Option<Token>, AllocError>
 }
 
 #[tactic(auto, using(crate::proofs::Turning::processed_once, crate::proofs::Turning::processed_out))]
-fn process_again(page: &mut Page, token: Token) -> Result<(), AllocError>
+fn process_again(page: &mut Page, most: usize, token: Token) -> Result<(), AllocError>
     ensures { OnOk result (page_of page.new
-        ≡ trees.processed 7 (token_of token) (page_of page.old)) }
+        ≡ trees.processed most (token_of token) (page_of page.old)) }
 {
     let mut token = token;
-    for count in 0..MOST_TURNS {
+    for count in 0..most {
         match turn(page, token)? {
             None => return Ok(()),
             Some(again) => token = again,
@@ -115,11 +157,12 @@ fn process_again(page: &mut Page, token: Token) -> Result<(), AllocError>
 #[tactic(auto, unfolding(crate::specs::PageTrees::processed))]
 fn process(page: &mut Page, token: Token) -> Result<(), AllocError>
     ensures { OnOk result (page_of page.new
-        ≡ trees.processed 8 (token_of token) (page_of page.old)) }
+        ≡ trees.wholly_processed (token_of token) (page_of page.old)) }
 {
+    let most = page.templates.len() + MOST_TURNS;
     match turn(page, token)? {
         None => Ok(()),
-        Some(again) => process_again(page, again),
+        Some(again) => process_again(page, most, again),
     }
 }
 
@@ -140,20 +183,50 @@ pub(crate) fn is_unseen(page: &Page) -> bool
 
 /// Returns whether each character of a text but U+0000 is appended to the current node.
 #[tactic(auto, unfolding(crate::specs::TakenTexts::takes_text))]
+#[inline(always)]
 pub fn takes_text(page: &Page) -> bool
     ensures { result ≡ takes_text (page_of page.now) }
 {
-    if is_unseen(page) {
+    if is_unseen(page) || !is_barred(page) {
         return false;
     }
     if is_foreign(page, &Token::Char('\0')) {
         return true;
     }
-    match page.stack.mode() {
+    match page_mode(page) {
         Mode::InText => true,
         Mode::InBody | Mode::InCaption | Mode::InCell => { !page.formats.ends_closed(&page.stack) }
         _ => false,
     }
+}
+
+/// Ends a text in a table, as what is no character does: what follows joins it only if both stay
+/// there.
+pub fn end_text(page: &mut Page) -> Result<(), AllocError>
+    ensures { OnOk result (page_of page.new ≡ trees.text_ended (page_of page.old)) }
+{
+    if page.has_text() && page.stack.holds_table_text() {
+        page.settle()
+    } else {
+        Ok(())
+    }
+}
+
+fn is_char(token: &Token) -> bool
+    ensures { result ≡ trees.is_char (token_of token.now) }
+{
+    matches!(token, Token::Char(_))
+}
+
+/// Processes a token, and ends a text in a table unless the token is a character.
+#[tactic(auto, using(crate::proofs::Turning::behind_char, crate::proofs::Turning::behind_other))]
+fn process_whole(page: &mut Page, token: Token) -> Result<(), AllocError>
+    ensures { OnOk result (page_of page.new ≡ trees.behind_token (token_of token)
+        (trees.wholly_processed (token_of token) (page_of page.old))) }
+{
+    let is_char = is_char(&token);
+    process(page, token)?;
+    if is_char { Ok(()) } else { end_text(page) }
 }
 
 /// Reads a token. Without a document type before it, a table keeps a `p` open (HTML Standard
@@ -163,12 +236,11 @@ pub fn read_token(page: &mut Page, token: Token) -> Result<(), AllocError>
     ensures { OnOk result (page_of page.new
         ≡ trees.token_read (token_of token) (page_of page.old)) }
 {
-    if !is_unseen(page) {
-        return process(page, token);
+    if is_unseen(page) {
+        if is_space_token(&token) {
+            return Ok(());
+        }
+        begin_untyped(page)?;
     }
-    if is_space_token(&token) {
-        return Ok(());
-    }
-    begin_untyped(page)?;
-    process(page, token)
+    process_whole(page, token)
 }

@@ -7,7 +7,7 @@
 //!
 //! An element is its name, its attributes and its children, which may be texts:
 //! `["p",[["class","a"]],["b & c",["br",[],[]]]]`. For a page that is not read, the line is the
-//! reason and the place: `"a name that no element of this project has at 3:14"`.
+//! reason and the place: `"an element has too many attributes at 3:14"`.
 #![tactic(auto)]
 
 use anyhow::{Context, Result};

@@ -244,9 +244,9 @@ pub fn typst_html_unused(alloc: Global, limit: u32, input: &[u8], output: &mut [
 /// offsets of both count the bytes of the page.
 ///
 /// [`read_page`](html_page_read::read_page) reads the text as a browser does (HTML Standard 13.2,
-/// with scripting disabled). It refuses a page in which a browser would move nodes out of a table,
-/// and one in which an element would stand deeper than the limit. The reply then has the number of
-/// the refusal ([`PageRefusal`](html_page_stack::PageRefusal)) and the place of the tag or character.
+/// with scripting disabled). It refuses a page in which an element would stand deeper than the limit,
+/// or that goes beyond a limit of this project. The reply then has the number of the refusal
+/// ([`PageRefusal`](html_page_stack::PageRefusal)) and the place of the tag or character.
 /// A limit that is not from 1 to 1,000 is bad input without a place. Buffers and replies are those of
 /// [`typst_html_write`].
 ///

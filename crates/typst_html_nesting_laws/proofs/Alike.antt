@@ -125,14 +125,9 @@ in_button_scope_is test above os s = reaches_is (nest.is_of test) bounds_button_
     (open_elements.is_of test) (bounds Button) (of_is test) button_scope_is above os s
 
 -- an element that hides formatting elements
-marked : (html marker template : Bool) → template ≡ false →
-    (html && (marker || template)) ≡ true → (html && marker) ≡ true
-marked html marker template k e = grind arith
-
 pub marker_is : (a : Ancestor) (o : OpenElement) → IsAlike a o →
     of kind.Template a.head.name ≡ false → hides_formatting a ≡ true → open_elements.is_of (of kind.Marker) o ≡ true
-marker_is a o t k e = of_is (of kind.Marker) a o t ∙ marked (nest.is_html a.space)
-    (of kind.Marker a.head.name) (of kind.Template a.head.name) k e
+marker_is a o t k e = of_is (of kind.Marker) a o t ∙ e
 
 -- an item
 pub none_item : (test : List ℕ → Bool) (above : List Ancestor) (os : List OpenElement) →

@@ -8,7 +8,7 @@ use Rattle.html_page_nesting.specs.declared.reading.Space.{Space, TheVariants.{H
 use Rattle.html_page_nesting.specs.NestingRules as rules
 use Rattle.html_page_names.specs.{ForeignNames.{is_font_attr, lowered}, PageNames.{of}}
 use Rattle.html_page_names.specs.declared.kind.Kind.TheVariants as kind
-use Rattle.html_page_stack.specs.Pages.{Page, Start, Taken}
+use Rattle.html_page_stack.specs.{OpenElements.{at, is_table_context}, Pages.{Page, Start, Taken}}
 use Rattle.html_page_tree.specs.{PageBodies.{entered}, PageTrees.{breaks_out, in_foreign}}
 use Rattle.typst_html_nesting_laws.proofs.{Alike.{space_is}, Branches.{skip}, Capitals.{attrs_fail, fails_small}, KeptTags.{entered_back}}
 use Rattle.typst_html_nesting_laws.proofs.{KindFacts.{AllFail, names}, Opened.{one_of}, Readers.{written_tag}}
@@ -36,14 +36,15 @@ stays_inside s h kept e =
 
 pub foreign_taken : (above : List Ancestor) (h : Head) (kids : NodesView) (p : Page) →
     IsCalm above p → TagFits (space_of (reading_of above) h.name) h → length p.stack < p.limit →
-    is_read_as_html (reading_of above) h.name ≡ false → StaysForeign h kids →
+    at is_table_context p.stack ≡ false → is_read_as_html (reading_of above) h.name ≡ false →
+    StaysForeign h kids →
     in_foreign (Start (written_tag h)) p ≡ Taken (one_of (ends_at_once h) (begun h above p))
-foreign_taken above h kids p calm kept fits foreign stays =
+foreign_taken above h kids p calm kept fits outside foreign stays =
     let s = space_of (reading_of above) h.name in
     let own = is_foreign_self_closing h.name in
     skip _ (stays_inside s h kept stays.inside)
     (ap (λ x. Taken (entered x (written_tag h) p))
     (space_is h.name above p.stack calm.alike foreign)
-    ∙ (ap Taken (entered_back h p fits s kept)
+    ∙ (ap Taken (entered_back h p fits outside s kept)
     ∙ ap (λ b. Taken (one_of b (begun h above p)))
     (sym (ap (λ b. own || b) stays.filled ∙ or-false own))))

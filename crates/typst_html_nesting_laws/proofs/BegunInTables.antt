@@ -6,11 +6,11 @@ use Rattle.html_page_nesting.specs.{Contents.{has_unread_end}, NestingRules.{has
 use Rattle.html_page_nesting.specs.declared.reading.Place.TheVariants as place
 use Rattle.html_page_names.specs.{PageNames.{kind_names, of}, declared.kind.Kind.{Kind}}
 use Rattle.html_page_names.specs.declared.kind.Kind.TheVariants as kind
-use Rattle.html_page_stack.specs.{Pages.{Page, Start, StartTag, Turn, opened, Taken}, declared.modes.{Destination.TheVariants.{Parent}, Mode.{Mode}}}
+use Rattle.html_page_stack.specs.{OpenElements.{at, is_at, is_table_context}, Pages.{Page, Start, StartTag, Turn, opened, opened_here, Taken}, declared.modes.{Destination.TheVariants.{Parent}, Mode.{Mode}}}
 use Rattle.html_page_stack.specs.declared.modes.Mode.TheVariants.{InHead, InHeadNoscript, InTable, InColumns, InSection, InRow}
-use Rattle.html_page_tree.specs.{PageBodies.{head_element, leaf}, PageTrees.{by_mode}}
+use Rattle.html_page_tree.specs.{PageBodies.{head_element, leaf}, PageTrees.{by_mode, cleared_to}}
 use Rattle.typst_html_nesting_laws.proofs.{Branches.{first_true, of_two}, KindFacts.{AllPass, agree_of, names, passes_of}, Modes.{mode_in}}
-use Rattle.typst_html_nesting_laws.proofs.Opened.{Opens, head_begun, leaf_begun, one_of}
+use Rattle.typst_html_nesting_laws.proofs.{Opened.{Opens, head_begun, leaf_begun, one_of}, Tables.{IsAtPlace, none_cleared}}
 
 -- neither `svg` nor `math`
 abbrev is_html_name : List ℕ → Bool
@@ -32,17 +32,28 @@ module _ (tag : StartTag) (p q : Page) (ops : Opens tag p q)
   read_in m l = by_mode m (Start (with_name l)) p
 
   -- a kind of elements that the rules of a mode open as they stand
-  part : (m : Mode) (k : Kind) →
-      map (read_in m) (kind_names k) ≡ map (λ l. Taken (opened l tag.attrs p)) (kind_names k) →
+  part : (m : Mode) (k : Kind) (begins : List ℕ → Page) →
+      (of kind.Svg n ≡ false → of kind.Math n ≡ false → begins n ≡ q) →
+      map (read_in m) (kind_names k) ≡ map (λ l. Taken (begins l)) (kind_names k) →
       AllPass (λ l. not (is_void l) && is_html_name l) (kind_names k) → of k n ≡ true →
       by_mode m (Start tag) p ≡ result
-  part m k same whole h =
+  part m k begins opens same whole h =
       let test = λ (l : List ℕ). not (is_void l) && is_html_name l in
       let a = and_parts _ _ (passes_of test k n whole h) in
       let b = and_parts _ _ a.1 in
-      agree_of (read_in m) (λ l. Taken (opened l tag.attrs p)) k n same h
-      ∙ ap Taken (ops.plain (not-true _ b.0) (not-true _ b.1)
+      agree_of (read_in m) (λ l. Taken (begins l)) k n same h
+      ∙ ap Taken (opens (not-true _ b.0) (not-true _ b.1)
       ∙ ap (λ v. one_of v q) (sym (not-true _ a.0)))
+
+  -- or in the element of a table that is the current node
+  table_part : (m : Mode) (test : List ℕ → Bool) → is_at test p.stack ≡ true → (k : Kind) →
+      map (read_in m) (kind_names k)
+      ≡ map (λ l. Taken (opened_here l tag.attrs (cleared_to test p))) (kind_names k) →
+      AllPass (λ l. not (is_void l) && is_html_name l) (kind_names k) → of k n ≡ true →
+      by_mode m (Start tag) p ≡ result
+  table_part m test there k same whole h =
+      part m k (λ l. opened_here l tag.attrs (cleared_to test p)) (λ a b.
+      ap (opened_here n tag.attrs) (none_cleared test p there) ∙ ops.here a b) same whole h
 
   -- or as elements of a head
   content : (m : Mode) (k : Kind) → map (read_in m) (kind_names k)
@@ -51,18 +62,20 @@ module _ (tag : StartTag) (p q : Page) (ops : Opens tag p q)
       by_mode m (Start tag) p ≡ result
   content m k same head h =
       agree_of (read_in m) (λ l. Taken (head_element Parent (with_name l) p)) k n same h
-      ∙ ap Taken (head_begun tag p q ops (passes_of (of kind.HeadContent) k n head h) ends)
+      ∙ ap Taken (head_begun tag p q ops (passes_of (of kind.HeadContent) k n head h) plain ends)
 
   script : is_in_tables n ≡ true → of kind.ScriptOrStyle n ≡ true
   script h = first_true h plain
 
-  column : of kind.Col n ≡ true → by_mode InColumns (Start tag) p ≡ result
-  column h =
+  column : at is_table_context p.stack ≡ false → of kind.Col n ≡ true →
+      by_mode InColumns (Start tag) p ≡ result
+  column outside h =
       let test = λ (l : List ℕ). is_void l && is_html_name l in
       let a = and_parts _ _ (passes_of test kind.Col n (unfold names in refl) h) in
       let b = and_parts _ _ a.1 in
       agree_of (read_in InColumns) (λ l. Taken (leaf (with_name l) p)) kind.Col n
-      (unfold names in refl) h ∙ ap Taken (leaf_begun tag p q ops (not-true _ b.0) (not-true _ b.1)
+      (unfold names in refl) h
+      ∙ ap Taken (leaf_begun tag p q ops outside (not-true _ b.0) (not-true _ b.1)
       ∙ ap (λ v. one_of v q) (sym a.0))
 
   -- by the rules of the mode of that place, if it is one
@@ -70,19 +83,24 @@ module _ (tag : StartTag) (p q : Page) (ops : Opens tag p q)
   TakenIn None = Unit {0}
   TakenIn (Some m) = by_mode m (Start tag) p ≡ result
 
-  pub place_taken : (l : Place) → has_place l n ≡ true → TakenIn (mode_in l)
+  pub place_taken : (l : Place) → IsAtPlace l p.stack → has_place l n ≡ true →
+      TakenIn (mode_in l)
   unfolding names
-  place_taken place.Page h = tt
-  place_taken place.Head h = of_two (first_true h plain) (content InHead kind.HeadContent refl refl)
-      (part InHead kind.Noscript refl refl)
-  place_taken place.HeadNoscript h = content InHeadNoscript kind.NoscriptContent refl refl h
-  place_taken place.Table h =
-      of_two h (λ c. of_two c (λ d. of_two d (part InTable kind.Caption refl refl)
-      (part InTable kind.Colgroup refl refl)) (part InTable kind.Section refl refl))
+  place_taken place.Page there h = tt
+  place_taken place.Head there h =
+      of_two h (content InHead kind.HeadContent refl refl)
+      (part InHead kind.Noscript (λ l. opened l tag.attrs p) (ops.plain there) refl refl)
+  place_taken place.HeadNoscript there h = content InHeadNoscript kind.NoscriptContent refl refl h
+  place_taken place.Table there h =
+      let in_table = table_part InTable (of kind.Table) there in
+      of_two h (λ c. of_two c (λ d. of_two d (in_table kind.Caption refl refl)
+      (in_table kind.Colgroup refl refl)) (in_table kind.Section refl refl))
       (λ e. content InTable kind.ScriptOrStyle refl refl (script e))
-  place_taken place.Section h = of_two h (part InSection kind.Tr refl refl)
+  place_taken place.Section there h =
+      of_two h (table_part InSection (of kind.Section) there kind.Tr refl refl)
       (λ e. content InSection kind.ScriptOrStyle refl refl (script e))
-  place_taken place.Row h = of_two h (part InRow kind.Cell refl refl)
+  place_taken place.Row there h =
+      of_two h (table_part InRow (of kind.Tr) there kind.Cell refl refl)
       (λ e. content InRow kind.ScriptOrStyle refl refl (script e))
-  place_taken place.Columns h = column (first_true h plain)
-  place_taken place.Body h = tt
+  place_taken place.Columns there h = column there (first_true h plain)
+  place_taken place.Body there h = tt

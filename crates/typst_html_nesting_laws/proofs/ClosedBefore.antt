@@ -88,8 +88,8 @@ closes_none n around h =
 
 -- searches and steps that do nothing
 
-while_not : (goes_on : List OpenElement → Bool) (at_most : ℕ) (p : Page) → goes_on p.stack ≡ false →
-    closed_while goes_on at_most p ≡ p
+pub while_not : (goes_on : List OpenElement → Bool) (at_most : ℕ) (p : Page) →
+    goes_on p.stack ≡ false → closed_while goes_on at_most p ≡ p
 while_not goes_on zero p h = refl
 while_not goes_on (suc k) p h = rw h refl
 

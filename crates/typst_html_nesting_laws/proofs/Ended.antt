@@ -1,6 +1,6 @@
 -- An end tag of the current node's name closes it, where nothing is misnested.
-use Rattle.std.proofs.Common.{◌≡◌, ℕ, Bool, true, false, not, ◌&&◌, ◌||◌, List, [], ◌∷◌, inl, inr, refl, sym, ap, subst, ◌∙◌}
-use Rattle.std.proofs.lemmas.{Bool.{and_from, and_parts, eq-eqb, false≢true, or_from, or_left, or_parts, or_right}, Slice.Eq.{bytes_eq-Decides}}
+use Rattle.std.proofs.Common.{◌≡◌, ℕ, Bool, true, false, not, ◌&&◌, ◌||◌, ◌==◌, List, [], ◌∷◌, length, inl, inr, refl, sym, ap, subst, ◌∙◌}
+use Rattle.std.proofs.lemmas.{Bool.{and_from, and_left, and_parts, eq-eqb, false≢true, or_from, or_left, or_parts, or_right}, Slice.Eq.{bytes_eq-Decides}}
 use Rattle.std.specs.Prelude.{None, Option, codes}
 use Rattle.html_names_core.specs.Kinds.{is_void}
 use Rattle.html_dom_tree.specs.Tree.{Head, NodesView}
@@ -18,15 +18,15 @@ use Rattle.html_page_stack.specs.declared.error.PageError.TheVariants as error
 use Rattle.html_page_stack.specs.declared.modes.{Mode.{Mode}, Scope.{Scope}}
 use Rattle.html_page_stack.specs.declared.modes.Mode.TheVariants.{InHead, InHeadNoscript, InBody, InText, InTable, InCaption, InColumns, InSection, InRow, InCell}
 use Rattle.html_page_stack.specs.declared.modes.Scope.TheVariants as scope
-use Rattle.html_page_tree.specs.PageBodies.{adopted, element_ended, form_closed, form_ended, form_left}
-use Rattle.html_page_tree.specs.PageTrees.{by_mode, foreign_closed, in_foreign_end, part_closed, token_read, turn}
+use Rattle.html_page_tree.specs.PageBodies.{adopted, any_form_closed, element_ended, form_closed, form_ended, form_left, in_body_end}
+use Rattle.html_page_tree.specs.PageTrees.{by_mode, foreign_closed, in_foreign_end, in_part_end, part_closed, token_read, turn}
 use Rattle.html_page_tree.proofs.OwnEnds as own
 use Rattle.typst_html_nesting_laws.proofs.{Alike.{space_foreign, space_html}, Branches.{either, pick, decide, skip}, Capitals.{fails_small}}
 use Rattle.typst_html_nesting_laws.proofs.{KeptTags.{small_html}, ListedFormats.{IsInOrder, unlisted_or_last}, Modes.{brings, own_mode}}
 use Rattle.typst_html_nesting_laws.proofs.Closed.{closed_is}
 use Rattle.typst_html_nesting_laws.proofs.{KindFacts.{AllFail, fails_of, names, outside_of, passes_of}, Rules.{foreign_fits, tag_fits}}
-use Rattle.typst_html_nesting_laws.proofs.{Stands.{Stands, html_stands, parts}, Steady.{around_steady}, Turns.{turn_taken}}
-use Rattle.typst_html_nesting_laws.proofs.Ways.{AreAlike, AreBegun, IsAlike, IsCalm, IsSteady, ends_at_once, form_of, is_body_mode, is_page_place}
+use Rattle.typst_html_nesting_laws.proofs.{Stands.{Stands, html_stands, parts}, Steady.{around_steady}, Tables.{none_cleared}, Turns.{stack_mode, turn_taken}}
+use Rattle.typst_html_nesting_laws.proofs.Ways.{AreAlike, AreBegun, IsAlike, IsCalm, IsSteady, ends_at_once, is_body_mode, is_page_place}
 
 -- the current node, an element of HTML
 module _ (p : Page) (o : OpenElement) (os : List OpenElement) (html : is_html o.space ≡ true) where
@@ -72,15 +72,18 @@ module _ (p : Page) (o : OpenElement) (os : List OpenElement) (html : is_html o.
     abbrev made : Option ℕ → Page
     made form = record p {
       text = [];
+      moved = false;
       stack = uncovered (without_current (with_text p.text o ∷ os));
       formats = after_current true (o ∷ os) p.formats;
       form = form;
     }
 
-    end_form : p.form ≡ form_of (o ∷ os) → form_closed p.form q ≡ closed true q
-    end_form begun = ap (λ form. form_closed form q) (begun ∙ pick _ at_form refl)
-        ∙ (form_ends ∙ (closed_is o os behind
-        ∙ (ap made (forgotten None ∙ sym (forgotten p.form)) ∙ sym (closed_is o os q))))
+    end_form : AreBegun (o ∷ os) p → any_form_closed q ≡ closed true q
+    end_form l = skip _ (ap (λ ts. not (length ts == 0)) l.ordinary.templates)
+        (ap (λ form. form_closed form q) (l.form ∙ pick _ at_form refl)
+        ∙ (form_ends ∙ (closed_is o os behind l.moved l.ordinary.templates
+        ∙ (ap made (forgotten None ∙ sym (forgotten p.form))
+        ∙ sym (closed_is o os q l.moved l.ordinary.templates)))))
 
   end_item : (s : Scope) → closed_in s (is n) (is n) (is n) q ≡ closed true q
   end_item s = own.within p o os html s (is n) (is n) named (own.but_named p o os html (is n) named)
@@ -99,9 +102,10 @@ module _ (p : Page) (o : OpenElement) (os : List OpenElement) (html : is_html o.
         (or_right (not (is_at (of kind.Formatting) (o ∷ os))) _ last)
   ]
 
-  end_element : AreBegun (o ∷ os) p → element_ended n q ≡ closed true q
-  end_element l =
-      either (of kind.Form n) (λ h. end_form h l.form) (λ f.
+  end_element : of kind.Template n ≡ false → AreBegun (o ∷ os) p →
+      element_ended n q ≡ closed true q
+  end_element plain l =
+      either (of kind.Form n) (λ h. end_form h l) (λ f.
       either (of kind.P n) (own.end_p p o os html) (λ x.
       either (of kind.ListItem n) (λ h. end_item scope.ListItem) (λ i.
       either (of kind.DescriptionPart n) (λ h. end_item scope.General) (λ d.
@@ -110,7 +114,7 @@ module _ (p : Page) (o : OpenElement) (os : List OpenElement) (html : is_html o.
       either (of kind.ClosesInScope n)
       (λ h. end_scoped (is n) named (unimplied kind.ClosesInScope (unfold names in refl) h)) (λ c.
       either (of kind.Formatting n)
-      (λ h. end_formatting h l.ordered) (λ f. own.end_other p o os html)))))))
+      (λ h. end_formatting h l.ordered) (λ f. skip _ plain (own.end_other p o os html))))))))
 
   part_ended : (test : List ℕ → Bool) → test n ≡ true → of kind.Implied n ≡ false →
       part_closed test q ≡ closed true q
@@ -125,41 +129,60 @@ module _ (p : Page) (o : OpenElement) (os : List OpenElement) (html : is_html o.
       let noscript = (and_parts (of kind.Noscript n) (is_at (of kind.Head) os) h).0 in
       rw noscript refl
   end_own InText h = refl
-  end_own InTable h = pick _ h (ap Taken (own.closes p o os html (of kind.Table) h))
+  end_own InTable h = pick _
+      (and_from _ _ h (own.reached p o os html (of kind.Table) (bounds scope.Table) h))
+      (ap Taken (own.closes p o os html (of kind.Table) h))
   end_own InCaption h =
-      let scoped = own.reached p o os html (is n) (bounds scope.Table) named in
-      rw (h, scoped) (ap Taken (part_ended (of kind.Caption) h
+      rw h (ap Taken (part_ended (of kind.Caption) h
       (unimplied kind.Caption (unfold names in refl) h)))
-  end_own InColumns h = rw h refl
-  end_own InSection h = rw (h, html, named) refl
-  end_own InRow h = rw h refl
+  end_own InColumns h = pick _ (and_from _ _ h (own.at_name p o os html (of kind.Colgroup) h)) refl
+  end_own InSection h =
+      let scoped = own.reached p o os html (is n) (bounds scope.Table) named in
+      let there = own.at_name p o os html (of kind.Section) h in
+      pick _ (and_from _ _ h scoped)
+      (ap (λ r. Taken (closed true r)) (none_cleared (of kind.Section) q there))
+  end_own InRow h = pick _
+      (and_from _ _ h (own.reached p o os html (of kind.Tr) (bounds scope.Table) h))
+      (ap (λ r. Taken (closed true r))
+      (none_cleared (of kind.Tr) q (own.at_name p o os html (of kind.Tr) h)))
   end_own InCell h =
       let scoped = own.reached p o os html (is n) (bounds scope.Table) named in
       rw (h, scoped) (ap Taken (part_ended (of kind.Cell) h
       (unimplied kind.Cell (unfold names in refl) h)))
   end_own _ h = absurd (false≢true h)
 
-  -- in the mode of the body around it, where it is no part of a table
-  end_around : (m : Mode) → is_body_mode m ≡ true → of kind.TablePart n ≡ false →
-      of kind.Table n ≡ false → of kind.Root n ≡ false → of kind.Br n ≡ false →
-      AreBegun (o ∷ os) p → by_mode m (End n) q ≡ Taken (closed true q)
-  end_around InBody h part table root br l = rw (root, br) (ap Taken (end_element l))
-  end_around InCaption h part table root br l =
-      let x = parts n os part in
-      rw (x.3, table, part, root, br) (ap Taken (end_element l))
-  end_around InCell h part table root br l =
-      let x = parts n os part in
-      rw (x.0, x.1, x.2, table, part, root, br) (ap Taken (end_element l))
-  end_around _ h part table root br l = absurd (false≢true h)
+  -- in a body around it, where it is no part of a table
+  module _ (part : of kind.TablePart n ≡ false) (table : of kind.Table n ≡ false)
+      (root : of kind.Root n ≡ false) (br : of kind.Br n ≡ false)
+      (plain : of kind.Template n ≡ false) (l : AreBegun (o ∷ os) p) where
+    end_in_body : in_body_end n q ≡ Taken (closed true q)
+    end_in_body = skip _ root (skip _ br (ap Taken (end_element plain l)))
+
+    end_in_part : (test : List ℕ → Bool) (closes : Bool) → closes ≡ false →
+        in_part_end test closes n q ≡ Taken (closed true q)
+    end_in_part test closes h = skip _ h
+        (skip _ (or_from _ _ (or_from _ _ part table) root) end_in_body)
+
+    -- in its mode
+    end_around : (m : Mode) → is_body_mode m ≡ true → by_mode m (End n) q ≡ Taken (closed true q)
+    end_around InBody h = end_in_body
+    end_around InCaption h = end_in_part (of kind.Caption) _ (or_from _ _ (parts n os part).3 table)
+    end_around InCell h =
+        let x = parts n os part in
+        end_in_part (of kind.Cell) _
+        (and_left _ _ (or_from _ _ (or_from _ _ (or_from _ _ x.0 x.1) x.2) table))
+    end_around _ h = absurd (false≢true h)
 
   -- either way
-  end_html : (l : Place) → is_void n ≡ false → AreBegun (o ∷ os) p → Stands n os l →
+  end_html : (l : Place) → is_void n ≡ false → of kind.Template n ≡ false →
+      AreBegun (o ∷ os) p → Stands n os l →
       (l ≡ place.Body → named_mode n os ≡ None → is_body_mode (mode (o ∷ os)) ≡ true) →
       by_mode (mode q.stack) (End n) q ≡ Taken (closed true q)
-  end_html l filled kept (inl s) steady =
+  end_html l filled plain kept (inl s) steady =
       ap (λ m. by_mode m (End n) q) (own_mode o os s.mode html s.is) ∙ end_own s.mode s.is
-  end_html l filled kept (inr s) steady = end_around (mode q.stack) (steady s.body s.none)
-      s.part s.table s.root (outside_of is_void kind.Br n (unfold names in refl) filled) kept
+  end_html l filled plain kept (inr s) steady = end_around s.part s.table s.root
+      (outside_of is_void kind.Br n (unfold names in refl) filled) plain kept (mode q.stack)
+      (steady s.body s.none)
 
 -- the current node, an element of SVG or MathML
 module _ (p : Page) (o : OpenElement) (os : List OpenElement)
@@ -213,12 +236,17 @@ module _ (above : List Ancestor) (h : Head) (kids : NodesView) (p : Page) (o : O
   turn_html alike steady t once html =
       let here : is_html o.space ≡ true = space_html _ _ same ∙ html in
       skip _ (ap not here)
-      (ap (λ m. by_mode (mode w.stack) (End m) w) (small_html _ _ html keeps ∙ sym same.name)
-      ∙ end_html p o os here (place_of above) (ap is_void same.name ∙ (or_parts _ _ once).1) kept
+      (ap (λ m. by_mode m (End (lowered h.name)) w) (stack_mode w (record {
+        templates = kept.ordinary.templates;
+        framesets = kept.ordinary.framesets;
+      }))
+      ∙ (ap (λ m. by_mode (mode w.stack) (End m) w) (small_html _ _ html keeps ∙ sym same.name)
+      ∙ end_html p o os here (place_of above) (ap is_void same.name ∙ (or_parts _ _ once).1)
+      (ap (of kind.Template) same.name ∙ t) kept
       (subst (λ m. Stands m os (place_of above)) (sym same.name)
       (html_stands above h kids os alike page rules html t once))
       (λ body none. around_steady above os alike steady body o
-      (either (is_html o.space) (λ e. none) (λ e. refl))))
+      (either (is_html o.space) (λ e. none) (λ e. refl)))))
 
   turn_foreign : nest.is_html s ≡ false → turn (End (lowered h.name)) w ≡ Taken (closed true w)
   turn_foreign foreign =
@@ -239,7 +267,12 @@ end_taken above h kids p o os e calm steady page rules once =
     let alike : AreAlike (ancestor h above ∷ above) (o ∷ os) =
     subst (AreAlike (ancestor h above ∷ above)) e calm.alike in
     let kept : AreBegun (o ∷ os) p = subst (λ s. AreBegun s p) e
-    (record { ordered = calm.ordered; form = calm.form }) in
+    (record {
+      ordered = calm.ordered;
+      form = calm.form;
+      moved = calm.moved;
+      ordinary = calm.ordinary;
+    }) in
     subst (λ s. token_read (End (lowered h.name)) (record p { stack = s })
     ≡ closed true (record p { stack = s })) (sym e)
     (turn_taken (End (lowered h.name)) (record p { stack = o ∷ os })

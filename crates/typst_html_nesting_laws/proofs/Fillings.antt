@@ -1,14 +1,13 @@
 -- An element is opened, filled and closed: what stands in it leads to a page with one child more.
-use Rattle.std.proofs.Common.{◌≡◌, ℕ, ◌+◌, Bool, true, false, ◌&&◌, ◌||◌, List, [], ◌∷◌, ◌++◌, codes, refl, sym, ap, ◌∙◌, arith, None}
+use Rattle.std.proofs.Common.{◌≡◌, ℕ, ◌+◌, Bool, true, false, not, ◌&&◌, ◌||◌, ◌==◌, List, [], ◌∷◌, ◌++◌, codes, length, refl, sym, ap, ◌∙◌, arith, None, Some}
 use Rattle.std.proofs.lemmas.Bool.{and_from, and_left, and_parts, and_right, both_ways, false_from_ne_true, false≢true, not_from_false}
-use Rattle.std.specs.{List.{fold}, Prelude.{if◌then◌else◌, Option}}
+use Rattle.std.specs.Prelude.{if◌then◌else◌, Option}
 use Rattle.html_names_core.specs.{Characters.{IsOf, all, is_tag_char, is_text_char}, Kinds.{is_escapable_raw, is_raw}}
 use Rattle.html_dom_tree.specs.PlainTree.{branch, Plains, plain, put_words, nodes_normal}
 use Rattle.html_dom_tree.specs.Tree.{Head, NodeView, text_node, element_node, NodesView, none, node, with_last}
 use Rattle.html_page_nesting.specs.{Ancestors.{Ancestor, is_html, reading_of, space_of}, WrittenTags.{begins_with_letter}}
-use Rattle.html_page_nesting.specs.Contents.{begin_with_feed, is_escaped, is_raw_when_read, state_behind}
+use Rattle.html_page_nesting.specs.{Contents.{begin_with_feed, is_raw_when_read}, ScriptTexts.{hides_end}}
 use Rattle.html_page_nesting.specs.WrittenTexts.{has_return, is_empty}
-use Rattle.html_page_nesting.specs.declared.content.ScriptState.TheVariants as state
 use Rattle.typst_html_encode.proofs.{Plainly.{shut}, References.{raw_good}, Runs.{left_empty, right_empty, test_fails}}
 use Rattle.typst_html_encode.specs.{Content.{by_kind, content_kind}, FrameWriters.{Frames}, Reader.{drops_feed}}
 use Rattle.typst_html_encode.specs.ExportFaults.{closing_faults, nodes_faults, nodes_raw_faults, raw_content_faults}
@@ -19,7 +18,7 @@ use Rattle.html_text.specs.ClosingTags.{holds_closing}
 use Rattle.html_page_names.specs.{ForeignNames.{lowered}, PageNames.{of}}
 use Rattle.html_page_names.specs.declared.kind.Kind.TheVariants as kind
 use Rattle.html_page_stack.specs.{Formats.{Formats, after_current}, Pages.{Page, StartTag, End, Start, closed, form_after}}
-use Rattle.html_page_stack.specs.OpenElements.{OpenElement, is_at, is_of, is_removed, placed, uncovered, with_text}
+use Rattle.html_page_stack.specs.OpenElements.{OpenElement, is_at, is_of, is_removed, placed, uncovered, with_text, without_current}
 use Rattle.html_page_stack.specs.OpenElements as open_elements
 use Rattle.html_page_stack.specs.declared.modes.Space.TheVariants as spaces
 use Rattle.html_page_tree.specs.PageTrees.{token_read}
@@ -27,7 +26,7 @@ use Rattle.html_page_read.specs.{PageReading.{run}, PageTokens.{PageReader}}
 use Rattle.typst_html_nesting_laws.proofs.{Alike.{html_is, html_space}, Branches.{decide, of_two, pick, second_false, skip}, Closed.{closed_is, still_open}}
 use Rattle.typst_html_nesting_laws.proofs.{EndTags.{end_emits}, RawTexts.{IsWithin, escapable_emits, raw_emits}}
 use Rattle.typst_html_nesting_laws.proofs.Forms.{AreGathered, IsFilled, Moment, are_texts, filled_normal, later, on, put_last, put_nodes, put_texted, put_texts, texted_children, texts_by_faults, with_text_is}
-use Rattle.typst_html_nesting_laws.proofs.InnerTexts.{feed_is, first_feed, none_closes, plain_texts, plains_written, states_of, texts_clean, texts_good, texts_written}
+use Rattle.typst_html_nesting_laws.proofs.InnerTexts.{feed_is, first_feed, joined_is, none_closes, plain_texts, plains_written, texts_clean, texts_good, texts_written}
 use Rattle.typst_html_nesting_laws.proofs.KindFacts.{dropped_feed, escapable_same, feed_dropped, not_escapable, raw_keeps, script_or_style}
 use Rattle.typst_html_nesting_laws.proofs.ListedFormats.{IsInOrder, order_closed, order_without_text}
 use Rattle.typst_html_nesting_laws.proofs.{Rules.{ContentFits, ForeignFits}, Ways.{begun, begun_element}}
@@ -45,9 +44,9 @@ fresh_behind fresh (node n ns) = fresh_behind (fresh_after fresh n) ns
 
 -- behind a start tag of an element that is no element of text alone
 pub behind_data : (tag : StartTag) (place : ℕ) (p : Page) → is_at (of kind.Raw) p.stack ≡ false →
-    behind (Start tag) place p
+    is_at (of kind.Plaintext) p.stack ≡ false → behind (Start tag) place p
     ≡ data_at (of kind.DropsFeed tag.name && is_at (of kind.DropsFeed) p.stack) (place + 1) p
-behind_data tag place p h = rw h refl
+behind_data tag place p h k = rw (h, k) refl
 
 behind_raw : (tag : StartTag) (place : ℕ) (p : Page) → is_at (of kind.Raw) p.stack ≡ true →
     behind (Start tag) place p
@@ -88,24 +87,29 @@ module _ (above : List Ancestor) (h : Head) (p : Page) (o : OpenElement) (os : L
   last_form = form_after true (opened ∷ around) opened_page.form
 
   -- it is that before its start tag, unless it is a form in another
-  pub form_back : (is_of (of kind.Form) opened ≡ true → p.form ≡ None) → last_form ≡ p.form
-  form_back alone = decide (is_of (of kind.Form) opened)
+  pub form_back : p.templates ≡ [] → (is_of (of kind.Form) opened ≡ true → p.form ≡ None) →
+      last_form ≡ p.form
+  form_back ordinary alone = ap (λ ts. form_after true (opened ∷ around)
+      (if not (not (length ts == 0)) && is_of (of kind.Form) opened then Some m.start else p.form))
+      ordinary ∙ decide (is_of (of kind.Form) opened)
       (λ h. pick _ (and_from _ _ h refl) (sym (alone h)))
       (λ h. skip _ (and_left _ _ h) (skip _ h refl))
 
   abbrev page_of : List OpenElement → Option ℕ → Moment → Page
   page_of stack form n = record p {
     text = [];
+    moved = false;
     stack = stack;
     start = n.start;
     formats = n.formats;
     form = form;
   }
 
-  pub closes : is_removed o.space ≡ false → last_form ≡ p.form → (children : NodesView)
+  pub closes : p.templates ≡ [] → is_removed o.space ≡ false → last_form ≡ p.form →
+      (children : NodesView)
       (words : List ℕ) (n : Moment) → closed true (on opened_page opened around children words n)
       ≡ on p o os (with_child (texted_children m.start children words)) [] (closed_moment n)
-  closes stays form children words n =
+  closes ordinary stays form children words n =
       let y : OpenElement = with_text t (record o { children = c }) in
       let x : OpenElement = record opened { children = texted_children m.start children words } in
       let z : OpenElement = record o {
@@ -113,8 +117,8 @@ module _ (above : List Ancestor) (h : Head) (p : Page) (o : OpenElement) (os : L
       } in
       let behind = closed_moment n in
       closed_is (record opened { children = children }) around
-      (on opened_page opened around children words n)
-      ∙ (ap (λ w. page_of (uncovered (placed w y ∷ os)) last_form behind)
+      (on opened_page opened around children words n) refl ordinary
+      ∙ (ap (λ w. page_of (uncovered (without_current (w ∷ y ∷ os))) last_form behind)
       (with_text_is words opened children)
       ∙ (ap (λ w. page_of (uncovered (placed x w ∷ os)) last_form behind) (with_text_is t o c)
       ∙ (ap (λ s. page_of s last_form behind) (still_open z os stays)
@@ -129,7 +133,7 @@ module _ (above : List Ancestor) (h : Head) (p : Page) (o : OpenElement) (os : L
       ∙ put_texted o.head.span c t (plain (branch h.name h.attrs (nodes_normal kids)) k))
 
   -- from the start tag to the end tag
-  abbrev pub element_closed : is_removed o.space ≡ false → last_form ≡ p.form →
+  abbrev pub element_closed : p.templates ≡ [] → is_removed o.space ≡ false → last_form ≡ p.form →
       (q behind_start : PageReader) (rest : List ℕ) (kids : NodesView) → run q (start_tag_text h) ≡ behind_start →
       IsFilled behind_start rest h.name kids opened_page opened around →
       ((children : NodesView) (words : List ℕ) (n : Moment) →
@@ -137,7 +141,7 @@ module _ (above : List Ancestor) (h : Head) (p : Page) (o : OpenElement) (os : L
       token_read (End (lowered h.name)) (on opened_page opened around children words n)
       ≡ closed true (on opened_page opened around children words n)) →
       AreGathered q (start_tag_text h ++ rest) false p o os c t (node (element_node h kids) none)
-  element_closed stays form q behind_start rest kids starts f ends =
+  element_closed ordinary stays form q behind_start rest kids starts f ends =
       let kept = texted_children m.start f.children f.words in
       let after : Page = on p o os (with_child kept) [] (closed_moment f.moment) in
       record {
@@ -147,7 +151,7 @@ module _ (above : List Ancestor) (h : Head) (p : Page) (o : OpenElement) (os : L
         moment = closed_moment f.moment;
         ordered = order_behind f.moment.formats f.ordered;
         is = run_on q behind_start _ (start_tag_text h) rest starts (f.is after
-            (ends f.children f.words f.moment f.ordered ∙ closes stays form f.children f.words f.moment));
+            (ends f.children f.words f.moment f.ordered ∙ closes ordinary stays form f.children f.words f.moment));
         same = child_normal kept kids (filled_normal m.start f);
       }
 
@@ -262,12 +266,13 @@ module _ (frames : Frames) (level : ℕ) (above : List Ancestor) (h : Head) (kid
   Filled place = IsFilled (behind (Start (written_tag h)) place page)
       (filling frames level h kids) h.name kids page it outer
 
-  data_filled : is_of (of kind.Raw) it ≡ false → KidsAreGathered frames level kids page it outer →
+  data_filled : is_of (of kind.Raw) it ≡ false → is_of (of kind.Plaintext) it ≡ false →
+      KidsAreGathered frames level kids page it outer →
       (pre_span : Bool) → nodes_faults frames pre_span false kids ≡ [] →
       inside frames level h kids ≡ nodes_text frames pre_span true (shut level) kids →
       (is_fed h kids ≡ true → drops ≡ true) → (is_fed h kids ≡ false →
       drops ≡ true → begin_with_feed kids ≡ false) → (place : ℕ) → Filled place
-  data_filled raw all pre_span f same x y place = rw (raw, same)
+  data_filled raw plaintext all pre_span f same x y place = rw (raw, plaintext, same)
       (fed frames level h.name kids page it outer (is_fed h kids) drops
       (nodes_text frames pre_span true (shut level) kids ++ end_tag_text h.name) (place + 1)
       (opened_moment above h p o os c t m) order x y (λ fresh place n ordered first.
@@ -293,9 +298,11 @@ module _ (frames : Frames) (level : ℕ) (above : List Ancestor) (h : Head) (kid
     no_feed e d = of_two (feed_dropped h.name (it_drops d))
         (λ k. sym (feed_is kids returns) ∙ second_false e k) fits.listing
 
-    pub html_filled : of kind.Raw h.name ≡ false → is_raw h.name ≡ false → is_escapable_raw h.name
-        ≡ false → KidsAreGathered frames level kids page it outer → (place : ℕ) → Filled place
-    html_filled raw r e all place = data_filled (and_right _ _ raw) all h.pre_span
+    pub html_filled : of kind.Raw h.name ≡ false → of kind.Plaintext h.name ≡ false →
+        is_raw h.name ≡ false → is_escapable_raw h.name ≡ false →
+        KidsAreGathered frames level kids page it outer → (place : ℕ) → Filled place
+    html_filled raw plaintext r e all place =
+        data_filled (and_right _ _ raw) (and_right _ _ plaintext) all h.pre_span
         (rw (r, e) at faultless) (rw (r, e) refl) fed_drops no_feed place
 
     -- of text alone
@@ -330,9 +337,8 @@ module _ (frames : Frames) (level : ℕ) (above : List Ancestor) (h : Head) (kid
         same = put_texts kids texts;
       }
 
-      script_ends : of kind.Script h.name ≡ true →
-          is_escaped (fold state_behind state.Data (nodes_raw_text kids)) ≡ false
-      script_ends e = sym (ap is_escaped (states_of state.Data kids)) ∙ fits.script e
+      script_ends : of kind.Script h.name ≡ true → hides_end (nodes_raw_text kids) ≡ false
+      script_ends e = sym (ap hides_end (joined_is kids)) ∙ fits.script e
 
       -- in which no references are read
       pub raw_filled : is_escapable_raw h.name ≡ false → inside frames level h kids
@@ -398,7 +404,7 @@ module _ (frames : Frames) (level : ℕ) (above : List Ancestor) (h : Head) (kid
         inside frames level h kids ≡ nodes_text frames pre_span true (shut level) kids →
         (place : ℕ) → Filled place
     by_nodes pre_span f same place = data_filled (ap (λ b. b && of kind.Raw h.name) html_not)
-        all pre_span f same fed_not (λ x d. absurd (false≢true (sym drops_not ∙ d))) place
+        (ap (λ b. b && of kind.Plaintext h.name) html_not) all pre_span f same fed_not (λ x d. absurd (false≢true (sym drops_not ∙ d))) place
 
     pub foreign_filled : (r e : Bool) → is_raw h.name ≡ r → is_escapable_raw h.name ≡ e →
         (place : ℕ) → Filled place

@@ -1,13 +1,14 @@
 -- Children that are gathered, with the text since the last of them, and their normal form.
 use Rattle.std.proofs.Common.{◌≡◌, ℕ, Bool, true, false, List, [], ◌∷◌, ◌++◌, refl, sym, ap, ◌∙◌}
+use Rattle.std.proofs.lemmas.Bool.{false≢true}
 use Rattle.html_dom_tree.{proofs.Basics.{put_twice}, specs.PlainTree.{branch, Plains, no_plains, plain, put_words, nodes_normal}}
 use Rattle.html_dom_tree.specs.Tree.{NodeView, tag_node, text_node, element_node, NodesView, none, node, with_last}
 use Rattle.typst_html_encode.{proofs.Runs.{right_empty}, specs.{ExportFaults.{nodes_raw_faults, void_faults}, Text.{nodes_raw_text}}}
 use Rattle.html_page_names.specs.ForeignNames.{lowered}
-use Rattle.html_page_stack.specs.{Formats.{Formats}, OpenElements.{OpenElement, with_text}, Pages.{Page, End}}
+use Rattle.html_page_stack.specs.{Formats.{Formats}, OpenElements.{OpenElement, end_in_text, joined, with_longer_last, with_text}, Pages.{Page, End}}
 use Rattle.html_page_tree.specs.PageTrees.{token_read}
 use Rattle.html_page_read.specs.{PageReading.{run}, PageTokens.{PageReader}}
-use Rattle.typst_html_nesting_laws.proofs.{ListedFormats.{IsInOrder}, Readers.{data_at, run_on}}
+use Rattle.typst_html_nesting_laws.proofs.{Branches.{decide}, ListedFormats.{IsInOrder}, Readers.{data_at, run_on}}
 
 -- plain nodes behind a node, and behind nodes
 abbrev pub put_node : NodeView → Plains → Plains
@@ -35,17 +36,26 @@ put_last (node m ms) n k = ap (put_node m) (put_last ms n k)
 -- children with a text behind them
 abbrev pub texted_children : (span : ℕ) → NodesView → (text : List ℕ) → NodesView
 texted_children span c [] = c
-texted_children span c (x ∷ xs) = with_last c (text_node (x ∷ xs) span)
+texted_children span c (x ∷ xs) = joined (x ∷ xs) span c
 
 pub with_text_is : (t : List ℕ) (o : OpenElement) (c : NodesView) → with_text t
     (record o { children = c }) ≡ record o { children = texted_children o.head.span c t }
 with_text_is [] o c = refl
 with_text_is (x ∷ xs) o c = refl
 
+-- a text that joins the last child
+put_longer : (ns : NodesView) (t : List ℕ) (k : Plains) → end_in_text ns ≡ true →
+    put_nodes (with_longer_last t ns) k ≡ put_nodes ns (put_words t k)
+put_longer none t k h = absurd (false≢true h)
+put_longer (node (text_node s span) none) t k h = sym (put_twice s t k)
+put_longer (node n none) t k h = absurd (false≢true h)
+put_longer (node n (node m ms)) t k h = ap (put_node n) (put_longer (node m ms) t k h)
+
 pub put_texted : (span : ℕ) (c : NodesView) (t : List ℕ) (k : Plains) →
     put_nodes (texted_children span c t) k ≡ put_nodes c (put_words t k)
 put_texted span c [] k = refl
-put_texted span c (x ∷ xs) k = put_last c (text_node (x ∷ xs) span) k
+put_texted span c (x ∷ xs) k = decide (end_in_text c)
+    (λ e. rw e (put_longer c (x ∷ xs) k e)) (λ e. rw e (put_last c (text_node (x ∷ xs) span) k))
 
 -- texts and tags alone
 abbrev pub are_texts : NodesView → Bool
@@ -86,6 +96,7 @@ later s m = record m { start = s }
 abbrev pub on : Page → OpenElement → List OpenElement → NodesView → (text : List ℕ) → Moment → Page
 on p o os c t m = record p {
   text = t;
+  moved = false;
   stack = record o { children = c } ∷ os;
   start = m.start;
   formats = m.formats;

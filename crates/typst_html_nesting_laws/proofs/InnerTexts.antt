@@ -1,14 +1,14 @@
 -- The texts in an element that breaks no rule, and how they are written.
 use Rattle.std.proofs.Common.{◌≡◌, ℕ, suc, Bool, true, false, ◌||◌, List, [], ◌∷◌, ◌++◌, None, refl, sym, ap, ◌∙◌, arith}
 use Rattle.std.proofs.{Math.Bool.{or-false}, lemmas.Bool.{and_from, and_parts, false≢true, not-true, or_from, or_parts}}
-use Rattle.std.proofs.lemmas.{Bool.Decides.{nat_tests}, List.{Folds.{list_all-append, list_any-append}, Sums.{fold-append}}}
-use Rattle.std.specs.{Char.{to_ascii_lowercase}, List.{fold, list_all}, Prelude.{◌==◌}}
+use Rattle.std.proofs.lemmas.{Bool.Decides.{nat_tests}, List.Folds.{list_all-append, list_any-append}}
+use Rattle.std.specs.{Char.{to_ascii_lowercase}, List.{list_all}, Prelude.{◌==◌}}
 use Rattle.html_names_core.{proofs.Basics.{all_append}, specs.Characters.{all, is_element_text_char, is_text_char}}
-use Rattle.html_dom_tree.specs.Tree.{tag_node, text_node, NodesView, none, node}
-use Rattle.html_page_nesting.specs.{Ancestors.{Ancestor}, Contents.{are_plain, begin_with_feed, state_behind, state_behind_nodes}}
+use Rattle.html_dom_tree.specs.Tree.{tag_node, text_node, element_node, frame_node, NodesView, none, node}
+use Rattle.html_page_nesting.specs.{Ancestors.{Ancestor}, Contents.{are_plain, begin_with_feed}, ScriptTexts.{joined_text}}
 use Rattle.html_page_nesting.specs.{Misnested.{node_misnested, nodes_misnested}, NestingRules.{text_misnesting}}
 use Rattle.html_page_nesting.specs.{Surroundings.{surroundings_of}, WrittenTexts.{has_return, is_plain_char, is_plain_text, is_return}}
-use Rattle.html_page_nesting.specs.declared.{content.ScriptState.{ScriptState}, surroundings.Surroundings.{Surroundings}}
+use Rattle.html_page_nesting.specs.declared.surroundings.Surroundings.{Surroundings}
 use Rattle.html_page_nesting.specs.declared.misnesting.Misnesting.TheVariants as why
 use Rattle.typst_html_encode.proofs.{Escapes.{escaped_text-append}, Plainly.{shut}, References.{text_good}, Runs.{left_empty, right_empty}}
 use Rattle.typst_html_encode.specs.{ExportFaults.{node_faults, nodes_faults, text_faults}, FrameWriters.{Frames}}
@@ -53,13 +53,13 @@ first_feed (node (text_node [] span) ns) a h = first_feed ns a h
 first_feed (node (text_node (c ∷ cs) span) ns) a h = h
 first_feed (node n ns) a h = absurd (false≢true a)
 
-pub states_of : (s : ScriptState) (ns : NodesView) →
-    state_behind_nodes s ns ≡ fold state_behind s (nodes_raw_text ns)
-states_of s none = refl
-states_of s (node (tag_node t) ns) = states_of s ns
-states_of s (node (text_node text span) ns) = states_of (fold state_behind s text) ns
-    ∙ sym (fold-append state_behind s text (nodes_raw_text ns))
-states_of s (node n ns) = states_of s ns
+-- both join the same texts
+pub joined_is : (ns : NodesView) → joined_text ns ≡ nodes_raw_text ns
+joined_is none = refl
+joined_is (node (tag_node t) ns) = joined_is ns
+joined_is (node (text_node s span) ns) = ap (λ l. s ++ l) (joined_is ns)
+joined_is (node (element_node h kids) ns) = joined_is ns
+joined_is (node (frame_node f) ns) = joined_is ns
 
 plain_text_chars : (pre_span : Bool) (s : List ℕ) → is_plain_text pre_span s ≡ true →
     list_all is_plain_char s ≡ true

@@ -9,12 +9,12 @@ use Rattle.html_page_nesting.specs.declared.reading.Space.TheVariants.{Html, Svg
 use Rattle.html_page_nesting.specs.declared.reading.Reading.TheVariants as reading
 use Rattle.html_page_names.specs.{ForeignNames.{keeps_case, lowered, svg_attrs, svg_names, math_attrs}, PageNames.{of}}
 use Rattle.html_page_names.specs.declared.kind.Kind.TheVariants as kind
-use Rattle.html_page_stack.specs.Pages.{Page, StartTag, added_to, closed, opened, opened_to}
+use Rattle.html_page_stack.specs.{OpenElements.{at, is_table_context}, Pages.{Page, StartTag, added_to, closed, opened, opened_here, opened_to}}
 use Rattle.html_page_stack.specs.declared.modes.Destination.TheVariants.{Parent}
 use Rattle.html_page_stack.specs.declared.modes.Space.TheVariants as spaces
 use Rattle.html_page_tree.specs.PageBodies.{entered, foreign_attrs, foreign_name}
 use Rattle.typst_html_nesting_laws.proofs.Capitals.{attrs_back, attrs_come_back, attrs_small, capitals_back, names_lowered_differ, small_back}
-use Rattle.typst_html_nesting_laws.proofs.{KindFacts.{agree_of, fails_of, names}, Opened.{Opens, adds, adds_in, letter_plain, made, one_of, opens, opens_to}, Rules.{TagFits}}
+use Rattle.typst_html_nesting_laws.proofs.{KindFacts.{agree_of, fails_of, names}, Opened.{Opens, adds, adds_in, letter_plain, made, one_of, opens, opens_here, opens_to}, Rules.{TagFits}}
 use Rattle.typst_html_nesting_laws.proofs.{Readers.{lowered_attrs, written_tag}, Ways.{open_space}, Branches.{decide}}
 
 -- its attributes differ in small letters
@@ -46,23 +46,31 @@ module _ (h : Head) (p : Page) (fits : length p.stack < p.limit) where
   abbrev tag : StartTag
   tag = written_tag h
 
-  pub entered_back : (s : Space) → TagFits s h → entered (open_space s) tag p
+  pub entered_back : at is_table_context p.stack ≡ false → (s : Space) → TagFits s h →
+      entered (open_space s) tag p
       ≡ one_of (is_foreign_self_closing h.name) (made (open_space s) h.name h.attrs p)
-  entered_back s kept =
+  entered_back outside s kept =
       let plain = letter_plain h.name kept.letter in
       rw (
         name_back s h.name kept.case,
         pairs_back s h.attrs kept.attrs,
-        opens (open_space s) h.name h.attrs p plain fits,
-        adds_in (open_space s) h.name h.attrs p plain fits,
+        opens (open_space s) h.name h.attrs p plain outside fits,
+        adds_in (open_space s) h.name h.attrs p plain outside fits,
       ) refl
 
   -- by the rules of HTML
-  pub opened_back : (s : Space) → s ≡ Html → TagFits s h →
-      opened tag.name tag.attrs p ≡ made (open_space s) h.name h.attrs p
-  opened_back Html e kept = rw (small_back h.name kept.case, attrs_small h.attrs kept.attrs)
-      (opens spaces.Html h.name h.attrs p (letter_plain h.name kept.letter) fits)
-  opened_back s e kept = absurd (cc)
+  pub opened_back : at is_table_context p.stack ≡ false → (s : Space) → s ≡ Html →
+      TagFits s h → opened tag.name tag.attrs p ≡ made (open_space s) h.name h.attrs p
+  opened_back outside Html e kept =
+      rw (small_back h.name kept.case, attrs_small h.attrs kept.attrs)
+      (opens spaces.Html h.name h.attrs p (letter_plain h.name kept.letter) outside fits)
+  opened_back outside s e kept = absurd (cc)
+
+  pub here_back : (s : Space) → s ≡ Html → TagFits s h →
+      opened_here tag.name tag.attrs p ≡ made (open_space s) h.name h.attrs p
+  here_back Html e kept = rw (small_back h.name kept.case, attrs_small h.attrs kept.attrs)
+      (opens_here h.name h.attrs p (letter_plain h.name kept.letter) fits)
+  here_back s e kept = absurd (cc)
 
   pub placed_back : (s : Space) → s ≡ Html → TagFits s h →
       opened_to Parent spaces.Html tag.name tag.attrs p ≡ made (open_space s) h.name h.attrs p
@@ -80,10 +88,11 @@ module _ (h : Head) (p : Page) (fits : length p.stack < p.limit) where
   ) refl
   added_back s e kept = absurd (cc)
 
-  begun_back : (s t : Space) → s ≡ t → TagFits s h → is_foreign_self_closing h.name ≡ false →
+  begun_back : at is_table_context p.stack ≡ false → (s t : Space) → s ≡ t → TagFits s h →
+      is_foreign_self_closing h.name ≡ false →
       entered (open_space t) tag p ≡ made (open_space s) h.name h.attrs p
-  begun_back s t e kept c = ap (λ x. entered (open_space x) tag p) (sym e)
-      ∙ (entered_back s kept ∙ ap (λ b. one_of b (made (open_space s) h.name h.attrs p)) c)
+  begun_back outside s t e kept c = ap (λ x. entered (open_space x) tag p) (sym e)
+      ∙ (entered_back outside s kept ∙ ap (λ b. one_of b (made (open_space s) h.name h.attrs p)) c)
 
 -- a name that is read by the rules of HTML has no capitals
 
@@ -111,10 +120,12 @@ pub written_opens : (h : Head) (p : Page) (s : Space) → length p.stack < p.lim
     s ≡ begun_space h.name → TagFits s h → lowered h.name ≡ h.name → is_foreign_self_closing h.name
     ≡ false → Opens (written_tag h) p (made (open_space s) h.name h.attrs p)
 written_opens h p s fits is kept small c = record {
-  plain = λ a b. opened_back h p fits s (is ∙ rw (rw small at a, rw small at b) refl) kept;
+  plain = λ outside a b.
+      opened_back h p fits outside s (is ∙ rw (rw small at a, rw small at b) refl) kept;
+  here = λ a b. here_back h p fits s (is ∙ rw (rw small at a, rw small at b) refl) kept;
   placed = λ a b. placed_back h p fits s (is ∙ rw (rw small at a, rw small at b) refl) kept;
   added = λ a b. added_back h p fits s (is ∙ rw (rw small at a, rw small at b) refl) kept;
-  svg = λ a. begun_back h p fits s Svg (is ∙ rw (rw small at a) refl) kept c;
-  math = λ a. let m = rw small at a in begun_back h p fits s MathMl
+  svg = λ outside a. begun_back h p fits outside s Svg (is ∙ rw (rw small at a) refl) kept c;
+  math = λ outside a. let m = rw small at a in begun_back h p fits outside s MathMl
       (is ∙ rw (fails_of (of kind.Svg) kind.Math h.name (unfold names in refl) m, m) refl) kept c;
 }

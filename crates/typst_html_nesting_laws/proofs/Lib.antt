@@ -11,6 +11,7 @@ pub mod EndTags
 pub mod Ended
 pub mod Fillings
 pub mod Forms
+pub mod Fragments
 pub mod InnerTexts
 pub mod KeptTags
 pub mod KindFacts
@@ -25,9 +26,11 @@ pub mod References
 pub mod RootParts
 pub mod Roots
 pub mod Rules
+pub mod ScriptDepths
 pub mod Stands
 pub mod StartTags
 pub mod Steady
+pub mod Tables
 pub mod TagChars
 pub mod Taken
 pub mod Texts

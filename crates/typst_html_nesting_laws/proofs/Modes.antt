@@ -6,7 +6,7 @@ use Rattle.html_page_nesting.specs.declared.reading.Place.TheVariants as place
 use Rattle.html_page_names.specs.{PageNames.{kind_names, of}, declared.kind.Kind.{Kind}}
 use Rattle.html_page_names.specs.declared.kind.Kind.TheVariants as kind
 use Rattle.html_page_stack.specs.{OpenElements.{OpenElement, is_at, is_html, mode, named_mode}, declared.modes.Mode.{Mode}}
-use Rattle.html_page_stack.specs.declared.modes.Mode.TheVariants.{InHead, InHeadNoscript, InText, InTable, InCaption, InColumns, InSection, InRow, InCell}
+use Rattle.html_page_stack.specs.declared.modes.Mode.TheVariants.{InHead, InHeadNoscript, InText, InTable, InCaption, InColumns, InSection, InRow, InCell, InTemplate}
 use Rattle.typst_html_nesting_laws.proofs.KindFacts.{agree_of, names}
 
 -- an element of that name brings that mode, in which its own end tag ends it
@@ -22,7 +22,7 @@ brings InRow n os = of kind.Tr n
 brings InCell n os = of kind.Cell n
 brings m n os = false
 
-brought_by : (n : List ℕ) (os : List OpenElement) (k : Kind) (m : Mode) → map (λ l. named_mode l os)
+pub brought_by : (n : List ℕ) (os : List OpenElement) (k : Kind) (m : Mode) → map (λ l. named_mode l os)
     (kind_names k) ≡ map (λ l. Some m) (kind_names k) → of k n ≡ true → named_mode n os ≡ Some m
 brought_by n os k m same h = agree_of (λ l. named_mode l os) (λ l. Some m) k n same h
 
@@ -48,6 +48,13 @@ brought _ n os h = absurd (false≢true h)
 pub own_mode : (o : OpenElement) (os : List OpenElement) (m : Mode) → is_html o.space ≡ true →
     brings m o.head.name os ≡ true → mode (o ∷ os) ≡ m
 own_mode o os m html h = rw (html, brought m o.head.name os h) refl
+
+-- where a `template` is
+pub template_mode : (o : OpenElement) (os : List OpenElement) → is_html o.space ≡ true →
+    of kind.Template o.head.name ≡ true → mode (o ∷ os) ≡ InTemplate
+unfolding names
+template_mode o os html h =
+    rw (html, brought_by o.head.name os kind.Template InTemplate refl h) refl
 
 -- an element that brings none stands in the mode around it
 pub mode_around : (o q : OpenElement) (qs : List OpenElement) →

@@ -28,7 +28,8 @@ use Rattle.typst_html_nesting_laws.proofs.Forms.{AreGathered, IsFilled, Moment, 
 use Rattle.typst_html_nesting_laws.proofs.{KeptTags.{lowered_differ, small_html}, KindFacts.{escapable_of, once_keeps, raw_of}}
 use Rattle.typst_html_nesting_laws.proofs.ListedFormats.{IsInOrder}
 use Rattle.typst_html_nesting_laws.proofs.{Readers.{Emits, Takes, behind, data_at, written_tag}, StartTags.{start_emits}}
-use Rattle.typst_html_nesting_laws.proofs.Rules.{ContentFits, TagFits, content_fits, foreign_fits, form_alone, found_none, html_read, still_no_page, tag_fits}
+use Rattle.typst_html_nesting_laws.proofs.Rules.{ContentFits, TagFits, content_fits, foreign_fits, form_alone, found_none, html_read, named_kept, still_no_page, tag_fits}
+use Rattle.typst_html_nesting_laws.proofs.Stands.{named_no_plaintext}
 use Rattle.typst_html_nesting_laws.proofs.{Steady.{steady_begun}, Taken.{body_takes, raw_takes, white_takes}}
 use Rattle.typst_html_nesting_laws.{proofs.Texts.{begins_with_lf, text_leads}, specs.TreesStay.{NodeIsReadable, NodesAreReadable}}
 use Rattle.typst_html_nesting_laws.proofs.Ways.{AreAlike, IsCalm, IsSteady, ends_at_once, form_of, is_page_place}
@@ -41,6 +42,7 @@ pub record IsInside (above : List Ancestor) (p : Page) (o : OpenElement) (os : L
   pub steady : (c : NodesView) → IsSteady above (record o { children = c } ∷ os)
   pub place : is_page_place (place_of above) ≡ false
   pub raw : is_of (of kind.Raw) o ≡ false
+  pub plaintext : is_of (of kind.Plaintext) o ≡ false
   pub limit : 512 < p.limit
 
 -- nodes there, at some index of a parent, in which nothing is misnested
@@ -113,6 +115,9 @@ calm_on above p o os c t m e calm order = record {
   alike = alike_with above (subst (AreAlike above) e calm.alike);
   ordered = order;
   form = calm.form ∙ ap form_of e;
+  moved = refl;
+  ordinary =
+      record { templates = calm.ordinary.templates; framesets = calm.ordinary.framesets };
   tables = calm.tables;
   plain = calm.plain;
 } where
@@ -229,10 +234,14 @@ module _ (frames : Frames) (level : ℕ) {above : List Ancestor} {h : Head} {kid
     stays : is_removed o.space ≡ false
     stays = never_removed above (record o { children = c }) os (there.calm c t m order).alike
 
+    -- no `template` is open
+    lone : p.templates ≡ []
+    lone = (there.calm c t m order).ordinary.templates
+
     returns : last_form above h p o os c t m ≡ p.form
     returns =
         let calm = there.calm c t m order in
-        form_back above h p o os c t m (λ e. let both = and_parts _ _ e in calm.form
+        form_back above h p o os c t m lone (λ e. let both = and_parts _ _ e in calm.form
         ∙ no_form above (record o { children = c } ∷ os) calm.alike calm.plain
         (form_alone above h kids there.place f.fits (sym (html_is space) ∙ both.0) both.1))
 
@@ -249,6 +258,15 @@ module _ (frames : Frames) (level : ℕ) {above : List Ancestor} {h : Head} {kid
     steady_outer = subst (λ x. IsSteady above (x ∷ os)) (sym (with_text_is t o c))
         (there.steady (texted_children o.head.span c t))
 
+    no_plaintext : is_html space ≡ true → of kind.Plaintext h.name ≡ false
+    no_plaintext x = let around = surroundings_of above in
+        named_no_plaintext (place_of above) h.name around there.place
+        (named_kept h kids around f.fits (html_read _ _ x))
+
+    plaintext_it : is_of (of kind.Plaintext) it ≡ false
+    plaintext_it = decide (is_html space) (λ x. and_right _ _ (no_plaintext x))
+        (λ x. ap (λ b. b && of kind.Plaintext h.name) (html_is space ∙ x))
+
     inside_it : ends_at_once h ≡ false → (is_html (space_of (reading_of above) h.name)
         && of kind.Raw h.name) ≡ false → IsInside (ancestor h above ∷ above) page it outer
     inside_it e r = record {
@@ -258,6 +276,7 @@ module _ (frames : Frames) (level : ℕ) {above : List Ancestor} {h : Head} {kid
           (record { name = refl; attrs = refl; space = refl });
       place = still_no_page above h kids there.place f.fits;
       raw = ap (λ b. b && of kind.Raw h.name) (html_is (space_of (reading_of above) h.name)) ∙ r;
+      plaintext = plaintext_it;
       limit = there.limit;
     }
 
@@ -300,7 +319,7 @@ module _ (frames : Frames) (level : ℕ) {above : List Ancestor} {h : Head} {kid
           (is_raw h.name) (is_escapable_raw h.name) refl refl place
       by_kind true false x y =
           html_filled frames level above h kids p o os c t m calm_page.ordered f.named.0
-          tag.letter returns g x (small x) (content x) y
+          tag.letter returns g x (small x) (content x) y (no_plaintext x)
           (false_from_ne_true _ (λ r. both_ways _ y (raw_of h.name r)))
           (false_from_ne_true _ (λ r. both_ways _ y (escapable_of h.name r)))
           (gathered (and_right _ _ y)) place
@@ -335,7 +354,7 @@ module _ (frames : Frames) (level : ℕ) {above : List Ancestor} {h : Head} {kid
         let after : Page = on p o os (with_child above h p o os c t at_start none) [] last in
         let ends : token_read (Start (written_tag h)) (on p o os c t at_start) ≡ after = begins
         ∙ (ap (λ b. if b then closed true (page at_start order) else page at_start order) e
-        ∙ closes above h p o os c t at_start (stays at_start order) (returns at_start order) none []
+        ∙ closes above h p o os c t at_start (lone at_start order) (stays at_start order) (returns at_start order) none []
         (opened_moment above h p o os c t at_start)) in
         record {
           children = with_child above h p o os c t at_start none;
@@ -345,7 +364,7 @@ module _ (frames : Frames) (level : ℕ) {above : List Ancestor} {h : Head} {kid
           ordered = order_behind above h p o os c t at_start (page at_start order).formats
               (calm_page at_start order).ordered;
           is = ap (run before) (append-nil (start_tag_text h)) ∙ (starts.is after ends
-              ∙ (behind_data (written_tag h) starts.place after there.raw
+              ∙ (behind_data (written_tag h) starts.place after there.raw there.plaintext
               ∙ ap (λ b. data_at b (starts.place + 1) after)
               (and_left _ _ (once_keeps h.name e))));
           same = child_normal above h p o os c t at_start none kids (no_children h.span kids clean);
@@ -355,7 +374,7 @@ module _ (frames : Frames) (level : ℕ) {above : List Ancestor} {h : Head} {kid
     whole : AreLed frames kids → ends_at_once h ≡ false → inside_faults frames h kids ≡ [] →
         AreGathered before (start_tag_text h ++ filling frames level h kids) false p o os c t
         (node (element_node h kids) none)
-    whole led e g = element_closed above h p o os c t at_start (stays at_start order)
+    whole led e g = element_closed above h p o os c t at_start (lone at_start order) (stays at_start order)
         (returns at_start order) before
         (behind (Start (written_tag h)) starts.place (page at_start order)) (filling frames level h kids)
         kids (starts.is (page at_start order) (begins

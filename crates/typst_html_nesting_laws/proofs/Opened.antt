@@ -7,12 +7,12 @@ use Rattle.html_page_nesting.specs.{Contents.{has_unread_end}, WrittenTags.{begi
 use Rattle.html_page_read.proofs.PageStretches.{other}
 use Rattle.html_page_names.specs.PageNames.{of}
 use Rattle.html_page_names.specs.declared.kind.Kind.TheVariants as kind
-use Rattle.html_page_stack.specs.Pages.{Page, StartTag, added_in, added_to, destination_of, closed, opened, opened_in, opened_to, settled, with_element}
-use Rattle.html_page_stack.specs.Pages.{made as tag_made}
+use Rattle.html_page_stack.specs.Pages.{Page, StartTag, added_in, added_to, destination_of, closed, opened, opened_here, opened_in, opened_to, settled, with_element}
+use Rattle.html_page_stack.specs.{OpenElements.{at, is_table_context}, Pages.{made as tag_made}}
 use Rattle.html_page_stack.specs.declared.modes.{Destination.TheVariants.{Parent}, Space.{Space}}
 use Rattle.html_page_stack.specs.declared.modes.Space.TheVariants as spaces
 use Rattle.html_page_tree.specs.PageBodies.{entered, head_element, leaf}
-use Rattle.typst_html_nesting_laws.proofs.{Branches.{either, second_false, second_true}, KindFacts.{agree_in, fails_of, names, passes_of}}
+use Rattle.typst_html_nesting_laws.proofs.{Branches.{either, second_false, second_true, skip}, KindFacts.{agree_in, fails_of, names, passes_of}, Tables.{parent_there}}
 
 -- the page with an element opened
 abbrev pub made : Space → (name : List ℕ) → List TextPair → Page → Page
@@ -36,27 +36,40 @@ pub opens_to : (space : Space) (name : List ℕ) (attrs : List TextPair) (p : Pa
 opens_to space name attrs p h = rw (lt-leb p.limit (length p.stack) h) refl
 
 pub opens : (space : Space) (name : List ℕ) (attrs : List TextPair) (p : Page) →
-    destination_of name ≡ Parent → length p.stack < p.limit →
-    opened_in space name attrs p ≡ made space name attrs p
-opens space name attrs p plain h = ap (λ d. opened_to d space name attrs p) plain
+    destination_of name ≡ Parent → at is_table_context p.stack ≡ false →
+    length p.stack < p.limit → opened_in space name attrs p ≡ made space name attrs p
+opens space name attrs p plain outside h =
+    ap (λ d. opened_to d space name attrs p) (skip _ outside plain)
     ∙ opens_to space name attrs p h
 
-pub adds_in : (space : Space) (name : List ℕ) (attrs : List TextPair) (p : Page) →
+-- by the rules of a table, also in one
+pub opens_here : (name : List ℕ) (attrs : List TextPair) (p : Page) →
     destination_of name ≡ Parent → length p.stack < p.limit →
-    added_in space name attrs p ≡ closed true (made space name attrs p)
-adds_in space name attrs p plain h = ap (λ d. added_to d space name attrs p) plain
-    ∙ adds space name attrs p h
+    opened_here name attrs p ≡ made spaces.Html name attrs p
+opens_here name attrs p plain h = ap (λ d. opened_to d spaces.Html name attrs p) plain
+    ∙ opens_to spaces.Html name attrs p h
 
--- a tag opens that element by the rules of HTML
+pub adds_in : (space : Space) (name : List ℕ) (attrs : List TextPair) (p : Page) →
+    destination_of name ≡ Parent → at is_table_context p.stack ≡ false →
+    length p.stack < p.limit → added_in space name attrs p ≡ closed true (made space name attrs p)
+adds_in space name attrs p plain outside h =
+    ap (λ d. added_to d space name attrs p) (skip _ outside plain) ∙ adds space name attrs p h
+
+-- a tag opens that element by the rules of HTML, those of a body where they insert into the current
+-- node
 pub record Opens (tag : StartTag) (p q : Page) : Type 0 where
-  pub plain : of kind.Svg tag.name ≡ false → of kind.Math tag.name ≡ false →
-      opened tag.name tag.attrs p ≡ q
+  pub plain : at is_table_context p.stack ≡ false → of kind.Svg tag.name ≡ false →
+      of kind.Math tag.name ≡ false → opened tag.name tag.attrs p ≡ q
+  pub here : of kind.Svg tag.name ≡ false → of kind.Math tag.name ≡ false →
+      opened_here tag.name tag.attrs p ≡ q
   pub placed : of kind.Svg tag.name ≡ false → of kind.Math tag.name ≡ false →
       opened_to Parent spaces.Html tag.name tag.attrs p ≡ q
   pub added : of kind.Svg tag.name ≡ false → of kind.Math tag.name ≡ false →
       added_to Parent spaces.Html tag.name tag.attrs p ≡ closed true q
-  pub svg : of kind.Svg tag.name ≡ true → entered spaces.Svg tag p ≡ q
-  pub math : of kind.Math tag.name ≡ true → entered spaces.MathMl tag p ≡ q
+  pub svg : at is_table_context p.stack ≡ false → of kind.Svg tag.name ≡ true →
+      entered spaces.Svg tag p ≡ q
+  pub math : at is_table_context p.stack ≡ false → of kind.Math tag.name ≡ true →
+      entered spaces.MathMl tag p ≡ q
 
 -- elements that are their start tags alone
 
@@ -75,17 +88,20 @@ not_void n a b c =
 
 -- elements of the head
 module _ (tag : StartTag) (p q : Page) (ops : Opens tag p q) where
-  pub leaf_begun : of kind.Svg tag.name ≡ false → of kind.Math tag.name ≡ false →
-      leaf tag p ≡ closed true q
-  leaf_begun a b = ops.added a b
+  pub leaf_begun : at is_table_context p.stack ≡ false → of kind.Svg tag.name ≡ false →
+      of kind.Math tag.name ≡ false → leaf tag p ≡ closed true q
+  leaf_begun outside a b =
+      ap (λ d. added_to d spaces.Html tag.name tag.attrs p) (parent_there p.stack outside)
+      ∙ ops.added a b
 
-  pub head_begun : of kind.HeadContent tag.name ≡ true → has_unread_end tag.name ≡ false →
-      head_element Parent tag p ≡ one_of (is_void tag.name) q
-  head_begun h e =
+  pub head_begun : of kind.HeadContent tag.name ≡ true → of kind.Template tag.name ≡ false →
+      has_unread_end tag.name ≡ false → head_element Parent tag p ≡ one_of (is_void tag.name) q
+  head_begun h t e =
       let svg = fails_of (of kind.Svg) kind.HeadContent tag.name (unfold names in refl) h in
       let math = fails_of (of kind.Math) kind.HeadContent tag.name (unfold names in refl) h in
       let leaf_or_whole = passes_of (λ n. of kind.HeadLeaf n || not (is_void n)) kind.HeadContent
       tag.name (unfold names in refl) h in
       either (of kind.HeadLeaf tag.name)
       (λ k. rw (void_of tag.name e (or_right _ _ k)) (ops.added svg math))
-      (λ k. rw (not-true (is_void tag.name) (second_true leaf_or_whole k)) (ops.placed svg math))
+      (λ k. rw (not-true (is_void tag.name) (second_true leaf_or_whole k))
+      (skip _ t (ops.placed svg math)))

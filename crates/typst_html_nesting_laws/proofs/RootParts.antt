@@ -18,6 +18,7 @@ pub record IsPart (n : List ℕ) : Type 0 where
   pub closed_alone : is_foreign_self_closing n ≡ false
   pub void : is_void n ≡ false
   pub raw : of kind.Raw n ≡ false
+  pub plaintext : of kind.Plaintext n ≡ false
   pub form : of kind.Form n ≡ false
   pub written_raw : is_raw n ≡ false
   pub escapable : is_escapable_raw n ≡ false
@@ -35,6 +36,7 @@ part_of n h = record {
   closed_alone = none is_foreign_self_closing refl;
   void = none is_void refl;
   raw = none (of kind.Raw) refl;
+  plaintext = none (of kind.Plaintext) refl;
   form = none (of kind.Form) refl;
   written_raw = none is_raw refl;
   escapable = none is_escapable_raw refl;

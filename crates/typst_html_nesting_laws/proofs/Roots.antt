@@ -1,5 +1,5 @@
 -- The text of a page is read as its root: the document type, `html`, `head`, `body`, and the end.
-use Rattle.std.proofs.Common.{◌≡◌, ℕ, ◌+◌, ◌<◌, Bool, true, false, List, [], ◌∷◌, ◌++◌, codes, length, refl, sym, ap, subst, ◌∙◌, append-nil, append_assoc, arith, None, Ok}
+use Rattle.std.proofs.Common.{◌≡◌, ℕ, ◌+◌, ◌<◌, Bool, true, false, not, ◌==◌, List, [], ◌∷◌, ◌++◌, codes, length, refl, sym, ap, subst, ◌∙◌, append-nil, append_assoc, arith, None, Ok}
 use Rattle.std.{proofs.lemmas.Bool.{and_left, and_parts, and_right, both_ways, false≢true}, specs.Prelude.{if◌then◌else◌}}
 use Rattle.html_names_core.specs.Names.{stands_in}
 use Rattle.html_dom_tree.{proofs.Basics.{put_twice}, specs.PlainTree.{branch, Plains, no_plains, plain, put_words, nodes_normal}}
@@ -17,15 +17,15 @@ use Rattle.typst_html_encode.specs.Text.{end_tag_text, escaped_text, escaping_of
 use Rattle.html_page_names.specs.{ForeignNames.{lowered}, PageNames.{of}}
 use Rattle.html_page_names.specs.declared.kind.Kind.TheVariants as kind
 use Rattle.html_page_stack.{proofs.Children.{element_counts}, specs.declared.modes.Mode.{Mode}}
-use Rattle.html_page_stack.specs.OpenElements.{OpenElement, all_completed, completed, has_elements, is_removed, mode, with_text}
+use Rattle.html_page_stack.specs.OpenElements.{OpenElement, at, completed, has_elements, is_removed, is_table_context, mode, placed, root_of, with_text}
 use Rattle.html_page_stack.specs.Pages.{Notes, Page, Token, Char, Start, End, Finish, closed, first_page, opened, settled, Taken}
 use Rattle.html_page_stack.specs.declared.modes.Mode.TheVariants.{BeforeHtml, BeforeHead, InHead, AfterHead, InBody}
 use Rattle.html_page_stack.specs.declared.modes.Space.TheVariants as spaces
 use Rattle.html_page_stack.specs.declared.modes.TableRule.TheVariants as rule
-use Rattle.html_page_tree.specs.PageTrees.{by_mode, token_read}
-use Rattle.html_page_read.specs.{DocumentTypes.{table_rule}, PageReading.{PageResult, answered, first_reader, page_result, run}}
+use Rattle.html_page_tree.specs.PageTrees.{behind_token, by_mode, text_ended, token_read}
+use Rattle.html_page_read.specs.{DocumentTypes.{table_rule}, PageReading.{PageResult, answered, first_reader, page_result, root_made, run}}
 use Rattle.html_page_read.specs.PageTokens.{PageReader, finished}
-use Rattle.typst_html_nesting_laws.proofs.{Branches.{else_none}, Closed.{calm_begun}, EndTags.{end_emits}, InnerTexts.{no_return}}
+use Rattle.typst_html_nesting_laws.proofs.{Branches.{else_none, skip}, Closed.{calm_begun}, EndTags.{end_emits}, InnerTexts.{no_return}}
 use Rattle.typst_html_nesting_laws.proofs.Fillings.{around, behind_data, element_closed, form_back, inside_faults, nodes_filled, opened as opened_element, opened_moment, opened_page}
 use Rattle.typst_html_nesting_laws.proofs.Forms.{AreGathered, IsFilled, Moment, filled_normal, later, normal_is, on, put_last, put_nodes, put_texted, texted_children, with_text_is}
 use Rattle.typst_html_nesting_laws.proofs.{KeptTags.{opened_back}, KindFacts.{names}, Rules.{found_none, tag_fits}, Texts.{text_leads}}
@@ -33,7 +33,7 @@ use Rattle.typst_html_nesting_laws.proofs.ListedFormats.{IsInOrder, order_opened
 use Rattle.typst_html_nesting_laws.proofs.Nodes.{ElementFits, IsInside, NodesFit, calm_on, element_fits, element_starts, kids_gathered, nodes_lead, rest, rest_fits, text_fits}
 use Rattle.typst_html_nesting_laws.proofs.Readers.{Emits, Takes, data_at, lowered_attrs, run_on, started, written_tag}
 use Rattle.typst_html_nesting_laws.proofs.RootParts.{IsPart, begins_named, mode_of, name_of, part_names, part_of}
-use Rattle.typst_html_nesting_laws.{proofs.Turns.{html_token, mode_taken}, specs.TreesStay.{NodeIsReadable, TreesStay, no_notes}}
+use Rattle.typst_html_nesting_laws.{proofs.{Tables.{is_table_mode, outside_texts, text_kept}, Turns.{IsOrdinary, html_token, mode_taken}}, specs.TreesStay.{NodeIsReadable, TreesStay, no_notes}}
 use Rattle.typst_html_nesting_laws.proofs.Ways.{IsCalm, begun, begun_element, ends_at_once, is_body_mode, is_page_place, open_space}
 
 -- one of the three elements, where it breaks no rule and is without a fault
@@ -56,17 +56,20 @@ module _ {frames : Frames} {above : List Ancestor} {h : Head} {kids : NodesView}
   part_starts place p = element_starts x.fits x.values false place p
 
   -- the reader behind it
-  part_begun : (place : ℕ) (p : Page) → length p.stack < p.limit → ((s : ℕ) → token_read
-      (Start (written_tag h)) (started s p) ≡ opened (lowered h.name) (lowered_attrs h.attrs)
-      (started s p)) → run (data_at false place p) (start_tag_text h) ≡ data_at false
+  part_begun : (place : ℕ) (p : Page) → length p.stack < p.limit →
+      at is_table_context p.stack ≡ false → ((s : ℕ) → token_read (Start (written_tag h))
+      (started s p) ≡ text_ended (opened (lowered h.name) (lowered_attrs h.attrs) (started s p))) →
+      run (data_at false place p) (start_tag_text h) ≡ data_at false
       ((part_starts place p).place + 1) (begun h above (started (part_starts place p).start p))
-  part_begun place p limit reads =
+  part_begun place p limit outside reads =
       let e = part_starts place p in
       let before = started e.start p in
       let after = begun h above before in
-      e.is after (reads e.start ∙ opened_back h before limit (space_of (reading_of above) h.name)
-      part_space (tag_fits h kids (surroundings_of above) x.fits.fits))
+      e.is after (reads e.start ∙ ap text_ended (opened_back h before limit outside
+      (space_of (reading_of above) h.name) part_space
+      (tag_fits h kids (surroundings_of above) x.fits.fits)))
       ∙ (behind_data (written_tag h) e.place after (and_right _ _ x.part.raw)
+      (and_right _ _ x.part.plaintext)
       ∙ ap (λ b. data_at b (e.place + 1) after) (and_left _ _
       (ap (of kind.DropsFeed) x.part.small ∙ x.part.drops)))
 
@@ -113,7 +116,7 @@ root_same e h = record { root = h.root; is = h.is; head = h.head; same = h.same 
 
 -- the root that is made where one element stands in it, and no text behind
 abbrev root_at : OpenElement → OpenElement → ElementView
-root_at u v = all_completed u (v ∷ [])
+root_at u v = ((placed u v).head, (placed u v).children)
 
 abbrev made_at : OpenElement → OpenElement → Notes → PageResult
 made_at u v notes = Ok (root_at u v, notes)
@@ -123,6 +126,7 @@ pub record InRoot (above : List Ancestor) (p : Page) (o : OpenElement) : Type 0 
   pub calm : (c : NodesView) (t : List ℕ) (m : Moment) → IsInOrder (o ∷ []) m.formats →
       IsCalm above (on p o [] c t m)
   pub tables : p.tables ≡ rule.ClosesP
+  pub ordinary : IsOrdinary p
   pub limit : 512 < p.limit
   pub notes : p.notes ≡ no_notes
   pub refusal : p.refusal ≡ None
@@ -157,13 +161,21 @@ module _ {above : List Ancestor} {p : Page} {o : OpenElement} (inner : InRoot ab
   -- tokens within `html`, whose mode is by whether it has the head
   root_taken : (token : Token) (c : NodesView) (t : List ℕ) (m : Moment) (b : Bool) (r : Page) →
       has_elements c ≡ b → by_mode (if b then AfterHead else BeforeHead) token (on p o [] c t m)
-      ≡ Taken r → token_read token (on p o [] c t m) ≡ r
+      ≡ Taken r → token_read token (on p o [] c t m) ≡ behind_token token r
   root_taken token c t m b r has h =
       let it : OpenElement = record o { children = c } in
       mode_taken token (on p o [] c t m) (if b then AfterHead else BeforeHead) r
-      inner.tables (html_token token it [] inner.space)
+      inner.tables (record {
+        templates = inner.ordinary.templates;
+        framesets = inner.ordinary.framesets;
+      }) (html_token token it [] inner.space)
       (unfold names in (mode_of (codes "html") it [] inner.name inner.space)
       ∙ ap (λ x. if x then AfterHead else BeforeHead) has) h
+
+  -- it is no table
+  root_outside : (c : NodesView) → at is_table_context (record o { children = c } ∷ []) ≡ false
+  unfolding names
+  root_outside c = rw (inner.space, inner.name) refl
 
   -- white space behind the head
   white_there : (c : NodesView) (t : List ℕ) (m : Moment) → has_elements c ≡ true →
@@ -213,9 +225,10 @@ module _ {frames : Frames} {above : List Ancestor} {h : Head} {kids : NodesView}
 
   begun_there : run reader (start_tag_text h) ≡ data_at false (begins.place + 1) page
   begun_there = part_begun x level here (on p o [] c t m)
-      (omega (arith, inner.limit)) (λ start. root_taken inner (Start (written_tag h)) c t
-      (later start m) has (opened (lowered h.name) (lowered_attrs h.attrs)
-      (on p o [] c t (later start m))) elements (opens (on p o [] c t (later start m))))
+      (omega (arith, inner.limit)) (root_outside inner c)
+      (λ start. root_taken inner (Start (written_tag h)) c t (later start m) has
+      (opened (lowered h.name) (lowered_attrs h.attrs) (on p o [] c t (later start m))) elements
+      (opens (on p o [] c t (later start m))))
 
   -- nodes are read in it
   there : IsInside (ancestor h above ∷ above) page it outer
@@ -225,6 +238,7 @@ module _ {frames : Frames} {above : List Ancestor} {h : Head} {kids : NodesView}
     steady = λ children e. ap is_body_mode (mode_it children) ∙ steady (sym stands ∙ e);
     place = ap is_page_place stands ∙ inside;
     raw = and_right _ _ x.part.raw;
+    plaintext = and_right _ _ x.part.plaintext;
     limit = inner.limit;
   }
 
@@ -236,9 +250,12 @@ module _ {frames : Frames} {above : List Ancestor} {h : Head} {kids : NodesView}
   -- a token in it
   own_taken : (token : Token) (children : NodesView) (words : List ℕ) (n : Moment) (r : Page) →
       by_mode own token (on page it outer children words n) ≡ Taken r →
-      token_read token (on page it outer children words n) ≡ r
+      token_read token (on page it outer children words n) ≡ behind_token token r
   own_taken token children words n r h = mode_taken token
-      (on page it outer children words n) own r calm_page.tables
+      (on page it outer children words n) own r calm_page.tables (record {
+        templates = calm_page.ordinary.templates;
+        framesets = calm_page.ordinary.framesets;
+      })
       (html_token token (record it { children = children }) outer html_it) (mode_it children) h
 
   -- the head, whose end tag closes it
@@ -246,8 +263,8 @@ module _ {frames : Frames} {above : List Ancestor} {h : Head} {kids : NodesView}
       (g : AreGathered reader (start_tag_text h ++ rest frames level h kids) false p o [] c t
       (node (element_node h kids) none)) × (has_elements g.children ≡ true)
   head_read closes = (
-    element_closed above h p o [] c t at_start (ap is_removed inner.space)
-        (form_back above h p o [] c t at_start (λ e. absurd (both_ways _ x.part.form
+    element_closed above h p o [] c t at_start inner.ordinary.templates (ap is_removed inner.space)
+        (form_back above h p o [] c t at_start inner.ordinary.templates (λ e. absurd (both_ways _ x.part.form
         (and_parts _ _ e).1))) reader (data_at false (begins.place + 1) page)
         (rest frames level h kids) kids begun_there filled
         (λ children words n order_in. own_taken (End (lowered h.name)) children words n
@@ -258,14 +275,15 @@ module _ {frames : Frames} {above : List Ancestor} {h : Head} {kids : NodesView}
   )
 
   -- the body, whose end tag and that of the root do nothing
-  body_read : ((n : List ℕ) → of kind.Root n ≡ true → (q : Page) →
-      by_mode own (End n) q ≡ Taken q) → ((q : Page) → by_mode own Finish q ≡ Taken q) →
+  body_read : is_table_mode own ≡ false → ((n : List ℕ) → of kind.Root n ≡ true → (q : Page) →
+      by_mode own (End n) q ≡ Taken q) →
+      ((q : Page) → q.templates ≡ [] → by_mode own Finish q ≡ Taken q) →
       of kind.Root (lowered h.name) ≡ true → (root : List ℕ) → of kind.Root (lowered root) ≡ true →
       ((fresh : Bool) (place : ℕ) (q : Page) →
       Emits (data_at fresh place q) (end_tag_text root) (End (lowered root)) q) → RootIsRead
       (run reader ((start_tag_text h ++ rest frames level h kids) ++ end_tag_text root)) o
       (put_nodes c (put_words t (plain (branch h.name h.attrs (nodes_normal kids)) no_plains)))
-  body_read stays finishes is_own root is_root ends =
+  body_read outside stays finishes is_own root is_root ends =
       let children = filled.children in
       let words = filled.words in
       let last : ℕ → Page = λ start. on page it outer children words (later start filled.moment) in
@@ -274,21 +292,25 @@ module _ {frames : Frames} {above : List Ancestor} {h : Head} {kids : NodesView}
       let y : OpenElement = with_text t (record o { children = c }) in
       let z : OpenElement = record it { children = texted_children begins.start children words } in
       let w : OpenElement = record o { children = texted_children o.head.span c t } in
+      let goes_on : (start : ℕ) → text_ended (last start) ≡ last start =
+      λ start. text_kept (last start) (outside_texts (record it { children = children } ∷ outer)
+      (ap is_table_mode (mode_it children) ∙ outside)) in
       let ended : (n : List ℕ) (start : ℕ) → of kind.Root n ≡ true → token_read (End n) (last start)
       ≡ last start = λ n start k. own_taken (End n) children words (later start filled.moment)
-      (last start) (stays n k (last start)) in
+      (last start) (stays n k (last start)) ∙ goes_on start in
       let whole =
       run_on reader _ _ (start_tag_text h ++ rest frames level h kids) (end_tag_text root)
       (run_on reader _ _ (start_tag_text h) (rest frames level h kids) begun_there
       (filled.is (last first) (ended (lowered h.name) first is_own)))
       (e.is (last e.start) (ended (lowered root) e.start is_root)) in
       let over = own_taken Finish children words (later (e.place + 1) filled.moment)
-      (last (e.place + 1)) (finishes (last (e.place + 1))) in
+      (last (e.place + 1)) (finishes (last (e.place + 1)) calm_page.ordinary.templates) ∙ goes_on (e.place + 1) in
+      let end : Page = settled (last (e.place + 1)) in
       record {
         root = root_at z w;
         is = ap (λ r. page_result (finished r).page) whole ∙ (ap page_result over
-            ∙ (ap (λ f. answered f (settled (last (e.place + 1)))) inner.refusal
-            ∙ (ap (λ u. made_at u y p.notes) (with_text_is words it children)
+            ∙ (ap (λ f. answered f end) inner.refusal
+            ∙ (ap (λ u. root_made (root_of (u ∷ y ∷ [])) end) (with_text_is words it children)
             ∙ (ap (λ v. made_at z v p.notes) (with_text_is t o c) ∙ ap (made_at z w) inner.notes))));
         head = refl;
         same = normal_is (with_last w.children (completed z))
@@ -346,7 +368,8 @@ module _ (frames : Frames) (pre_span : Bool) (level : ℕ) {above : List Ancesto
         body_read (level + 1) x inner c t m order place true has
         (λ q. rw (no_html, is_body) refl) InBody
         (λ it os e html. mode_of (codes "body") it os (e ∙ name) html) places.Body
-        (place_part (codes "body") x name) refl (λ e. refl) root_stays (λ q. refl)
+        (place_part (codes "body") x name) refl (λ e. refl) refl root_stays
+        (λ q e. skip _ (ap (λ ts. not (length ts == 0)) e) refl)
         (ap (of kind.Root) low) root is_root ends
 
     head_first : h.name ≡ codes "head" → has_elements c ≡ false →
@@ -456,10 +479,13 @@ module _ (frames : Frames) (limit : ℕ) (h : Head) (kids : NodesView) (deep : 5
       alike = (record { name = refl; attrs = refl; space = refl }, tt);
       ordered = order;
       form = refl;
+      moved = refl;
+      ordinary = record { templates = refl; framesets = refl };
       tables = refl;
       plain = (x.fits.template, tt);
     };
     tables = refl;
+    ordinary = record { templates = refl; framesets = refl };
     limit = deep;
     notes = refl;
     refusal = refl;
@@ -477,9 +503,10 @@ module _ (frames : Frames) (limit : ℕ) (h : Head) (kids : NodesView) (deep : 5
       let low : lowered h.name ≡ codes "html" = x.part.small ∙ name in
       let nodes = nodes_text frames h.pre_span true (shut 0) kids ++ end_tag_text h.name in
       let begins : (s : ℕ) → token_read (Start (written_tag h)) (started s (typed limit))
-      ≡ opened (lowered h.name) (lowered_attrs h.attrs) (started s (typed limit)) =
+      ≡ text_ended (opened (lowered h.name) (lowered_attrs h.attrs) (started s (typed limit))) =
       λ s. mode_taken (Start (written_tag h)) (started s (typed limit)) BeforeHtml
-      (opened (lowered h.name) (lowered_attrs h.attrs) (started s (typed limit))) refl refl refl
+      (opened (lowered h.name) (lowered_attrs h.attrs) (started s (typed limit))) refl
+      (record { templates = refl; framesets = refl }) refl refl
       (begins_named (codes "html") (written_tag h) (started s (typed limit)) low) in
       root_on (first_reader limit 0) (data_at false 15 (typed limit)) (codes "<!DOCTYPE html>")
       ((start_tag_text h ++ rest frames 0 h kids) ++ []) (type_read limit)
@@ -488,7 +515,7 @@ module _ (frames : Frames) (limit : ℕ) (h : Head) (kids : NodesView) (deep : 5
       ∙ ap (λ l. start_tag_text h ++ l) (part_rest x 0))
       (root_on (data_at false 15 (typed limit)) (data_at false (starts.place + 1) root_page)
       (start_tag_text h) nodes
-      (part_begun x 0 15 (typed limit) (omega (arith, deep)) begins)
+      (part_begun x 0 15 (typed limit) (omega (arith, deep)) refl begins)
       (first_read frames h.pre_span 0 in_root h.name (ap (of kind.Root) low)
       (λ fresh at q. end_emits h.name x.fits.named.0 tag.letter fresh at q) kids true
       (starts.place + 1) (record { start = starts.start; formats = root_page.formats })

@@ -5,8 +5,8 @@ use Rattle.std.specs.Prelude.{if◌then◌else◌, Option, Some, None}
 use Rattle.html_names_core.specs.Kinds.{is_foreign_self_closing, is_raw, is_void}
 use Rattle.html_dom_tree.specs.{Attributes.{names_differ}, Tree.{Head, NodesView}}
 use Rattle.html_page_nesting.specs.Ancestors.{Ancestor, ancestor, begun_space, foreign_space, is_html, is_in, is_read_as_html, place_in, place_of, reading_of, space_of}
-use Rattle.html_page_nesting.specs.Contents.{are_plain, begin_with_feed, content_misnesting, has_unread_end, hold_comment, is_listing, is_raw_when_read}
-use Rattle.html_page_nesting.specs.{Misnested.{found}, Surroundings.{surroundings_of}, WrittenTexts.{has_return}}
+use Rattle.html_page_nesting.specs.Contents.{are_plain, begin_with_feed, content_misnesting, has_unread_end, is_listing, is_raw_when_read}
+use Rattle.html_page_nesting.specs.{Misnested.{found}, ScriptTexts.{hides_end, joined_text}, Surroundings.{surroundings_of}, WrittenTexts.{has_return}}
 use Rattle.html_page_nesting.specs.NestingRules.{breaks_out, element_misnesting, has_place, is_never_read, named_misnesting, read_misnesting}
 use Rattle.html_page_nesting.specs.WrittenTags.{begins_with_letter, capital_attrs, capital_tags, keep_case, tag_misnesting}
 use Rattle.html_page_nesting.specs.declared.{misnesting.Misnesting.{Misnesting}, reading.{Space.{Space}, Place.{Place}, Reading.{Reading}}}
@@ -41,7 +41,7 @@ pub record ContentFits (h : Head) (kids : NodesView) : Type 0 where
   pub ends : has_unread_end h.name ≡ false
   pub plain : is_raw_when_read h.name ≡ true → are_plain h.pre_span kids ≡ true
   pub listing : is_listing h.name ≡ true → begin_with_feed kids ≡ false
-  pub script : of kind.Script h.name ≡ true → hold_comment kids ≡ false
+  pub script : of kind.Script h.name ≡ true → hides_end (joined_text kids) ≡ false
 
 -- an element that is read by those for SVG and MathML
 pub record StaysForeign (h : Head) (kids : NodesView) : Type 0 where

@@ -4,7 +4,7 @@ use Rattle.std.{proofs.lemmas.Bool.{and_from, both_ways, false≢true, or_parts}
 use Rattle.html_names_core.specs.Kinds.{is_void}
 use Rattle.html_dom_tree.specs.Tree.{Head, NodesView}
 use Rattle.html_page_nesting.specs.{Ancestors.{Ancestor, is_in, place_in, place_of, reading_of, space_of}, Surroundings.{surroundings_of}}
-use Rattle.html_page_nesting.specs.NestingRules.{body_misnesting, element_misnesting, is_in_tables, named_misnesting}
+use Rattle.html_page_nesting.specs.NestingRules.{body_misnesting, element_misnesting, has_place, is_in_tables, is_never_read, named_misnesting}
 use Rattle.html_page_nesting.specs.declared.{reading.Place.{Place}, surroundings.Surroundings.{Surroundings}}
 use Rattle.html_page_nesting.specs.Ancestors as nest
 use Rattle.html_page_nesting.specs.declared.misnesting.Misnesting.TheVariants as why
@@ -13,8 +13,8 @@ use Rattle.html_page_names.specs.{PageNames.{kind_names, of}, declared.kind.Kind
 use Rattle.html_page_names.specs.declared.kind.Kind.TheVariants as kind
 use Rattle.html_page_stack.specs.{OpenElements.{OpenElement, is_at, named_mode}, declared.modes.Mode.{Mode}}
 use Rattle.html_page_stack.specs.declared.modes.Mode.TheVariants.{InHeadNoscript, InText, InTable, InCaption, InColumns, InSection, InRow, InCell}
-use Rattle.typst_html_nesting_laws.proofs.{Alike.{at_is}, Branches.{first_false, first_true, if_none, second_true, decide, of_two}}
-use Rattle.typst_html_nesting_laws.proofs.{KindFacts.{AllPass, names, outside_of, passes_of}, Modes.{brings, place_test, placed}}
+use Rattle.typst_html_nesting_laws.proofs.{Alike.{at_is}, Branches.{else_none, first_false, first_true, if_none, second_true, decide, of_two}}
+use Rattle.typst_html_nesting_laws.proofs.{KindFacts.{AllPass, names, none_of, outside_of, passes_of}, Modes.{brings, place_test, placed}}
 use Rattle.typst_html_nesting_laws.proofs.{Rules.{content_fits, has, html_read, named_kept}, Ways.{AreAlike, ends_at_once, is_page_place}}
 
 -- an element of that name brings a mode
@@ -53,11 +53,12 @@ module _ (n : List ℕ) (os : List OpenElement) where
   own p m h = inl (record { mode = m; is = h })
 
   -- in a body
-  in_body : (around : Surroundings) → body_misnesting n around ≡ None → Stands n os place.Body
-  in_body around h =
+  in_body : of kind.Template n ≡ false → (around : Surroundings) →
+      body_misnesting n around ≡ None → Stands n os place.Body
+  in_body plain around h =
       let part = if_none why.OutsideTable h in
       let read = if_none why.NeverRead part.1 in
-      let never = or_parts _ _ read.0 in
+      let never = or_parts _ _ (or_parts _ _ read.0).0 in
       let some = or_parts _ _ never.0 in
       let root = or_parts _ _ some.0 in
       let body = outside_of (of kind.Root) kind.Body n (unfold names in refl) root.0 in
@@ -68,7 +69,20 @@ module _ (n : List ℕ) (os : List OpenElement) where
       (λ raw. decide (of kind.Noscript n && is_at (of kind.Head) os)
       (own place.Body InHeadNoscript)
       (λ noscript. inr (record {
-        none = rw (p.0, p.1, p.2, p.3, p.4, table, body, head, raw, noscript) refl;
+        none = rw (
+          p.0,
+          p.1,
+          p.2,
+          p.3,
+          p.4,
+          table,
+          body,
+          head,
+          raw,
+          noscript,
+          plain,
+          never.1,
+        ) refl;
         body = refl;
         part = part.0;
         table = table;
@@ -78,11 +92,12 @@ module _ (n : List ℕ) (os : List OpenElement) where
   module _ (plain : of kind.Template n ≡ false) (filled : is_void n ≡ false)
       (leaf : of kind.HeadLeaf n ≡ false) where
     -- elements that are text alone, but for those without an end tag
-    text_alone : (k : Kind) (p : Place) → AllPass
-        (λ m. of kind.HeadLeaf m || of kind.Raw m) (kind_names k) → of k n ≡ true → Stands n os p
+    text_alone : (k : Kind) (p : Place) →
+        AllPass (λ m. of kind.HeadLeaf m || (of kind.Raw m || of kind.Template m))
+        (kind_names k) → of k n ≡ true → Stands n os p
     text_alone k p all h =
-        let test = λ (m : List ℕ). of kind.HeadLeaf m || of kind.Raw m in
-        own p InText (second_true (passes_of test k n all h) leaf)
+        let test = λ (m : List ℕ). of kind.HeadLeaf m || (of kind.Raw m || of kind.Template m) in
+        own p InText (first_true (second_true (passes_of test k n all h) leaf) plain)
 
     -- a script or a style in a table
     in_table : (p : Place) → is_in_tables n ≡ true → Stands n os p
@@ -95,7 +110,7 @@ module _ (n : List ℕ) (os : List OpenElement) where
     stands_at place.Page around page h head = absurd (false≢true (sym page))
     stands_at place.Head around page h head =
         let k = has place.Head n around page h (λ e. cc) in
-        of_two (first_true k plain) (text_alone kind.HeadContent place.Head (unfold names in refl))
+        of_two k (text_alone kind.HeadContent place.Head (unfold names in refl))
         (λ e. own place.Head InHeadNoscript (and_from _ _ e (head refl)))
     stands_at place.HeadNoscript around page h head =
         text_alone kind.NoscriptContent place.HeadNoscript (unfold names in refl)
@@ -113,7 +128,7 @@ module _ (n : List ℕ) (os : List OpenElement) where
     stands_at place.Columns around page h head =
         let column = first_true (has place.Columns n around page h (λ e. cc)) plain in
         absurd (both_ways _ filled (passes_of is_void kind.Col n (unfold names in refl) column))
-    stands_at place.Body around page h head = in_body around h
+    stands_at place.Body around page h head = in_body plain around h
 
 -- within the head, the parent is the head
 head_parent : (above : List Ancestor) → place_of above ≡ place.Head →
@@ -139,3 +154,13 @@ html_stands above h kids os alike page rules html plain once =
     stands_at h.name os plain filled (or_parts _ _ ends).1 (place_of above) around page
     (named_kept h kids around rules read) (λ e. at_is (of kind.Head) above os alike
     ∙ head_parent above e)
+
+-- and is no `plaintext`
+pub named_no_plaintext : (p : Place) (n : List ℕ) (around : Surroundings) →
+    is_page_place p ≡ false → named_misnesting p n around ≡ None → of kind.Plaintext n ≡ false
+named_no_plaintext place.Page n around page h = absurd (false≢true (sym page))
+named_no_plaintext place.Body n around page h =
+    let part = if_none why.OutsideTable h in outside_of is_never_read kind.Plaintext n
+    (unfold names in refl) (if_none why.NeverRead part.1).0
+named_no_plaintext p n around page h =
+    none_of (has_place p) kind.Plaintext n (unfold names in refl) (else_none _ h).0

@@ -1,6 +1,6 @@
 -- Texts that are added to the current node, and nothing else is done.
-use Rattle.std.{proofs.Common.{◌≡◌, ℕ, Bool, true, false, not, List, [], ◌∷◌, refl, sym, ap, ◌∙◌}, specs.Prelude.{Some}}
-use Rattle.std.proofs.lemmas.Bool.{and_from, false≢true, or_right}
+use Rattle.std.{proofs.Common.{◌≡◌, ℕ, Bool, true, false, not, eqb, List, [], ◌∷◌, refl, sym, ap, ◌∙◌}, specs.Prelude.{Some}}
+use Rattle.std.proofs.lemmas.Bool.{and_from, false≢true, or_left, or_right}
 use Rattle.html_page_nesting.specs.{Ancestors.{Ancestor, place_of}, WrittenTexts.{is_white_char}, declared.reading.Place.{Place}}
 use Rattle.html_page_nesting.specs.declared.reading.Place.TheVariants as place
 use Rattle.html_page_names.specs.PageNames.{of}
@@ -9,9 +9,10 @@ use Rattle.html_page_stack.specs.{Formats.{ends_closed}, OpenElements.{OpenEleme
 use Rattle.html_page_stack.specs.declared.modes.Mode.{Mode, TheVariants.{InBody, InText, InCaption, InCell}}
 use Rattle.html_page_stack.specs.declared.modes.Space.TheVariants as spaces
 use Rattle.html_page_tree.{proofs.TakenTexts.{text_taken}, specs.PageTrees.{by_mode, is_foreign_token, is_unseen}}
+use Rattle.html_page_tree.specs.PageBodies.{is_barred}
 use Rattle.html_page_tree.specs.TakenTexts.{mode_takes_text, takes_text}
 use Rattle.typst_html_nesting_laws.proofs.{Alike.{html_space, mode_is, placed_html}, ListedFormats.{none_closed}, Modes.{mode_in, own_mode}}
-use Rattle.typst_html_nesting_laws.proofs.{Readers.{Takes, texted}, Turns.{html_token, mode_taken}}
+use Rattle.typst_html_nesting_laws.proofs.{Readers.{Takes, texted}, Tables.{IsAtPlace, at_place, inside_tables, white_in_table}, Turns.{IsOrdinary, html_token, mode_taken, stack_mode}}
 use Rattle.typst_html_nesting_laws.proofs.Ways.{AreAlike, IsCalm, IsSteady, is_body_mode, is_page_place}
 
 -- the modes that take any text, where no formatting element is made again
@@ -31,10 +32,14 @@ mode_takes _ p h l = absurd (false≢true h)
 mode_text : (above : List Ancestor) (p : Page) → IsCalm above p →
     is_text_mode (mode p.stack) ≡ true → Takes (λ c. true) p
 unfolding takes_text
-mode_text above p calm h c text start passes some = text_taken c (texted text start p) some
-    (and_from _ _ (ap (λ r. not (is_unseen r)) calm.tables)
-    (or_right _ _ (mode_takes (mode p.stack) (texted text start p) h
-    (none_closed p.stack p.formats calm.ordered))))
+mode_text above p calm h c text start passes some =
+    let q : Page = texted text start p in
+    let plain : IsOrdinary q =
+    record { templates = calm.ordinary.templates; framesets = calm.ordinary.framesets } in
+    text_taken c q some (and_from _ _ (and_from _ _ (ap (λ r. not (is_unseen r)) calm.tables)
+    (ap is_barred calm.ordinary.framesets))
+    (or_right _ _ (ap (λ m. mode_takes_text m q) (stack_mode q plain)
+    ∙ mode_takes (mode p.stack) q h (none_closed p.stack p.formats calm.ordered))))
 
 body_text : (m : Mode) → is_body_mode m ≡ true → is_text_mode m ≡ true
 body_text InText h = refl
@@ -56,13 +61,31 @@ raw_takes above p o os calm e html raw = mode_text above p calm
 record IsWhite (p : Place) : Type 0 where
   pub mode : Mode
   pub is : mode_in p ≡ Some mode
-  pub read : (c : ℕ) (q : Page) → is_white_char c ≡ true →
-      by_mode mode (Char c) q ≡ Taken (with_char c q)
+  pub read : (c : ℕ) (q : Page) → is_white_char c ≡ true → eqb c 0 ≡ false →
+      IsAtPlace p q.stack → by_mode mode (Char c) q ≡ Taken (with_char c q)
 
 white_place : (p : Place) → is_page_place p ≡ false → (p ≡ place.Body → ⊥) → IsWhite p
 white_place place.Page page body = absurd (false≢true (sym page))
 white_place place.Body page body = absurd (body refl)
-white_place p page body = record { mode = _; is = refl; read = λ c q w. rw w refl }
+white_place place.Table page body = record {
+  mode = _;
+  is = refl;
+  read = λ c q w some there. white_in_table c q w some
+      (inside_tables (of kind.Table) q.stack (λ n h. or_left _ _ h) there);
+}
+white_place place.Section page body = record {
+  mode = _;
+  is = refl;
+  read = λ c q w some there. white_in_table c q w some (inside_tables (of kind.Section) q.stack
+      (λ n h. or_right (of kind.Table n) _ (or_left _ _ h)) there);
+}
+white_place place.Row page body = record {
+  mode = _;
+  is = refl;
+  read = λ c q w some there. white_in_table c q w some (inside_tables (of kind.Tr) q.stack
+      (λ n h. or_right (of kind.Table n) _ (or_right (of kind.Section n) _ h)) there);
+}
+white_place p page body = record { mode = _; is = refl; read = λ c q w some there. rw w refl }
 
 -- it is an element of HTML
 white_html : (m : Mode) (above : List Ancestor) (os : List OpenElement) → AreAlike above os →
@@ -79,5 +102,7 @@ white_takes above p calm page body c text start passes some =
     let w = white_place (place_of above) page body in
     let q : Page = texted text start p in
     mode_taken (Char c) q w.mode (with_char c q) calm.tables
+    (record { templates = calm.ordinary.templates; framesets = calm.ordinary.framesets })
     (white_html w.mode above p.stack calm.alike w.is c)
-    (mode_is w.mode above p.stack calm.alike w.is) (w.read c q passes)
+    (mode_is w.mode above p.stack calm.alike w.is) (w.read c q passes some
+    (at_place (place_of above) above p.stack calm.alike refl))

@@ -13,7 +13,7 @@ use Rattle.html_page_stack.specs.declared.modes.Destination.TheVariants.{Parent}
 use Rattle.html_page_stack.specs.declared.modes.{Mode.{Mode, TheVariants.{InBody, InCaption, InCell}}, Space.Space as OpenSpace}
 use Rattle.html_page_stack.specs.declared.modes.Space.TheVariants as spaces
 use Rattle.html_page_stack.specs.declared.modes.TableRule.TheVariants as rule
-use Rattle.typst_html_nesting_laws.proofs.ListedFormats.{IsInOrder}
+use Rattle.typst_html_nesting_laws.proofs.{ListedFormats.{IsInOrder}, Turns.{IsOrdinary}}
 
 -- a namespace, as the reader names it
 abbrev pub open_space : Space → OpenSpace
@@ -41,16 +41,21 @@ abbrev pub form_of : List OpenElement → Option ℕ
 form_of [] = None
 form_of (o ∷ os) = if is_of (of kind.Form) o then Some o.head.span else form_of os
 
--- the list of active formatting elements and the form are those of these open elements
+-- the list of active formatting elements and the form are those of these open elements, no text is
+-- moved, and no `template` is open
 pub record AreBegun (os : List OpenElement) (p : Page) : Type 0 where
   pub ordered : IsInOrder os p.formats
   pub form : p.form ≡ form_of os
+  pub moved : p.moved ≡ false
+  pub ordinary : IsOrdinary p
 
 -- a page in which these elements are open, and nothing else is out of order
 pub record IsCalm (above : List Ancestor) (p : Page) : Type 0 where
   pub alike : AreAlike above p.stack
   pub ordered : IsInOrder p.stack p.formats
   pub form : p.form ≡ form_of p.stack
+  pub moved : p.moved ≡ false
+  pub ordinary : IsOrdinary p
   pub tables : p.tables ≡ rule.ClosesP
   pub plain : HaveNoTemplate above
 
@@ -80,6 +85,7 @@ begun_element h above start = record {
   space = open_space (space_of (reading_of above) h.name);
   destination = Parent;
   children = none;
+  behind = none;
 }
 
 abbrev pub begun : Head → (above : List Ancestor) → Page → Page

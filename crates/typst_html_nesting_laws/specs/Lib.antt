@@ -1,1 +1,2 @@
+pub mod FragmentsStay
 pub mod TreesStay

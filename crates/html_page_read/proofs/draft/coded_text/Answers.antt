@@ -1,7 +1,6 @@
-use Rattle.std.proofs.{Common.{◌≡◌, ◌++◌, ◌∷◌, [], append-nil, append_assoc, chars, false, true, sym, ap, ◌∙◌}, StrCases.{chars_of_empty}}
+use Rattle.std.proofs.{Common.{◌≡◌, ◌++◌, ◌∷◌, [], append-nil, append_assoc, chars, false, sym, ap, ◌∙◌}, StrCases.{chars_of_empty}}
 use Rattle.std.proofs.lemmas.Str.{IsUtf8-past_char, chars_past_char}
 use Rattle.std.specs.{Fmt.{digits}, List.{list_all}, Str.Iter.{chars_rest}}
-use Rattle.html_dom_tree.specs.Views.{text_view}
 use Rattle.html_names_core.specs.Characters.{is_tag_char}
 use Rattle.html_page_read.{proofs.TagNames.{name_from}, specs.PageTokens.{coded_chars, coded_name, is_name}}
 use Rattle.html_page_read.proofs.draft.coded_text.Goals as goal

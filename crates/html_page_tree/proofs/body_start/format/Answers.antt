@@ -1,4 +1,4 @@
-use Rattle.std.{proofs.Common.{false, sym, ap, ◌∙◌}, specs.Prelude.{if◌then◌else◌}}
+use Rattle.std.{proofs.Common.{sym, ap, ◌∙◌}, specs.Prelude.{if◌then◌else◌}}
 use Rattle.html_page_stack.specs.{PageViews.{page_of}, Pages.{reconstructed}}
 use Rattle.html_page_tree.specs.PageBodies.{nobr_closed}
 use Rattle.html_page_tree.proofs.body_start.format.Goals as goal

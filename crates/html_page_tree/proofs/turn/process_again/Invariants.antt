@@ -5,5 +5,5 @@ use Rattle.html_page_tree.proofs.turn.process_again.Given as goal
 
 abbrev pub invariant-loop-count : goal.invariant-loop-count
 invariant-loop-count l =
-    processed (7 - l.count) (token_of l.token) (page_of l.page)
-    ≡ processed 7 (token_of l.fn.token) (page_of l.fn.page)
+    processed (l.most - l.count) (token_of l.token) (page_of l.page)
+    ≡ processed l.most (token_of l.fn.token) (page_of l.fn.page)

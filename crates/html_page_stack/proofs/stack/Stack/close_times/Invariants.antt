@@ -1,5 +1,5 @@
 use Rattle.std.proofs.Common.{◌≡◌, ◌-◌}
-use Rattle.html_page_stack.specs.{Adoption.{closed_times}, PageViews.{stack_of}}
+use Rattle.html_page_stack.specs.{OpenElements.{closed_times}, PageViews.{stack_of}}
 use Rattle.html_page_stack.proofs.stack.Stack.close_times.Given as goal
 
 abbrev pub invariant-loop-count : goal.invariant-loop-count
