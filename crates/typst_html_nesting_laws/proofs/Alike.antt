@@ -15,7 +15,7 @@ use Rattle.html_page_stack.specs.OpenElements as open_elements
 use Rattle.html_page_stack.specs.declared.modes.Space.TheVariants as spaces
 use Rattle.html_page_tree.specs.PageTrees.{holds_svg_in, is_foreign_token}
 use Rattle.typst_html_nesting_laws.proofs.{KindFacts.{fails_of, names}, Modes.{mode_in, place_mode}, Branches.{decide}}
-use Rattle.typst_html_nesting_laws.proofs.Ways.{AreAlike, HaveNoTemplate, IsAlike, open_space}
+use Rattle.typst_html_nesting_laws.proofs.Ways.{AreAlike, IsAlike, open_space}
 
 pub html_is : (s : Space) → open_elements.is_html (open_space s) ≡ nest.is_html s
 html_is Html = refl
@@ -101,17 +101,16 @@ fewer : (g g' b b' r r' : Bool) → (g' ≡ true → g ≡ true) → (b ≡ true
 fewer g g' b b' r r' goal bound rest h = grind arith
 
 pub unreached : (goal bound : Ancestor → Bool) (open_goal open_bound : OpenElement → Bool) →
-    ((a : Ancestor) (o : OpenElement) → IsAlike a o → of kind.Template a.head.name ≡ false →
-    open_goal o ≡ true → goal a ≡ true) → ((a : Ancestor) (o : OpenElement) →
-    IsAlike a o → of kind.Template a.head.name ≡ false → bound a ≡ true → open_bound o ≡ true) →
-    (above : List Ancestor) (os : List OpenElement) → AreAlike above os → HaveNoTemplate above →
+    ((a : Ancestor) (o : OpenElement) → IsAlike a o → open_goal o ≡ true → goal a ≡ true) →
+    ((a : Ancestor) (o : OpenElement) → IsAlike a o → bound a ≡ true → open_bound o ≡ true) →
+    (above : List Ancestor) (os : List OpenElement) → AreAlike above os →
     nest.reaches goal bound above ≡ false → open_elements.reaches open_goal open_bound os ≡ false
-unreached goal bound open_goal open_bound g b [] [] s plain h = refl
-unreached goal bound open_goal open_bound g b (a ∷ above) (o ∷ os) s plain h =
+unreached goal bound open_goal open_bound g b [] [] s h = refl
+unreached goal bound open_goal open_bound g b (a ∷ above) (o ∷ os) s h =
     fewer (goal a) (open_goal o) (bound a) (open_bound o) (nest.reaches goal bound above)
-    (open_elements.reaches open_goal open_bound os) (g a o s.0 plain.0) (b a o s.0 plain.0)
-    (unreached goal bound open_goal open_bound g b above os s.1 plain.1) h
-unreached goal bound open_goal open_bound g b above os s plain h = absurd s
+    (open_elements.reaches open_goal open_bound os) (g a o s.0) (b a o s.0)
+    (unreached goal bound open_goal open_bound g b above os s.1) h
+unreached goal bound open_goal open_bound g b above os s h = absurd s
 
 pub in_scope_is : (test : List ℕ → Bool) (above : List Ancestor) (os : List OpenElement) →
     AreAlike above os → in_scope General test os ≡ nest.reaches (nest.is_of test) bounds_scope above
@@ -125,17 +124,17 @@ in_button_scope_is test above os s = reaches_is (nest.is_of test) bounds_button_
     (open_elements.is_of test) (bounds Button) (of_is test) button_scope_is above os s
 
 -- an element that hides formatting elements
-pub marker_is : (a : Ancestor) (o : OpenElement) → IsAlike a o →
-    of kind.Template a.head.name ≡ false → hides_formatting a ≡ true → open_elements.is_of (of kind.Marker) o ≡ true
-marker_is a o t k e = of_is (of kind.Marker) a o t ∙ e
+pub marker_is : (a : Ancestor) (o : OpenElement) → IsAlike a o → hides_formatting a ≡ true →
+    open_elements.is_of (of kind.Marker) o ≡ true
+marker_is a o t e = of_is (of kind.Marker) a o t ∙ e
 
 -- an item
 pub none_item : (test : List ℕ → Bool) (above : List Ancestor) (os : List OpenElement) →
-    AreAlike above os → HaveNoTemplate above →
+    AreAlike above os →
     nest.reaches (nest.is_of test) nest.bounds_item above ≡ false → has_item test os ≡ false
-none_item test above os s plain h = unreached (nest.is_of test) nest.bounds_item
-    (open_elements.is_of test) open_elements.bounds_item (λ a o t k e. sym (of_is test a o t) ∙ e)
-    bounded above os s plain h where
+none_item test above os s h = unreached (nest.is_of test) nest.bounds_item
+    (open_elements.is_of test) open_elements.bounds_item (λ a o t e. sym (of_is test a o t) ∙ e)
+    bounded above os s h where
       -- by its space, and whether its name is special, passed, or `search`
       bounds_it : (sp : Space) (special passed search : Bool) (name : List ℕ) →
           ((nest.is_html sp && (special && not passed && not search)) || is_point sp name) ≡ true →
@@ -146,9 +145,9 @@ none_item test above os s plain h = unreached (nest.is_of test) nest.bounds_item
       bounds_it Html true true search name e = absurd (false≢true e)
       bounds_it sp special passed search name e = ap (λ b. b && true) e
 
-      bounded : (a : Ancestor) (o : OpenElement) → IsAlike a o → of kind.Template a.head.name
-          ≡ false → nest.bounds_item a ≡ true → open_elements.bounds_item o ≡ true
-      bounded a o t k e =
+      bounded : (a : Ancestor) (o : OpenElement) → IsAlike a o → nest.bounds_item a ≡ true →
+          open_elements.bounds_item o ≡ true
+      bounded a o t e =
           let special = of_is (of kind.Special) a o t in
           let point = point_is a o t in
           let passed = of_is (of kind.PassedByItems) a o t in

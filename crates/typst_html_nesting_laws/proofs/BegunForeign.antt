@@ -1,18 +1,20 @@
 -- The start tag of an element that stays in SVG or MathML opens it, and does nothing else.
-use Rattle.std.proofs.{Common.{◌≡◌, ◌<◌, false, ◌||◌, List, length, inl, inr, refl, sym, ap, ◌∙◌}, Math.Bool.{or-false}}
+use Rattle.std.proofs.{Common.{◌≡◌, ℕ, ◌<◌, false, ◌||◌, List, length, inl, inr, refl, sym, ap, ◌∙◌}, Math.Bool.{or-false}}
+use Rattle.std.specs.Prelude.{if◌then◌else◌}
 use Rattle.std.proofs.lemmas.Bool.{and_cases, and_left, and_right, or_from, or_parts}
 use Rattle.html_names_core.specs.Kinds.{is_foreign_self_closing}
 use Rattle.html_dom_tree.specs.Tree.{Head, NodesView}
-use Rattle.html_page_nesting.specs.{Ancestors.{Ancestor, is_read_as_html, reading_of, space_of}, WrittenTags.{capital_attrs, capital_tags}}
-use Rattle.html_page_nesting.specs.declared.reading.Space.{Space, TheVariants.{Html}}
+use Rattle.html_page_nesting.specs.{Ancestors.{Ancestor, begun_space, foreign_space, is_read_as_html, reading_of, space_of}, WrittenTags.{capital_attrs, capital_tags}}
+use Rattle.html_page_nesting.specs.declared.reading.{Reading.{Reading}, Space.{Space, TheVariants.{Html}}}
+use Rattle.html_page_nesting.specs.declared.reading.Reading.TheVariants as reading
 use Rattle.html_page_nesting.specs.NestingRules as rules
 use Rattle.html_page_names.specs.{ForeignNames.{is_font_attr, lowered}, PageNames.{of}}
 use Rattle.html_page_names.specs.declared.kind.Kind.TheVariants as kind
-use Rattle.html_page_stack.specs.{OpenElements.{at, is_table_context}, Pages.{Page, Start, Taken}}
+use Rattle.html_page_stack.specs.{OpenElements.{at, is_html, is_table_context}, Pages.{Page, Start, Taken}}
 use Rattle.html_page_tree.specs.{PageBodies.{entered}, PageTrees.{breaks_out, in_foreign}}
-use Rattle.typst_html_nesting_laws.proofs.{Alike.{space_is}, Branches.{skip}, Capitals.{attrs_fail, fails_small}, KeptTags.{entered_back}}
+use Rattle.typst_html_nesting_laws.proofs.{Alike.{space_is}, Branches.{skip}, Capitals.{attrs_fail, fails_small}, KeptTags.{begun_plain, entered_back}}
 use Rattle.typst_html_nesting_laws.proofs.{KindFacts.{AllFail, names}, Opened.{one_of}, Readers.{written_tag}}
-use Rattle.typst_html_nesting_laws.proofs.{Rules.{StaysForeign, TagFits}, Ways.{IsCalm, begun, ends_at_once}}
+use Rattle.typst_html_nesting_laws.proofs.{Rules.{StaysForeign, TagFits}, Ways.{IsCalm, begun, ends_at_once, open_space}}
 
 -- no name with capitals is in small letters one that closes SVG and MathML
 capitals_stay : (s : Space) → AllFail (λ m. of kind.Breakout (lowered m)) (capital_tags s)
@@ -34,6 +36,15 @@ stays_inside s h kept e =
           (attrs_fail (capital_attrs s) is_font_attr h.attrs kept.attrs stay.2 f)
     ])
 
+-- it is no element of HTML
+not_html : (r : Reading) (n : List ℕ) → is_read_as_html r n ≡ false →
+    is_html (open_space (space_of r n)) ≡ false
+not_html r n e = ap (λ b. is_html (open_space (if b then begun_space n else foreign_space r))) e
+    ∙ foreign r where
+      foreign : (r : Reading) → is_html (open_space (foreign_space r)) ≡ false
+      foreign reading.AsSvg = refl
+      foreign r = refl
+
 pub foreign_taken : (above : List Ancestor) (h : Head) (kids : NodesView) (p : Page) →
     IsCalm above p → TagFits (space_of (reading_of above) h.name) h → length p.stack < p.limit →
     at is_table_context p.stack ≡ false → is_read_as_html (reading_of above) h.name ≡ false →
@@ -45,6 +56,7 @@ foreign_taken above h kids p calm kept fits outside foreign stays =
     skip _ (stays_inside s h kept stays.inside)
     (ap (λ x. Taken (entered x (written_tag h) p))
     (space_is h.name above p.stack calm.alike foreign)
-    ∙ (ap Taken (entered_back h p fits outside s kept)
+    ∙ (ap Taken (entered_back h p fits outside s kept ∙ ap (one_of own)
+    (begun_plain h above p (and_left _ _ (not_html (reading_of above) h.name foreign))))
     ∙ ap (λ b. Taken (one_of b (begun h above p)))
     (sym (ap (λ b. own || b) stays.filled ∙ or-false own))))

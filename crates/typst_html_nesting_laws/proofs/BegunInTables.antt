@@ -9,15 +9,15 @@ use Rattle.html_page_names.specs.declared.kind.Kind.TheVariants as kind
 use Rattle.html_page_stack.specs.{OpenElements.{at, is_at, is_table_context}, Pages.{Page, Start, StartTag, Turn, opened, opened_here, Taken}, declared.modes.{Destination.TheVariants.{Parent}, Mode.{Mode}}}
 use Rattle.html_page_stack.specs.declared.modes.Mode.TheVariants.{InHead, InHeadNoscript, InTable, InColumns, InSection, InRow}
 use Rattle.html_page_tree.specs.{PageBodies.{head_element, leaf}, PageTrees.{by_mode, cleared_to}}
-use Rattle.typst_html_nesting_laws.proofs.{Branches.{first_true, of_two}, KindFacts.{AllPass, agree_of, names, passes_of}, Modes.{mode_in}}
-use Rattle.typst_html_nesting_laws.proofs.{Opened.{Opens, head_begun, leaf_begun, one_of}, Tables.{IsAtPlace, none_cleared}}
+use Rattle.typst_html_nesting_laws.proofs.{Branches.{of_two}, KindFacts.{AllPass, agree_of, names, passes_of}, Modes.{mode_in}}
+use Rattle.typst_html_nesting_laws.proofs.{Opened.{Opens, head_begun, leaf_begun, one_of, opened_as, opened_plain}, Tables.{IsAtPlace, none_cleared}}
 
--- neither `svg` nor `math`
+-- neither `svg` nor `math` nor `template`
 abbrev is_html_name : List ℕ → Bool
-is_html_name n = not (of kind.Svg n) && not (of kind.Math n)
+is_html_name n = (not (of kind.Svg n) && not (of kind.Math n)) && not (of kind.Template n)
 
 module _ (tag : StartTag) (p q : Page) (ops : Opens tag p q)
-    (plain : of kind.Template tag.name ≡ false) (ends : has_unread_end tag.name ≡ false) where
+    (ends : has_unread_end tag.name ≡ false) where
   abbrev n : List ℕ
   n = tag.name
 
@@ -26,7 +26,7 @@ module _ (tag : StartTag) (p q : Page) (ops : Opens tag p q)
   with_name m = record { name = m; attrs = tag.attrs; closed = tag.closed }
 
   abbrev result : Turn
-  result = Taken (one_of (is_void n) q)
+  result = Taken (opened_as n q)
 
   abbrev read_in : Mode → List ℕ → Turn
   read_in m l = by_mode m (Start (with_name l)) p
@@ -41,9 +41,10 @@ module _ (tag : StartTag) (p q : Page) (ops : Opens tag p q)
       let test = λ (l : List ℕ). not (is_void l) && is_html_name l in
       let a = and_parts _ _ (passes_of test k n whole h) in
       let b = and_parts _ _ a.1 in
+      let c = and_parts _ _ b.0 in
       agree_of (read_in m) (λ l. Taken (begins l)) k n same h
-      ∙ ap Taken (opens (not-true _ b.0) (not-true _ b.1)
-      ∙ ap (λ v. one_of v q) (sym (not-true _ a.0)))
+      ∙ ap Taken (opens (not-true _ c.0) (not-true _ c.1)
+      ∙ (ap (λ v. one_of v q) (sym (not-true _ a.0)) ∙ opened_plain n q (not-true _ b.1)))
 
   -- or in the element of a table that is the current node
   table_part : (m : Mode) (test : List ℕ → Bool) → is_at test p.stack ≡ true → (k : Kind) →
@@ -62,10 +63,16 @@ module _ (tag : StartTag) (p q : Page) (ops : Opens tag p q)
       by_mode m (Start tag) p ≡ result
   content m k same head h =
       agree_of (read_in m) (λ l. Taken (head_element Parent (with_name l) p)) k n same h
-      ∙ ap Taken (head_begun tag p q ops (passes_of (of kind.HeadContent) k n head h) plain ends)
+      ∙ ap Taken (head_begun tag p q ops (passes_of (of kind.HeadContent) k n head h) ends)
 
-  script : is_in_tables n ≡ true → of kind.ScriptOrStyle n ≡ true
-  script h = first_true h plain
+  -- a script, a style or a `template`
+  script : (m : Mode) → map (read_in m) (kind_names kind.ScriptOrStyle)
+      ≡ map (λ l. Taken (head_element Parent (with_name l) p)) (kind_names kind.ScriptOrStyle) →
+      map (read_in m) (kind_names kind.Template)
+      ≡ map (λ l. Taken (head_element Parent (with_name l) p)) (kind_names kind.Template) →
+      is_in_tables n ≡ true → by_mode m (Start tag) p ≡ result
+  script m same also h = of_two h (content m kind.ScriptOrStyle same (unfold names in refl))
+      (content m kind.Template also (unfold names in refl))
 
   column : at is_table_context p.stack ≡ false → of kind.Col n ≡ true →
       by_mode InColumns (Start tag) p ≡ result
@@ -73,10 +80,11 @@ module _ (tag : StartTag) (p q : Page) (ops : Opens tag p q)
       let test = λ (l : List ℕ). is_void l && is_html_name l in
       let a = and_parts _ _ (passes_of test kind.Col n (unfold names in refl) h) in
       let b = and_parts _ _ a.1 in
+      let c = and_parts _ _ b.0 in
       agree_of (read_in InColumns) (λ l. Taken (leaf (with_name l) p)) kind.Col n
       (unfold names in refl) h
-      ∙ ap Taken (leaf_begun tag p q ops outside (not-true _ b.0) (not-true _ b.1)
-      ∙ ap (λ v. one_of v q) (sym a.0))
+      ∙ ap Taken (leaf_begun tag p q ops outside (not-true _ c.0) (not-true _ c.1)
+      ∙ (ap (λ v. one_of v q) (sym a.0) ∙ opened_plain n q (not-true _ b.1)))
 
   -- by the rules of the mode of that place, if it is one
   abbrev TakenIn : Option Mode → Type 0
@@ -95,12 +103,13 @@ module _ (tag : StartTag) (p q : Page) (ops : Opens tag p q)
       let in_table = table_part InTable (of kind.Table) there in
       of_two h (λ c. of_two c (λ d. of_two d (in_table kind.Caption refl refl)
       (in_table kind.Colgroup refl refl)) (in_table kind.Section refl refl))
-      (λ e. content InTable kind.ScriptOrStyle refl refl (script e))
+      (script InTable refl refl)
   place_taken place.Section there h =
       of_two h (table_part InSection (of kind.Section) there kind.Tr refl refl)
-      (λ e. content InSection kind.ScriptOrStyle refl refl (script e))
+      (script InSection refl refl)
   place_taken place.Row there h =
       of_two h (table_part InRow (of kind.Tr) there kind.Cell refl refl)
-      (λ e. content InRow kind.ScriptOrStyle refl refl (script e))
-  place_taken place.Columns there h = column there (first_true h plain)
+      (script InRow refl refl)
+  place_taken place.Columns there h =
+      of_two h (column there) (content InColumns kind.Template refl refl)
   place_taken place.Body there h = tt

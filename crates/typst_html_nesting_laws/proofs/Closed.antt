@@ -1,14 +1,14 @@
 -- What is open once a start tag is read, and once the current node is closed.
-use Rattle.std.proofs.Common.{◌≡◌, ℕ, Bool, true, false, not, ◌&&◌, ◌==◌, List, [], ◌∷◌, length, Some, refl, sym, ap, subst, ◌∙◌}
+use Rattle.std.proofs.Common.{◌≡◌, ℕ, Bool, true, false, not, ◌&&◌, List, [], ◌∷◌, Some, refl, sym, ap, subst, ◌∙◌}
 use Rattle.std.specs.Prelude.{if◌then◌else◌, Option}
 use Rattle.html_dom_tree.specs.Tree.{Head}
 use Rattle.html_page_nesting.specs.Ancestors.{Ancestor, ancestor}
 use Rattle.html_page_names.specs.PageNames.{of}
 use Rattle.html_page_names.specs.declared.kind.Kind.TheVariants as kind
 use Rattle.html_page_stack.specs.{Formats.{Formats, after_current}, Pages.{Page, closed, form_after, settled, settled_closed}}
-use Rattle.html_page_stack.specs.declared.modes.Mode.{Mode}
-use Rattle.html_page_stack.specs.OpenElements.{OpenElement, before_table, is_of, is_removed, uncovered, with_last_text, with_text, without_current}
+use Rattle.html_page_stack.specs.OpenElements.{OpenElement, before_table, has, is_of, is_removed, uncovered, with_last_text, with_text, without_current}
 use Rattle.typst_html_nesting_laws.proofs.{Branches.{skip}, ListedFormats.{IsInOrder, after_text, order_opened, order_with_text}}
+use Rattle.typst_html_nesting_laws.proofs.Templates.{ReadsBody, are_modes, hold_modes, modes_opened, modes_there, modes_with_text}
 use Rattle.typst_html_nesting_laws.proofs.Ways.{AreAlike, IsCalm, begun, begun_element, form_of}
 
 -- texts leave the form as it is
@@ -23,16 +23,16 @@ form_of_text text [] = refl
 form_of_text [] (o ∷ os) = refl
 form_of_text (c ∷ cs) (o ∷ os) = refl
 
--- the current node is closed, and nothing else is done
+-- the current node is closed, and nothing else is done; a form in a `template` does not count
 pub closed_is : (o : OpenElement) (os : List OpenElement) (p : Page) → p.moved ≡ false →
-    p.templates ≡ [] → closed true (record p { stack = o ∷ os }) ≡ record p {
+    closed true (record p { stack = o ∷ os }) ≡ record p {
       text = [];
       moved = false;
       stack = uncovered (without_current (with_text p.text o ∷ os));
       formats = after_current true (o ∷ os) p.formats;
-      form = form_after true (o ∷ os) p.form;
+      form = if hold_modes p.templates then p.form else form_after true (o ∷ os) p.form;
     }
-closed_is o os p still alone =
+closed_is o os p still =
     let text_put : Bool → Page = λ b. record p {
       text = [];
       moved = false;
@@ -46,13 +46,13 @@ closed_is o os p still alone =
       form = form;
     } in
     let text_after = after_current true (with_text p.text o ∷ os) p.formats in
-    let left : (ts : List Mode) → Page = λ ts. made text_after
-    (if not (length ts == 0) then p.form else form_after true (with_text p.text o ∷ os) p.form) in
+    let left : Option ℕ → Option ℕ =
+    λ form. if hold_modes p.templates then p.form else form in
     ap (λ b. settled_closed true (text_put b)) still
-    ∙ (ap left alone
-    ∙ (ap (λ fs. made fs (form_after true (with_text p.text o ∷ os) p.form))
+    ∙ (ap (λ fs. made fs (left (form_after true (with_text p.text o ∷ os) p.form)))
     (after_text p.text o os p.formats)
-    ∙ ap (made (after_current true (o ∷ os) p.formats)) (form_text p.text o os p.form)))
+    ∙ ap (λ form. made (after_current true (o ∷ os) p.formats) (left form))
+    (form_text p.text o os p.form))
 
 -- what is open where nothing was removed
 pub still_open : (o : OpenElement) (os : List OpenElement) → is_removed o.space ≡ false →
@@ -70,25 +70,29 @@ alike_text text above os h = absurd h
 
 -- once a start tag is read, its element is open too
 pub calm_begun : (above : List Ancestor) (h : Head) (p : Page) → IsCalm above p →
-    of kind.Template h.name ≡ false → IsCalm (ancestor h above ∷ above) (begun h above p)
-calm_begun above h p c t =
-    let e : (settled p).stack ≡ with_last_text p.text p.stack = skip _ c.moved refl in
+    ReadsBody (begun_element h above p.start) p.templates →
+    IsCalm (ancestor h above ∷ above) (begun h above p)
+calm_begun above h p c reads =
+    let it = begun_element h above p.start in
+    let outer = (settled p).stack in
+    let e : outer ≡ with_last_text p.text p.stack = skip _ c.moved refl in
+    let modes : are_modes outer p.templates ≡ true =
+    subst (λ os. are_modes os p.templates ≡ true) (sym e)
+    (modes_with_text p.text p.stack p.templates c.modes) in
     record {
       alike = (
         record { name = refl; attrs = refl; space = refl },
         subst (AreAlike above) (sym e) (alike_text p.text above p.stack c.alike),
       );
-      ordered = order_opened (begun_element h above p.start) (settled p).stack p.formats
+      ordered = order_opened it outer p.formats
           (subst (λ os. IsInOrder os p.formats) (sym e)
           (order_with_text p.text p.stack p.formats c.ordered));
-      form = ap (λ ts. if not (not (length ts == 0))
-          && is_of (of kind.Form) (begun_element h above p.start)
-          then Some p.start else p.form) c.ordinary.templates
-          ∙ ap (λ f. if is_of (of kind.Form) (begun_element h above p.start)
+      modes = modes_opened it outer p.templates modes reads;
+      form = ap (λ b. if not b && is_of (of kind.Form) it then Some p.start else p.form)
+          (modes_there outer p.templates modes)
+          ∙ ap (λ f. if not (has (of kind.Template) outer) && is_of (of kind.Form) it
           then Some p.start else f) (c.form ∙ sym (ap form_of e ∙ form_of_text p.text p.stack));
       moved = refl;
-      ordinary =
-          record { templates = c.ordinary.templates; framesets = c.ordinary.framesets };
+      framesets = c.framesets;
       tables = c.tables;
-      plain = (t, c.plain);
     }

@@ -9,7 +9,7 @@ use Rattle.html_page_nesting.specs.Ancestors as nest
 use Rattle.html_page_nesting.specs.declared.misnesting.Misnesting.TheVariants as why
 use Rattle.html_page_names.specs.{PageNames.{is, kind_names, of}, declared.kind.Kind.{Kind}}
 use Rattle.html_page_names.specs.declared.kind.Kind.TheVariants as kind
-use Rattle.html_page_stack.specs.OpenElements.{OpenElement, bounds, in_scope, is_at, reaches}
+use Rattle.html_page_stack.specs.OpenElements.{OpenElement, bounds, has, in_scope, is_at, reaches}
 use Rattle.html_page_stack.specs.Pages.{Page, closed_while, implied_closed, no_name, reconstructed}
 use Rattle.html_page_stack.specs.declared.modes.Scope.TheVariants.{General}
 use Rattle.html_page_stack.specs.OpenElements as elements
@@ -18,7 +18,7 @@ use Rattle.html_names_core.proofs.Basics.{bytes_eq-same}
 use Rattle.typst_html_nesting_laws.proofs.Alike.{at_is, in_button_scope_is, in_scope_is, marker_is, none_item, of_is, scope_is, unreached}
 use Rattle.typst_html_nesting_laws.proofs.Branches.{either, first_false, if_none, second_false, skip, decide}
 use Rattle.typst_html_nesting_laws.proofs.{KindFacts.{AllPass, names, passes_of}, ListedFormats.{none_closed, none_named}}
-use Rattle.typst_html_nesting_laws.proofs.Ways.{AreAlike, HaveNoTemplate, IsAlike, IsCalm, form_of}
+use Rattle.typst_html_nesting_laws.proofs.Ways.{AreAlike, IsAlike, IsCalm, form_of}
 
 -- a search for elements of a name, where there are none of its kind
 
@@ -29,32 +29,32 @@ same_kind k n a o it t h =
     and_from _ _ both.0 (ap (of k) (bytes_eq-same _ _ both.1) ∙ it)
 
 pub none_same_scoped : (k : Kind) (n : List ℕ) (above : List Ancestor) (os : List OpenElement) →
-    of k n ≡ true → AreAlike above os → HaveNoTemplate above →
+    of k n ≡ true → AreAlike above os →
     nest.reaches (nest.is_of (of k)) bounds_scope above ≡ false → in_scope General (is n) os ≡ false
-none_same_scoped k n above os it s plain h =
+none_same_scoped k n above os it s h =
     unreached (nest.is_of (of k)) bounds_scope (elements.is_of (is n)) (bounds General)
-    (λ a o t e i. same_kind k n a o it t i) (λ a o t e i. scope_is a o t ∙ i) above os s plain h
+    (λ a o t i. same_kind k n a o it t i) (λ a o t i. scope_is a o t ∙ i) above os s h
 
--- no form is begun where none is open
+-- no form is begun where none is open, in no `template`
 pub no_form : (above : List Ancestor) (os : List OpenElement) → AreAlike above os →
-    HaveNoTemplate above → (open_of above).form ≡ false → form_of os ≡ None
+    has (of kind.Template) os ≡ false → (open_of above).form ≡ false → form_of os ≡ None
 no_form [] [] s plain h = refl
 no_form (a ∷ above) (o ∷ os) s plain h =
     let both = or_parts _ _ h in
-    let around = second_false both.1 (ap not (template a plain.0)) in
-    skip _ (of_is (of kind.Form) a o s.0 ∙ both.0) (no_form above os s.1 plain.1 around) where
-      template : (a : Ancestor) → of kind.Template a.head.name ≡ false → is_template a ≡ false
-      template a t = and_right (nest.is_html a.space) (of kind.Template a.head.name) t
+    let outer = or_parts (elements.is_of (of kind.Template) o) _ plain in
+    let template : is_template a ≡ false = sym (of_is (of kind.Template) a o s.0) ∙ outer.0 in
+    skip _ (and_right _ _ (of_is (of kind.Form) a o s.0 ∙ both.0))
+    (no_form above os s.1 outer.1 (second_false both.1 (ap not template)))
 no_form above os s plain h = absurd s
 
 none_same_active : (k : Kind) (n : List ℕ) (above : List Ancestor) (os : List OpenElement) →
-    of k n ≡ true → AreAlike above os → HaveNoTemplate above →
+    of k n ≡ true → AreAlike above os →
     nest.reaches (nest.is_of (of k)) hides_formatting above ≡ false →
     reaches (elements.is_of (is n)) (elements.is_of (of kind.Marker)) os ≡ false
-none_same_active k n above os it s plain h =
+none_same_active k n above os it s h =
     unreached (nest.is_of (of k)) hides_formatting (elements.is_of (is n))
-    (elements.is_of (of kind.Marker)) (λ a o t e i. same_kind k n a o it t i) marker_is
-    above os s plain h
+    (elements.is_of (of kind.Marker)) (λ a o t i. same_kind k n a o it t i) marker_is
+    above os s h
 
 -- what a start tag would close, and does not
 pub record ClosesNone (n : List ℕ) (around : Surroundings) : Type 0 where
@@ -136,8 +136,7 @@ module _ (n : List ℕ) (above : List Ancestor) (p : Page) (calm : IsCalm above 
 
   anchor_kept : of kind.A n ≡ true → anchor_closed n p ≡ p
   anchor_kept h = ap (λ f. anchor_ended n f p) (none_named n p.stack p.formats calm.ordered
-      (none_same_active kind.A n above p.stack h calm.alike calm.plain
-      (second_false same_none.0 h)))
+      (none_same_active kind.A n above p.stack h calm.alike (second_false same_none.0 h)))
 
   -- elements whose end tag is implied
   implied_but : (but : List ℕ → Bool) →
@@ -180,7 +179,7 @@ module _ (n : List ℕ) (above : List Ancestor) (p : Page) (calm : IsCalm above 
   -- items
   item_kept : (k : Kind) → nest.reaches (nest.is_of (of k)) nest.bounds_item above ≡ false →
       item_closed k p ≡ p
-  item_kept k h = skip _ (none_item (of k) above p.stack calm.alike calm.plain h) refl
+  item_kept k h = skip _ (none_item (of k) above p.stack calm.alike h) refl
 
   block_kept : closed_before_block n p ≡ p
   block_kept =
@@ -202,7 +201,7 @@ module _ (n : List ℕ) (above : List Ancestor) (p : Page) (calm : IsCalm above 
   nothing_closed =
       either (of kind.A n) anchor_kept
       (λ a. either (of kind.Button n)
-      (λ h. skip _ (none_same_scoped kind.Button n above p.stack h calm.alike calm.plain
+      (λ h. skip _ (none_same_scoped kind.Button n above p.stack h calm.alike
       (second_false same_none.1 h)) refl)
       (λ b. either (of kind.Input n)
       (λ h. skip _ (in_scope_is (of kind.Select) above p.stack calm.alike
@@ -219,7 +218,7 @@ module _ (n : List ℕ) (above : List Ancestor) (p : Page) (calm : IsCalm above 
 
   nobr_none : (of kind.Nobr n && in_scope General (is n) p.stack) ≡ false
   nobr_none = decide (of kind.Nobr n)
-      (λ h. and_right _ _ (none_same_scoped kind.Nobr n above p.stack h calm.alike calm.plain
+      (λ h. and_right _ _ (none_same_scoped kind.Nobr n above p.stack h calm.alike
       (second_false same_none.2 h))) (and_left _ _)
 
   kept_whole : reconstructed p ≡ p

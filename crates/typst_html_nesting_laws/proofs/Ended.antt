@@ -1,7 +1,7 @@
 -- An end tag of the current node's name closes it, where nothing is misnested.
-use Rattle.std.proofs.Common.{◌≡◌, ℕ, Bool, true, false, not, ◌&&◌, ◌||◌, ◌==◌, List, [], ◌∷◌, length, inl, inr, refl, sym, ap, subst, ◌∙◌}
-use Rattle.std.proofs.lemmas.{Bool.{and_from, and_left, and_parts, eq-eqb, false≢true, or_from, or_left, or_parts, or_right}, Slice.Eq.{bytes_eq-Decides}}
-use Rattle.std.specs.Prelude.{None, Option, codes}
+use Rattle.std.proofs.Common.{◌≡◌, ℕ, Bool, true, false, not, ◌&&◌, ◌||◌, ◌==◌, List, [], ◌∷◌, drop, length, inl, inr, refl, sym, ap, subst, ◌∙◌}
+use Rattle.std.proofs.lemmas.{Bool.{and_from, and_left, and_parts, and_right, eq-eqb, false≢true, or_from, or_left, or_parts, or_right}, Slice.Eq.{bytes_eq-Decides}}
+use Rattle.std.specs.Prelude.{if◌then◌else◌, None, Option, codes}
 use Rattle.html_names_core.specs.Kinds.{is_void}
 use Rattle.html_dom_tree.specs.Tree.{Head, NodesView}
 use Rattle.html_page_nesting.specs.{Ancestors.{Ancestor, ancestor, place_of, reading_of, space_of}, NestingRules.{element_misnesting}}
@@ -13,19 +13,20 @@ use Rattle.html_page_names.specs.{ForeignNames.{keeps_case, lowered}, PageNames.
 use Rattle.html_page_names.specs.declared.kind.Kind.TheVariants as kind
 use Rattle.html_page_stack.specs.Formats.{after_current}
 use Rattle.html_page_stack.specs.OpenElements.{OpenElement, bounds, is_at, is_foreign, is_foreign_of, is_html, is_opened, mode, named_mode, uncovered, with_text, without_current}
-use Rattle.html_page_stack.specs.Pages.{Page, End, closed, closed_around, closed_in, closed_to_goal, form_after, no_name, noted_if, Taken}
+use Rattle.html_page_stack.specs.Pages.{Page, End, closed, closed_around, closed_in, closed_to_goal, form_after, no_name, noted_if, template_closed, thoroughly_closed, Taken}
 use Rattle.html_page_stack.specs.declared.error.PageError.TheVariants as error
 use Rattle.html_page_stack.specs.declared.modes.{Mode.{Mode}, Scope.{Scope}}
-use Rattle.html_page_stack.specs.declared.modes.Mode.TheVariants.{InHead, InHeadNoscript, InBody, InText, InTable, InCaption, InColumns, InSection, InRow, InCell}
+use Rattle.html_page_stack.specs.declared.modes.Mode.TheVariants.{InHead, InHeadNoscript, InBody, InText, InTable, InCaption, InColumns, InSection, InRow, InCell, InTemplate}
 use Rattle.html_page_stack.specs.declared.modes.Scope.TheVariants as scope
-use Rattle.html_page_tree.specs.PageBodies.{adopted, any_form_closed, element_ended, form_closed, form_ended, form_left, in_body_end}
-use Rattle.html_page_tree.specs.PageTrees.{by_mode, foreign_closed, in_foreign_end, in_part_end, part_closed, token_read, turn}
+use Rattle.html_page_tree.specs.PageBodies.{adopted, any_form_closed, element_ended, form_closed, form_ended, form_left, in_body_end, template_ended}
+use Rattle.html_page_tree.specs.PageTrees.{by_mode, foreign_closed, in_foreign_end, in_part_end, page_mode, part_closed, token_read, turn}
 use Rattle.html_page_tree.proofs.OwnEnds as own
 use Rattle.typst_html_nesting_laws.proofs.{Alike.{space_foreign, space_html}, Branches.{either, pick, decide, skip}, Capitals.{fails_small}}
-use Rattle.typst_html_nesting_laws.proofs.{KeptTags.{small_html}, ListedFormats.{IsInOrder, unlisted_or_last}, Modes.{brings, own_mode}}
-use Rattle.typst_html_nesting_laws.proofs.Closed.{closed_is}
+use Rattle.typst_html_nesting_laws.proofs.{KeptTags.{small_html}, ListedFormats.{IsInOrder, unlisted_or_last}, Modes.{brings, brings_told, none_raw, own_mode}}
+use Rattle.typst_html_nesting_laws.proofs.{Closed.{closed_is}, ClosedBefore.{while_not}}
+use Rattle.typst_html_nesting_laws.proofs.Templates.{body_mode, closed_own, closed_plain, hold_modes, is_template, is_template_mode, modes_there, reads_inside, template_page}
 use Rattle.typst_html_nesting_laws.proofs.{KindFacts.{AllFail, fails_of, names, outside_of, passes_of}, Rules.{foreign_fits, tag_fits}}
-use Rattle.typst_html_nesting_laws.proofs.{Stands.{Stands, html_stands, parts}, Steady.{around_steady}, Tables.{none_cleared}, Turns.{stack_mode, turn_taken}}
+use Rattle.typst_html_nesting_laws.proofs.{Stands.{Stands, html_stands, parts}, Steady.{around_steady}, Tables.{none_cleared}, Turns.{is_told, read_mode, stack_mode, turn_taken}}
 use Rattle.typst_html_nesting_laws.proofs.Ways.{AreAlike, AreBegun, IsAlike, IsCalm, IsSteady, ends_at_once, is_body_mode, is_page_place}
 
 -- the current node, an element of HTML
@@ -78,12 +79,23 @@ module _ (p : Page) (o : OpenElement) (os : List OpenElement) (html : is_html o.
       form = form;
     }
 
+    -- or any form, in a `template`
+    end_any : closed_in scope.General (of kind.Form) (of kind.Form) no_name q ≡ closed true q
+    end_any = pick _ (own.reached p o os html (of kind.Form) (bounds scope.General) h)
+        (own.over p o os html (of kind.Form) (of kind.Form) no_name h h
+        (ap (λ b. b && true) (unimplied kind.Form (unfold names in refl) h)))
+
     end_form : AreBegun (o ∷ os) p → any_form_closed q ≡ closed true q
-    end_form l = skip _ (ap (λ ts. not (length ts == 0)) l.ordinary.templates)
-        (ap (λ form. form_closed form q) (l.form ∙ pick _ at_form refl)
-        ∙ (form_ends ∙ (closed_is o os behind l.moved l.ordinary.templates
-        ∙ (ap made (forgotten None ∙ sym (forgotten p.form))
-        ∙ sym (closed_is o os q l.moved l.ordinary.templates)))))
+    end_form l =
+        let there = modes_there (o ∷ os) p.templates l.modes in
+        either (hold_modes p.templates) (λ e. end_any) (λ e.
+        let outer = (or_parts (is_template o) _ (sym there ∙ e)).1 in
+        let left : (form : Option ℕ) → (if hold_modes p.templates then form
+        else form_after true (o ∷ os) form) ≡ None = λ form. skip _ e (forgotten form) in
+        ap (λ form. form_closed form q)
+        (l.form ∙ pick _ (and_from _ _ (ap not outer) at_form) refl)
+        ∙ (form_ends ∙ (closed_is o os behind l.moved
+        ∙ (ap made (left None ∙ sym (left p.form)) ∙ sym (closed_is o os q l.moved)))))
 
   end_item : (s : Scope) → closed_in s (is n) (is n) (is n) q ≡ closed true q
   end_item s = own.within p o os html s (is n) (is n) named (own.but_named p o os html (is n) named)
@@ -121,6 +133,40 @@ module _ (p : Page) (o : OpenElement) (os : List OpenElement) (html : is_html o.
   part_ended test h implied =
       rw (own.none_implied_at_all p o os html implied, own.at_name p o os html test h)
       (own.closes p o os html test h)
+
+  -- the end tag of a `template`
+  end_template : of kind.Template n ≡ true → hold_modes p.templates ≡ true →
+      template_ended q ≡ closed_own o q
+  end_template h there =
+      let at = own.at_name p o os html (of kind.Template) h in
+      let implied : (of kind.Implied n || of kind.TablePart n) ≡ false =
+      or_from _ _ (unimplied kind.Template (unfold names in refl) h)
+      (fails_of (of kind.TablePart) kind.Template n (unfold names in refl) h) in
+      let thorough : thoroughly_closed q ≡ q =
+      while_not (is_at (λ m. of kind.Implied m || of kind.TablePart m)) (length q.stack) q
+      (and_right _ _ implied) in
+      let without : Page → Page = λ r. record r { templates = drop 1 r.templates } in
+      pick _ there (ap (λ r. template_closed (noted_if (not (is_at (of kind.Template) r.stack))
+      error.EndTagOverOpenElements r)) thorough
+      ∙ (ap (λ b. template_closed (noted_if (not b) error.EndTagOverOpenElements q)) at
+      ∙ (ap without (own.closes p o os html (of kind.Template) h)
+      ∙ ap (λ b. record (closed true q) {
+        templates = if b then drop 1 p.templates else p.templates;
+      }) (sym at))))
+
+  end_in_template : of kind.Template n ≡ true → hold_modes p.templates ≡ true → (m : Mode) →
+      is_template_mode m ≡ true → by_mode m (End n) q ≡ Taken (closed_own o q)
+  unfolding names
+  end_in_template h there InTemplate e = ap Taken (pick _ h (end_template h there))
+  end_in_template h there InBody e =
+      skip _ (none kind.Root refl) (skip _ (none kind.Br refl) (ap Taken
+      (skip _ (none kind.Form refl) (skip _ (none kind.P refl)
+      (skip _ (none kind.ListItem refl) (skip _ (none kind.DescriptionPart refl)
+      (skip _ (none kind.Heading refl) (skip _ (none kind.ClosesInScope refl)
+      (skip _ (none kind.Formatting refl) (pick _ h (end_template h there))))))))))) where
+        none : (k : Kind) → AllFail (of k) (kind_names kind.Template) → of k n ≡ false
+        none k all = fails_of (of k) kind.Template n all h
+  end_in_template h there m e = absurd (false≢true e)
 
   -- in the mode that the element itself brings
   end_own : (m : Mode) → brings m n os ≡ true → by_mode m (End n) q ≡ Taken (closed true q)
@@ -176,13 +222,29 @@ module _ (p : Page) (o : OpenElement) (os : List OpenElement) (html : is_html o.
   -- either way
   end_html : (l : Place) → is_void n ≡ false → of kind.Template n ≡ false →
       AreBegun (o ∷ os) p → Stands n os l →
-      (l ≡ place.Body → named_mode n os ≡ None → is_body_mode (mode (o ∷ os)) ≡ true) →
-      by_mode (mode q.stack) (End n) q ≡ Taken (closed true q)
+      (l ≡ place.Body → named_mode n os ≡ None →
+      is_body_mode (read_mode (mode (o ∷ os))) ≡ true) →
+      by_mode (page_mode q) (End n) q ≡ Taken (closed true q)
   end_html l filled plain kept (inl s) steady =
-      ap (λ m. by_mode m (End n) q) (own_mode o os s.mode html s.is) ∙ end_own s.mode s.is
-  end_html l filled plain kept (inr s) steady = end_around s.part s.table s.root
-      (outside_of is_void kind.Br n (unfold names in refl) filled) plain kept (mode q.stack)
-      (steady s.body s.none)
+      let here = own_mode o os s.mode html s.is in
+      ap (λ m. by_mode m (End n) q)
+      (stack_mode q kept.framesets (ap is_told here ∙ brings_told s.mode n os s.is) ∙ here)
+      ∙ end_own s.mode s.is
+  end_html l filled plain kept (inr s) steady =
+      let reads = reads_inside (o ∷ os) p.templates kept.modes (and_right _ _ plain)
+      (and_right _ _ (none_raw n os s.none)) in
+      ap (λ m. by_mode m (End n) q) (body_mode q kept.framesets kept.modes reads)
+      ∙ end_around s.part s.table s.root
+      (outside_of is_void kind.Br n (unfold names in refl) filled) plain kept
+      (read_mode (mode q.stack)) (steady s.body s.none)
+
+  -- of a `template`
+  end_template_here : of kind.Template n ≡ true → AreBegun (o ∷ os) p →
+      by_mode (page_mode q) (End n) q ≡ Taken (closed_own o q)
+  end_template_here h kept =
+      let at = own.at_name p o os html (of kind.Template) h in
+      end_in_template h (modes_there (o ∷ os) p.templates kept.modes ∙ or_left (is_template o) _ at)
+      (page_mode q) (template_page q o os refl kept.framesets at kept.modes)
 
 -- the current node, an element of SVG or MathML
 module _ (p : Page) (o : OpenElement) (os : List OpenElement)
@@ -230,53 +292,61 @@ module _ (above : List Ancestor) (h : Head) (kids : NodesView) (p : Page) (o : O
   keeps : keeps_case (capital_tags s) h.name ≡ true
   keeps = (tag_fits h kids (surroundings_of above) rules).case
 
-  turn_html : AreAlike above os → IsSteady above os → of kind.Template h.name ≡ false →
-      ends_at_once h ≡ false → nest.is_html s ≡ true →
-      turn (End (lowered h.name)) w ≡ Taken (closed true w)
-  turn_html alike steady t once html =
-      let here : is_html o.space ≡ true = space_html _ _ same ∙ html in
-      skip _ (ap not here)
-      (ap (λ m. by_mode m (End (lowered h.name)) w) (stack_mode w (record {
-        templates = kept.ordinary.templates;
-        framesets = kept.ordinary.framesets;
-      }))
-      ∙ (ap (λ m. by_mode (mode w.stack) (End m) w) (small_html _ _ html keeps ∙ sym same.name)
-      ∙ end_html p o os here (place_of above) (ap is_void same.name ∙ (or_parts _ _ once).1)
-      (ap (of kind.Template) same.name ∙ t) kept
-      (subst (λ m. Stands m os (place_of above)) (sym same.name)
-      (html_stands above h kids os alike page rules html t once))
-      (λ body none. around_steady above os alike steady body o
-      (either (is_html o.space) (λ e. none) (λ e. refl)))))
+  -- an element of HTML
+  module _ (alike : AreAlike above os) (steady : IsSteady above os) (once : ends_at_once h ≡ false)
+      (html : nest.is_html s ≡ true) where
+    html_here : is_html o.space ≡ true
+    html_here = space_html _ _ same ∙ html
 
-  turn_foreign : nest.is_html s ≡ false → turn (End (lowered h.name)) w ≡ Taken (closed true w)
+    end_plain : of kind.Template h.name ≡ false →
+        by_mode (page_mode w) (End o.head.name) w ≡ Taken (closed_own o w)
+    end_plain t =
+        let plain : of kind.Template o.head.name ≡ false = ap (of kind.Template) same.name ∙ t in
+        end_html p o os html_here (place_of above) (ap is_void same.name ∙ (or_parts _ _ once).1)
+        plain kept (subst (λ m. Stands m os (place_of above)) (sym same.name)
+        (html_stands above h kids os alike page rules html t once))
+        (λ body none. around_steady above os alike steady body o
+        (either (is_html o.space) (λ e. none) (λ e. refl)))
+        ∙ ap Taken (sym (closed_plain o w (and_right _ _ plain)))
+
+    turn_html : turn (End (lowered h.name)) w ≡ Taken (closed_own o w)
+    turn_html = skip _ (ap not html_here)
+        (ap (λ m. by_mode (page_mode w) (End m) w) (small_html _ _ html keeps ∙ sym same.name)
+        ∙ decide (of kind.Template h.name) (λ t. end_template_here p o os html_here
+        (ap (of kind.Template) same.name ∙ t) kept) end_plain)
+
+  turn_foreign : nest.is_html s ≡ false →
+      turn (End (lowered h.name)) w ≡ Taken (closed_own o w)
   turn_foreign foreign =
       let here : is_html o.space ≡ false = space_html _ _ same ∙ foreign in
       ap (λ m. turn (End (lowered m)) w) (sym same.name)
-      ∙ pick _ (ap not here) (end_foreign p o os (space_foreign _ _ same foreign)
+      ∙ (pick _ (ap not here) (end_foreign p o os (space_foreign _ _ same foreign)
       (subst (λ m. (of kind.Br (lowered m) || of kind.P (lowered m)) ≡ false) (sym same.name)
       (foreign_unbroken s h.name keeps
       (foreign_fits h kids (surroundings_of above) rules foreign).unbroken)))
+      ∙ ap Taken (sym (closed_plain o w (and_left _ _ here))))
 
 -- the end tag of an element closes it, and does nothing else
 pub end_taken : (above : List Ancestor) (h : Head) (kids : NodesView) (p : Page) (o : OpenElement)
     (os : List OpenElement) → p.stack ≡ o ∷ os → IsCalm (ancestor h above ∷ above) p →
     IsSteady above os → is_page_place (place_of above) ≡ false →
     element_misnesting h kids (surroundings_of above) ≡ None → ends_at_once h ≡ false →
-    token_read (End (lowered h.name)) p ≡ closed true p
+    token_read (End (lowered h.name)) p ≡ closed_own o p
 end_taken above h kids p o os e calm steady page rules once =
     let alike : AreAlike (ancestor h above ∷ above) (o ∷ os) =
     subst (AreAlike (ancestor h above ∷ above)) e calm.alike in
     let kept : AreBegun (o ∷ os) p = subst (λ s. AreBegun s p) e
     (record {
       ordered = calm.ordered;
+      modes = calm.modes;
       form = calm.form;
       moved = calm.moved;
-      ordinary = calm.ordinary;
+      framesets = calm.framesets;
     }) in
     subst (λ s. token_read (End (lowered h.name)) (record p { stack = s })
-    ≡ closed true (record p { stack = s })) (sym e)
+    ≡ closed_own o (record p { stack = s })) (sym e)
     (turn_taken (End (lowered h.name)) (record p { stack = o ∷ os })
-    (closed true (record p { stack = o ∷ os })) calm.tables
+    (closed_own o (record p { stack = o ∷ os })) calm.tables
     (decide (nest.is_html (space_of (reading_of above) h.name))
-    (λ html. turn_html above h kids p o os alike.0 kept page rules alike.1 steady
-    calm.plain.0 once html) (turn_foreign above h kids p o os alike.0 kept page rules)))
+    (turn_html above h kids p o os alike.0 kept page rules alike.1 steady once)
+    (turn_foreign above h kids p o os alike.0 kept page rules)))

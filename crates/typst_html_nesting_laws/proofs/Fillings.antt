@@ -23,11 +23,12 @@ use Rattle.html_page_stack.specs.OpenElements as open_elements
 use Rattle.html_page_stack.specs.declared.modes.Space.TheVariants as spaces
 use Rattle.html_page_tree.specs.PageTrees.{token_read}
 use Rattle.html_page_read.specs.{PageReading.{run}, PageTokens.{PageReader}}
-use Rattle.typst_html_nesting_laws.proofs.{Alike.{html_is, html_space}, Branches.{decide, of_two, pick, second_false, skip}, Closed.{closed_is, still_open}}
+use Rattle.typst_html_nesting_laws.proofs.{Alike.{html_is, html_space}, Branches.{of_two, second_false}, Closed.{closed_is, still_open}}
+use Rattle.typst_html_nesting_laws.proofs.Templates.{closed_own, hold_modes, is_template, modes_behind, modes_closed, modes_without_text}
 use Rattle.typst_html_nesting_laws.proofs.{EndTags.{end_emits}, RawTexts.{IsWithin, escapable_emits, raw_emits}}
-use Rattle.typst_html_nesting_laws.proofs.Forms.{AreGathered, IsFilled, Moment, are_texts, filled_normal, later, on, put_last, put_nodes, put_texted, put_texts, texted_children, texts_by_faults, with_text_is}
+use Rattle.typst_html_nesting_laws.proofs.Forms.{AreGathered, AreOrdered, IsFilled, Moment, are_texts, filled_normal, later, on, put_last, put_nodes, put_texted, put_texts, texted_children, texts_by_faults, with_text_is}
 use Rattle.typst_html_nesting_laws.proofs.InnerTexts.{feed_is, first_feed, joined_is, none_closes, plain_texts, plains_written, texts_clean, texts_good, texts_written}
-use Rattle.typst_html_nesting_laws.proofs.KindFacts.{dropped_feed, escapable_same, feed_dropped, not_escapable, raw_keeps, script_or_style}
+use Rattle.typst_html_nesting_laws.proofs.KindFacts.{dropped_feed, escapable_same, fails_of, feed_dropped, names, not_escapable, raw_keeps, script_or_style}
 use Rattle.typst_html_nesting_laws.proofs.ListedFormats.{IsInOrder, order_closed, order_without_text}
 use Rattle.typst_html_nesting_laws.proofs.{Rules.{ContentFits, ForeignFits}, Ways.{begun, begun_element}}
 use Rattle.typst_html_nesting_laws.proofs.Readers.{Emits, Takes, behind, data_at, raw_at, run_on, written_tag}
@@ -53,6 +54,19 @@ behind_raw : (tag : StartTag) (place : ℕ) (p : Page) → is_at (of kind.Raw) p
     ≡ raw_at (of kind.DropsFeed tag.name && is_at (of kind.DropsFeed) p.stack) (place + 1) p
 behind_raw tag place p h = rw h refl
 
+-- the form behind an element, by whether it is a `template`, one is open around it, and it is a form
+form_by : (template inside form : Bool) (start : ℕ) (before : Option ℕ) →
+    (template ≡ true → form ≡ false) → (form ≡ true → inside ≡ false → before ≡ None) →
+    (if template || inside then (if not inside && form then Some start else before)
+    else (if form && true then None
+    else (if not inside && form then Some start else before))) ≡ before
+form_by true true form start before other alone = refl
+form_by true false true start before other alone = absurd (false≢true (sym (other refl)))
+form_by true false false start before other alone = refl
+form_by false true form start before other alone = refl
+form_by false false true start before other alone = sym (alone refl refl)
+form_by false false false start before other alone = refl
+
 module _ (above : List Ancestor) (h : Head) (p : Page) (o : OpenElement) (os : List OpenElement)
     (c : NodesView) (t : List ℕ) (m : Moment) where
   -- the page behind the start tag, the element, and those around it
@@ -66,16 +80,31 @@ module _ (above : List Ancestor) (h : Head) (p : Page) (o : OpenElement) (os : L
   around = with_text t (record o { children = c }) ∷ os
 
   abbrev pub opened_moment : Moment
-  opened_moment = record { start = m.start; formats = opened_page.formats }
+  opened_moment = record {
+    start = m.start;
+    formats = opened_page.formats;
+    templates = opened_page.templates;
+  }
 
   -- behind its end tag, which begins at that moment
   abbrev pub closed_moment : Moment → Moment
-  closed_moment n = record n { formats = after_current true (opened ∷ around) n.formats }
+  closed_moment n = record n {
+    formats = after_current true (opened ∷ around) n.formats;
+    templates = modes_behind opened n.templates;
+  }
 
-  pub order_behind : (fs : Formats) → IsInOrder (opened ∷ around) fs →
+  pub formats_behind : (fs : Formats) → IsInOrder (opened ∷ around) fs →
       IsInOrder (o ∷ os) (after_current true (opened ∷ around) fs)
-  order_behind fs h = order_without_text t (record o { children = c }) os _
+  formats_behind fs h = order_without_text t (record o { children = c }) os _
       (order_closed opened around fs h)
+
+  pub order_behind : (n : Moment) → AreOrdered (opened ∷ around) n →
+      AreOrdered (o ∷ os) (closed_moment n)
+  order_behind n h = (
+    formats_behind n.formats h.0,
+    modes_without_text t (record o { children = c }) os _
+        (modes_closed opened around n.templates h.1),
+  )
 
   -- as a child, once it is filled
   abbrev pub with_child : (children : NodesView) → NodesView
@@ -83,17 +112,29 @@ module _ (above : List Ancestor) (h : Head) (p : Page) (o : OpenElement) (os : L
       with_last (texted_children o.head.span c t) (element_node opened.head children)
 
   -- the form behind its end tag
-  abbrev pub last_form : Option ℕ
-  last_form = form_after true (opened ∷ around) opened_page.form
+  abbrev pub last_form : Moment → Option ℕ
+  last_form n = if hold_modes n.templates then opened_page.form
+      else form_after true (opened ∷ around) opened_page.form
 
-  -- it is that before its start tag, unless it is a form in another
-  pub form_back : p.templates ≡ [] → (is_of (of kind.Form) opened ≡ true → p.form ≡ None) →
-      last_form ≡ p.form
-  form_back ordinary alone = ap (λ ts. form_after true (opened ∷ around)
-      (if not (not (length ts == 0)) && is_of (of kind.Form) opened then Some m.start else p.form))
-      ordinary ∙ decide (is_of (of kind.Form) opened)
-      (λ h. pick _ (and_from _ _ h refl) (sym (alone h)))
-      (λ h. skip _ (and_left _ _ h) (skip _ h refl))
+  -- it is that before its start tag, unless it is a form in another, in no `template`
+  abbrev pub FormIsAlone : Type 0
+  FormIsAlone = is_of (of kind.Form) opened ≡ true → hold_modes m.templates ≡ false →
+      p.form ≡ None
+
+  pub form_back : (n : Moment) →
+      hold_modes n.templates ≡ (is_template opened || hold_modes m.templates) → FormIsAlone →
+      last_form n ≡ p.form
+  form_back n same alone =
+      ap (λ b. if b then opened_page.form
+      else form_after true (opened ∷ around) opened_page.form) same
+      ∙ form_by (is_template opened) (hold_modes m.templates) (is_of (of kind.Form) opened) m.start
+      p.form template_alone alone
+    where
+      template_alone : is_template opened ≡ true → is_of (of kind.Form) opened ≡ false
+      template_alone e =
+          let html = open_elements.is_html opened.space in
+          and_right html (of kind.Form h.name) (fails_of (of kind.Form) kind.Template h.name
+          (unfold names in refl) (and_parts html (of kind.Template h.name) e).1)
 
   abbrev page_of : List OpenElement → Option ℕ → Moment → Page
   page_of stack form n = record p {
@@ -102,26 +143,28 @@ module _ (above : List Ancestor) (h : Head) (p : Page) (o : OpenElement) (os : L
     stack = stack;
     start = n.start;
     formats = n.formats;
+    templates = n.templates;
     form = form;
   }
 
-  pub closes : p.templates ≡ [] → is_removed o.space ≡ false → last_form ≡ p.form →
-      (children : NodesView)
-      (words : List ℕ) (n : Moment) → closed true (on opened_page opened around children words n)
+  pub closes : is_removed o.space ≡ false → (children : NodesView) (words : List ℕ) (n : Moment) →
+      last_form n ≡ p.form → closed_own opened (on opened_page opened around children words n)
       ≡ on p o os (with_child (texted_children m.start children words)) [] (closed_moment n)
-  closes ordinary stays form children words n =
+  closes stays children words n form =
       let y : OpenElement = with_text t (record o { children = c }) in
       let x : OpenElement = record opened { children = texted_children m.start children words } in
       let z : OpenElement = record o {
         children = with_child (texted_children m.start children words);
       } in
       let behind = closed_moment n in
-      closed_is (record opened { children = children }) around
-      (on opened_page opened around children words n) refl ordinary
-      ∙ (ap (λ w. page_of (uncovered (without_current (w ∷ y ∷ os))) last_form behind)
+      let with_modes : Page → Page =
+      λ r. record r { templates = modes_behind opened n.templates } in
+      ap with_modes (closed_is (record opened { children = children }) around
+      (on opened_page opened around children words n) refl)
+      ∙ (ap (λ w. page_of (uncovered (without_current (w ∷ y ∷ os))) (last_form n) behind)
       (with_text_is words opened children)
-      ∙ (ap (λ w. page_of (uncovered (placed x w ∷ os)) last_form behind) (with_text_is t o c)
-      ∙ (ap (λ s. page_of s last_form behind) (still_open z os stays)
+      ∙ (ap (λ w. page_of (uncovered (placed x w ∷ os)) (last_form n) behind) (with_text_is t o c)
+      ∙ (ap (λ s. page_of s (last_form n) behind) (still_open z os stays)
       ∙ ap (λ f. page_of (z ∷ os) f behind) form)))
 
   pub child_normal : (children kids : NodesView) → nodes_normal children ≡ nodes_normal kids →
@@ -133,15 +176,15 @@ module _ (above : List Ancestor) (h : Head) (p : Page) (o : OpenElement) (os : L
       ∙ put_texted o.head.span c t (plain (branch h.name h.attrs (nodes_normal kids)) k))
 
   -- from the start tag to the end tag
-  abbrev pub element_closed : p.templates ≡ [] → is_removed o.space ≡ false → last_form ≡ p.form →
-      (q behind_start : PageReader) (rest : List ℕ) (kids : NodesView) → run q (start_tag_text h) ≡ behind_start →
+  abbrev pub element_closed : is_removed o.space ≡ false → ((n : Moment) →
+      AreOrdered (opened ∷ around) n → last_form n ≡ p.form) → (q behind_start : PageReader)
+      (rest : List ℕ) (kids : NodesView) → run q (start_tag_text h) ≡ behind_start →
       IsFilled behind_start rest h.name kids opened_page opened around →
-      ((children : NodesView) (words : List ℕ) (n : Moment) →
-      IsInOrder (opened ∷ around) n.formats →
+      ((children : NodesView) (words : List ℕ) (n : Moment) → AreOrdered (opened ∷ around) n →
       token_read (End (lowered h.name)) (on opened_page opened around children words n)
-      ≡ closed true (on opened_page opened around children words n)) →
+      ≡ closed_own opened (on opened_page opened around children words n)) →
       AreGathered q (start_tag_text h ++ rest) false p o os c t (node (element_node h kids) none)
-  element_closed ordinary stays form q behind_start rest kids starts f ends =
+  element_closed stays form q behind_start rest kids starts f ends =
       let kept = texted_children m.start f.children f.words in
       let after : Page = on p o os (with_child kept) [] (closed_moment f.moment) in
       record {
@@ -149,9 +192,10 @@ module _ (above : List Ancestor) (h : Head) (p : Page) (o : OpenElement) (os : L
         words = [];
         place = f.place;
         moment = closed_moment f.moment;
-        ordered = order_behind f.moment.formats f.ordered;
+        ordered = order_behind f.moment f.ordered;
         is = run_on q behind_start _ (start_tag_text h) rest starts (f.is after
-            (ends f.children f.words f.moment f.ordered ∙ closes ordinary stays form f.children f.words f.moment));
+            (ends f.children f.words f.moment f.ordered
+            ∙ closes stays f.children f.words f.moment (form f.moment f.ordered)));
         same = child_normal kept kids (filled_normal m.start f);
       }
 
@@ -159,7 +203,7 @@ module _ (above : List Ancestor) (h : Head) (p : Page) (o : OpenElement) (os : L
 abbrev pub KidsAreGathered : Frames → (level : ℕ) → NodesView → Page → OpenElement →
     List OpenElement → Type 0
 KidsAreGathered frames level kids p o os = (pre_span fresh : Bool) (place : ℕ) (m : Moment) →
-    IsInOrder (o ∷ os) m.formats → nodes_faults frames pre_span false kids ≡ [] →
+    AreOrdered (o ∷ os) m → nodes_faults frames pre_span false kids ≡ [] →
     (fresh ≡ true → begin_with_feed kids ≡ false) →
     AreGathered (data_at fresh place (on p o os none [] m)) (nodes_text frames pre_span true
     (shut level) kids) (fresh_behind fresh kids) p o os none [] kids
@@ -169,7 +213,7 @@ module _ (frames : Frames) (level : ℕ) (name : List ℕ) (kids : NodesView) (p
   -- nodes, and the end tag
   pub nodes_filled : IsOf is_tag_char name → begins_with_letter name ≡ true →
       KidsAreGathered frames level kids p o os → (pre_span fresh : Bool) (place : ℕ) (m : Moment) →
-      IsInOrder (o ∷ os) m.formats → nodes_faults frames pre_span false kids ≡ [] →
+      AreOrdered (o ∷ os) m → nodes_faults frames pre_span false kids ≡ [] →
       (fresh ≡ true → begin_with_feed kids ≡ false) →
       IsFilled (data_at fresh place (on p o os none [] m))
       (nodes_text frames pre_span true (shut level) kids ++ end_tag_text name) name kids p o os
@@ -189,9 +233,9 @@ module _ (frames : Frames) (level : ℕ) (name : List ℕ) (kids : NodesView) (p
       }
 
   -- a line feed that is added is dropped, and no other
-  fed : (x f : Bool) (text : List ℕ) (place : ℕ) (m : Moment) → IsInOrder (o ∷ os) m.formats →
+  fed : (x f : Bool) (text : List ℕ) (place : ℕ) (m : Moment) → AreOrdered (o ∷ os) m →
       (x ≡ true → f ≡ true) → (x ≡ false → f ≡ true → begin_with_feed kids ≡ false) →
-      ((fresh : Bool) (place : ℕ) (m : Moment) → IsInOrder (o ∷ os) m.formats →
+      ((fresh : Bool) (place : ℕ) (m : Moment) → AreOrdered (o ∷ os) m →
       (fresh ≡ true → begin_with_feed kids ≡ false) →
       IsFilled (data_at fresh place (on p o os none [] m)) text name kids p o os) →
       IsFilled (data_at f place (on p o os none [] m))
@@ -243,8 +287,8 @@ raw_chars h ns f = let clean = left_empty _ (closing_faults h ns) f in
 
 module _ (frames : Frames) (level : ℕ) (above : List Ancestor) (h : Head) (kids : NodesView)
     (p : Page) (o : OpenElement) (os : List OpenElement) (c : NodesView) (t : List ℕ) (m : Moment)
-    (order : IsInOrder (opened above h p o os c t m ∷ around above h p o os c t m)
-    (opened_page above h p o os c t m).formats)
+    (order : AreOrdered (opened above h p o os c t m ∷ around above h p o os c t m)
+    (opened_moment above h p o os c t m))
     (named : IsOf is_tag_char h.name) (letter : begins_with_letter h.name ≡ true)
     (returns : has_return (nodes_raw_text kids) ≡ false)
     (faultless : inside_faults frames h kids ≡ []) where

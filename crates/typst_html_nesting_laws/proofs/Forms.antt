@@ -6,9 +6,10 @@ use Rattle.html_dom_tree.specs.Tree.{NodeView, tag_node, text_node, element_node
 use Rattle.typst_html_encode.{proofs.Runs.{right_empty}, specs.{ExportFaults.{nodes_raw_faults, void_faults}, Text.{nodes_raw_text}}}
 use Rattle.html_page_names.specs.ForeignNames.{lowered}
 use Rattle.html_page_stack.specs.{Formats.{Formats}, OpenElements.{OpenElement, end_in_text, joined, with_longer_last, with_text}, Pages.{Page, End}}
+use Rattle.html_page_stack.specs.declared.modes.Mode.{Mode}
 use Rattle.html_page_tree.specs.PageTrees.{token_read}
 use Rattle.html_page_read.specs.{PageReading.{run}, PageTokens.{PageReader}}
-use Rattle.typst_html_nesting_laws.proofs.{Branches.{decide}, ListedFormats.{IsInOrder}, Readers.{data_at, run_on}}
+use Rattle.typst_html_nesting_laws.proofs.{Branches.{decide}, ListedFormats.{IsInOrder}, Readers.{data_at, run_on}, Templates.{are_modes}}
 
 -- plain nodes behind a node, and behind nodes
 abbrev pub put_node : NodeView → Plains → Plains
@@ -83,10 +84,15 @@ pub no_children : (span : ℕ) (ns : NodesView) → void_faults span ns ≡ [] �
 no_children span none h = refl
 no_children span (node n ns) h = cc
 
--- where the last token began, and the active formatting elements
+-- where the last token began, the active formatting elements, and the modes of templates
 pub record Moment : Type 0 where
   pub start : ℕ
   pub formats : Formats
+  pub templates : List Mode
+
+-- formats and modes are those of these open elements
+abbrev pub AreOrdered : List OpenElement → Moment → Type 0
+AreOrdered os m = IsInOrder os m.formats × (are_modes os m.templates ≡ true)
 
 -- at another token
 abbrev pub later : (start : ℕ) → Moment → Moment
@@ -100,6 +106,7 @@ on p o os c t m = record p {
   stack = record o { children = c } ∷ os;
   start = m.start;
   formats = m.formats;
+  templates = m.templates;
 }
 
 -- nodes are read, behind children and a text
@@ -109,7 +116,7 @@ pub record AreGathered (q : PageReader) (text : List ℕ) (fresh : Bool) (p : Pa
   pub words : List ℕ
   pub place : ℕ
   pub moment : Moment
-  pub ordered : IsInOrder (o ∷ os) moment.formats
+  pub ordered : AreOrdered (o ∷ os) moment
   pub is : run q text ≡ data_at fresh place (on p o os children words moment)
   pub same : (k : Plains) →
       put_nodes children (put_words words k) ≡ put_nodes c (put_words t (put_nodes ns k))
@@ -136,7 +143,7 @@ pub record IsFilled (q : PageReader) (text name : List ℕ) (kids : NodesView) (
   pub children : NodesView
   pub words : List ℕ
   pub moment : Moment
-  pub ordered : IsInOrder (o ∷ os) moment.formats
+  pub ordered : AreOrdered (o ∷ os) moment
   pub place : ℕ
   pub is : (after : Page) → token_read (End (lowered name)) (on p o os children words moment)
       ≡ after → run q text ≡ data_at false place after

@@ -8,17 +8,17 @@ use Rattle.typst_html_encode.{proofs.Runs.{right_empty}, specs.FrameWriters.{Fra
 use Rattle.typst_html_encode.specs.{Fragments.{fragment_text}, ReadingBack.{NodeIsNamed, NodesAreNamed}}
 use Rattle.html_page_stack.specs.OpenElements.{OpenElement, root_of}
 use Rattle.html_page_stack.specs.Pages.{Page, Finish, closed, first_page, opened, settled}
-use Rattle.html_page_stack.specs.declared.modes.{Destination.TheVariants.{Parent}, Mode.TheVariants.{InBody}}
+use Rattle.html_page_stack.specs.declared.modes.{Destination.TheVariants.{Parent}, Mode.{Mode, TheVariants.{InBody}}}
 use Rattle.html_page_stack.specs.declared.modes.Space.TheVariants as spaces
 use Rattle.html_page_stack.specs.declared.modes.TableRule.TheVariants as rule
 use Rattle.html_page_tree.specs.{FragmentPages.{fragment_begun}, PageTrees.{token_read}}
 use Rattle.html_page_read.specs.FragmentReading.{fragment_passed, fragment_reader}
 use Rattle.html_page_read.specs.{PageReading.{page_result, root_made, run}, PageTokens.{finished}}
-use Rattle.typst_html_nesting_laws.proofs.{Fillings.{fresh_behind}, KindFacts.{names}, ListedFormats.{IsInOrder}}
+use Rattle.typst_html_nesting_laws.proofs.{Branches.{skip}, Fillings.{fresh_behind}, KindFacts.{names}}
 use Rattle.typst_html_nesting_laws.proofs.ListedFormats.Layer.{passed}
-use Rattle.typst_html_nesting_laws.proofs.Forms.{Moment, later, normal_is, on, put_texted, texted_children, with_text_is}
+use Rattle.typst_html_nesting_laws.proofs.Forms.{AreOrdered, Moment, later, normal_is, on, put_texted, texted_children, with_text_is}
 use Rattle.typst_html_nesting_laws.proofs.Nodes.{IsInside, NodesFit, element_fits, nodes_lead, rest_fits}
-use Rattle.typst_html_nesting_laws.proofs.{Opened.{opens}, Readers.{data_at}, Tables.{text_kept}, Turns.{html_token, mode_taken}}
+use Rattle.typst_html_nesting_laws.proofs.{Opened.{opens}, Readers.{data_at}, Tables.{text_kept}, Templates.{are_modes, hold_modes, modes_there}, Turns.{html_token, mode_taken}}
 use Rattle.typst_html_nesting_laws.specs.FragmentsStay.{FragmentsStay, IsKeptFragment, bare_head, begins_marked, fragment_root}
 use Rattle.typst_html_nesting_laws.specs.TreesStay.{NodeIsReadable, NodesAreReadable, no_notes}
 
@@ -80,12 +80,12 @@ in_body limit deep = record {
       record { name = refl; attrs = refl; space = refl },
       (record { name = refl; attrs = refl; space = refl }, tt),
     );
-    ordered = order;
+    ordered = order.0;
+    modes = order.1;
     form = refl;
     moved = refl;
-    ordinary = record { templates = refl; framesets = refl };
+    framesets = refl;
     tables = refl;
-    plain = (refl, (refl, tt));
   };
   steady = λ c e. refl;
   place = refl;
@@ -94,10 +94,17 @@ in_body limit deep = record {
   limit = omega (arith, deep);
 }
 
--- no formatting element is open around them
-no_formats : IsInOrder (body ∷ outer) []
+-- no formatting element and no `template` is open around them
+abbrev begin : Moment
+begin = record { start = 0; formats = []; templates = [] }
+
+in_order : AreOrdered (body ∷ outer) begin
 unfolding names
-no_formats = passed refl (passed refl refl)
+in_order = (passed refl (passed refl refl), refl)
+
+none_open : (ms : List Mode) → are_modes (body ∷ outer) ms ≡ true → hold_modes ms ≡ false
+unfolding names
+none_open ms h = modes_there (body ∷ outer) ms h
 
 -- they break no rule there
 nodes_fit : {frames : Frames} {ns : NodesView} → IsKeptFragment frames ns → NodesFit body_above ns
@@ -109,13 +116,14 @@ nodes_fit {ns = ns} kept =
       index = 0;
       named = ((((refl, refl), tt), tt), ((((refl, refl), tt), kept.named), tt));
       frame_free = (tt, (kept.frame_free, tt));
-      readable = (((refl, omega arith), tt), (((refl, omega arith), kept.readable), tt));
+      readable = ((omega arith, tt), ((omega arith, kept.readable), tt));
       nested = right_empty _ _ kept.nested;
     } in
     (element_fits (rest_fits page)).below
 
 -- the end of the text, behind children and a text
-module _ (limit place : ℕ) (fresh : Bool) (c : NodesView) (t : List ℕ) (m : Moment) where
+module _ (limit place : ℕ) (fresh : Bool) (c : NodesView) (t : List ℕ) (m : Moment)
+    (order : AreOrdered (body ∷ outer) m) where
   -- the page at the end of the text
   abbrev last : Page
   last = on (body_page limit) body outer c t (later place m)
@@ -123,9 +131,9 @@ module _ (limit place : ℕ) (fresh : Bool) (c : NodesView) (t : List ℕ) (m : 
   -- which the end does not change
   finish_taken : token_read Finish last ≡ last
   unfolding names
-  finish_taken = mode_taken Finish last InBody last refl
-      (record { templates = refl; framesets = refl })
-      (html_token Finish (record body { children = c }) outer refl) refl refl ∙ text_kept last refl
+  finish_taken = mode_taken Finish last InBody last refl refl refl
+      (html_token Finish (record body { children = c }) outer refl) refl
+      (skip _ (none_open m.templates order.1) refl) ∙ text_kept last refl
 
   -- and which is read as the page around those children
   page_ends : page_result (finished
@@ -137,17 +145,16 @@ module _ (limit place : ℕ) (fresh : Bool) (c : NodesView) (t : List ℕ) (m : 
 -- so nodes are gathered between the beginning and the end
 pub fragments_stay : FragmentsStay
 fragments_stay frames limit ns kept deep =
-    let begin : Moment = record { start = 0; formats = [] } in
     let text = fragment_text frames ns in
     let g = nodes_lead frames ns false true 0 body_above (body_page limit) body outer false 0 none
-    [] begin (in_body limit deep) no_formats (nodes_fit kept) kept.clean
+    [] begin (in_body limit deep) in_order (nodes_fit kept) kept.clean
     (λ e. absurd (false≢true e)) in
     let whole = passed_whole limit text kept.unmarked
     ∙ (ap (λ p. run (data_at false 0 p) text) (page_begun limit) ∙ g.is) in
     record {
       root = fragment_root (texted_children 0 g.children g.words);
       read = ap (λ q. page_result (finished q).page) whole
-          ∙ page_ends limit g.place (fresh_behind false ns) g.children g.words g.moment;
+          ∙ page_ends limit g.place (fresh_behind false ns) g.children g.words g.moment g.ordered;
       same = normal_is (texted_children 0 g.children g.words)
           ∙ (put_texted 0 g.children g.words no_plains
           ∙ (g.same no_plains ∙ sym (normal_is ns)));

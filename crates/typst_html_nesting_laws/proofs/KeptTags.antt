@@ -1,21 +1,24 @@
 -- A start tag whose name and attributes keep their case is read as it is.
-use Rattle.std.proofs.{Common.{◌≡◌, ℕ, ◌<◌, Bool, true, false, not, List, length, map-id, refl, sym, ap, ◌∙◌}, lemmas.Bool.{false≢true}}
+use Rattle.std.proofs.{Common.{◌≡◌, ℕ, ◌<◌, Bool, true, false, not, ◌||◌, List, ◌∷◌, codes, length, map-id, refl, sym, ap, ◌∙◌}, lemmas.Bool.{and_from, and_right, false≢true, lt-leb, or_from}}
 use Rattle.std.specs.Prelude.{if◌then◌else◌}
-use Rattle.html_names_core.specs.Kinds.{is_foreign_self_closing}
+use Rattle.html_names_core.specs.Kinds.{is_foreign_self_closing, is_void}
 use Rattle.html_dom_tree.specs.{Attributes.{names_differ}, Tree.{TextPair, Head}}
-use Rattle.html_page_nesting.specs.{Ancestors.{begun_space, is_html, is_read_as_html, space_of}, declared.reading.Space.{Space}}
+use Rattle.html_page_nesting.specs.{Ancestors.{Ancestor, begun_space, is_html, is_read_as_html, reading_of, space_of}, declared.reading.Space.{Space}}
 use Rattle.html_page_nesting.specs.{WrittenTags.{capital_attrs, capital_tags, keep_case}, declared.reading.Reading.{Reading}}
 use Rattle.html_page_nesting.specs.declared.reading.Space.TheVariants.{Html, Svg, MathMl}
 use Rattle.html_page_nesting.specs.declared.reading.Reading.TheVariants as reading
 use Rattle.html_page_names.specs.{ForeignNames.{keeps_case, lowered, svg_attrs, svg_names, math_attrs}, PageNames.{of}}
 use Rattle.html_page_names.specs.declared.kind.Kind.TheVariants as kind
-use Rattle.html_page_stack.specs.{OpenElements.{at, is_table_context}, Pages.{Page, StartTag, added_to, closed, opened, opened_here, opened_to}}
-use Rattle.html_page_stack.specs.declared.modes.Destination.TheVariants.{Parent}
+use Rattle.html_page_stack.specs.{OpenElements.{OpenElement, at, is_table_context}, Pages.{Page, StartTag, added_to, closed, opened, opened_here, opened_to, settled, template_opened, with_element}}
+use Rattle.html_page_stack.specs.OpenElements as open_elements
+use Rattle.html_page_stack.specs.declared.modes.{Destination.TheVariants.{Parent}, Mode.TheVariants.{InTemplate}}
+use Rattle.html_page_stack.specs.declared.modes.FramesetRule.TheVariants as frameset
 use Rattle.html_page_stack.specs.declared.modes.Space.TheVariants as spaces
 use Rattle.html_page_tree.specs.PageBodies.{entered, foreign_attrs, foreign_name}
 use Rattle.typst_html_nesting_laws.proofs.Capitals.{attrs_back, attrs_come_back, attrs_small, capitals_back, names_lowered_differ, small_back}
-use Rattle.typst_html_nesting_laws.proofs.{KindFacts.{agree_of, fails_of, names}, Opened.{Opens, adds, adds_in, letter_plain, made, one_of, opens, opens_here, opens_to}, Rules.{TagFits}}
-use Rattle.typst_html_nesting_laws.proofs.{Readers.{lowered_attrs, written_tag}, Ways.{open_space}, Branches.{decide}}
+use Rattle.typst_html_nesting_laws.proofs.{KindFacts.{agree_of, fails_of, names}, Opened.{Opens, adds, adds_in, letter_plain, made, one_of, opened_as, opens, opens_here, opens_to, template_begun}, Rules.{TagFits}}
+use Rattle.typst_html_nesting_laws.proofs.{Readers.{lowered_attrs, written_tag}, RootParts.{name_of}, Templates.{is_template}, Ways.{begun, begun_element, open_space}}
+use Rattle.typst_html_nesting_laws.proofs.Branches.{decide, pick, skip}
 
 -- its attributes differ in small letters
 pub lowered_differ : (s : Space) (h : Head) → TagFits s h →
@@ -88,6 +91,14 @@ module _ (h : Head) (p : Page) (fits : length p.stack < p.limit) where
   ) refl
   added_back s e kept = absurd (cc)
 
+  -- a `template`
+  template_back : (s : Space) → s ≡ Html → TagFits s h → tag.name ≡ codes "template" →
+      template_opened Parent tag.attrs p
+      ≡ template_begun (made (open_space s) h.name h.attrs p)
+  template_back s e kept named = skip _ (lt-leb p.limit (length p.stack) fits)
+      (ap (λ n. template_begun (opened_to Parent spaces.Html n tag.attrs p)) (sym named)
+      ∙ ap template_begun (placed_back s e kept))
+
   begun_back : at is_table_context p.stack ≡ false → (s t : Space) → s ≡ t → TagFits s h →
       is_foreign_self_closing h.name ≡ false →
       entered (open_space t) tag p ≡ made (open_space s) h.name h.attrs p
@@ -115,6 +126,10 @@ reading_small reading.AsMathText n h =
 reading_small reading.AsAnnotation n h = ap (of kind.Svg) (small_in (of kind.Svg n) n h)
 reading_small r n h = refl
 
+-- a `template` is one of HTML
+template_html : (n : List ℕ) → of kind.Template n ≡ true → begun_space n ≡ Html
+template_html n t = agree_of begun_space (λ m. Html) kind.Template n (unfold names in refl) t
+
 -- the element that it opens by the rules of HTML
 pub written_opens : (h : Head) (p : Page) (s : Space) → length p.stack < p.limit →
     s ≡ begun_space h.name → TagFits s h → lowered h.name ≡ h.name → is_foreign_self_closing h.name
@@ -128,4 +143,39 @@ written_opens h p s fits is kept small c = record {
   svg = λ outside a. begun_back h p fits outside s Svg (is ∙ rw (rw small at a) refl) kept c;
   math = λ outside a. let m = rw small at a in begun_back h p fits outside s MathMl
       (is ∙ rw (fails_of (of kind.Svg) kind.Math h.name (unfold names in refl) m, m) refl) kept c;
+  template = λ a. let t = rw small at a in template_back h p fits s
+      (is ∙ template_html h.name t) kept
+      (small ∙ name_of kind.Template (codes "template") h.name refl t);
 }
+
+-- and the page once that is read
+
+-- of an element that is no `template`
+pub begun_plain : (h : Head) (above : List Ancestor) (p : Page) →
+    is_template (begun_element h above p.start) ≡ false →
+    made (open_space (space_of (reading_of above) h.name)) h.name h.attrs p ≡ begun h above p
+begun_plain h above p e =
+    let it = begun_element h above p.start in
+    ap (λ b. record (with_element it (settled p)) {
+      templates = if b then InTemplate ∷ p.templates else p.templates;
+    }) (sym e)
+
+-- of one of HTML
+pub begun_as : (h : Head) (above : List Ancestor) (p : Page) → p.framesets ≡ frameset.Ignored →
+    space_of (reading_of above) h.name ≡ begun_space h.name →
+    is_foreign_self_closing h.name ≡ false →
+    opened_as h.name (made (open_space (space_of (reading_of above) h.name)) h.name h.attrs p)
+    ≡ one_of (is_foreign_self_closing h.name || is_void h.name) (begun h above p)
+begun_as h above p barred is c =
+    let it = begun_element h above p.start in
+    decide (of kind.Template h.name)
+    (λ t. let here : is_template it ≡ true = and_from _ _ (ap (λ x. open_elements.is_html
+    (open_space x)) (is ∙ template_html h.name t)) t in
+    pick _ t (ap (λ b. record (with_element it (settled p)) {
+      templates = if b then InTemplate ∷ p.templates else p.templates;
+      framesets = frameset.Ignored;
+    }) (sym here) ∙ (ap (λ r. record (begun h above p) { framesets = r }) (sym barred)
+    ∙ sym (skip _ (or_from _ _ c (fails_of is_void kind.Template h.name (unfold names in refl) t))
+    refl))))
+    (λ t. skip _ t (ap (one_of (is_void h.name)) (begun_plain h above p (and_right _ _ t))
+    ∙ ap (λ b. one_of (b || is_void h.name) (begun h above p)) (sym c)))

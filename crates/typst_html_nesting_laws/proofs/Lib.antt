@@ -33,6 +33,7 @@ pub mod Steady
 pub mod Tables
 pub mod TagChars
 pub mod Taken
+pub mod Templates
 pub mod Texts
 pub mod Turns
 pub mod Ways

@@ -1,13 +1,13 @@
 -- The mode that an element of HTML brings, that around it, and what may stand in it.
-use Rattle.std.proofs.{Common.{◌≡◌, ℕ, Bool, true, false, ◌&&◌, List, ◌∷◌, length, map, refl, ap, ◌∙◌}, Math.Dec.{eqb-suc-zero}}
-use Rattle.std.{proofs.lemmas.{Bool.{and_parts, false≢true}, Option.{none-some}}, specs.Prelude.{if◌then◌else◌, Option, Some, None}}
+use Rattle.std.proofs.{Common.{◌≡◌, ℕ, Bool, true, false, ◌&&◌, List, ◌∷◌, length, map, refl, sym, ap, ◌∙◌}, Math.Dec.{eqb-suc-zero}}
+use Rattle.std.{proofs.lemmas.{Bool.{and_parts, false_from_ne_true, false≢true}, Option.{none-some}}, specs.Prelude.{if◌then◌else◌, Option, Some, None}}
 use Rattle.html_page_nesting.specs.{Ancestors.{place_in}, declared.reading.Place.{Place}}
 use Rattle.html_page_nesting.specs.declared.reading.Place.TheVariants as place
 use Rattle.html_page_names.specs.{PageNames.{kind_names, of}, declared.kind.Kind.{Kind}}
 use Rattle.html_page_names.specs.declared.kind.Kind.TheVariants as kind
 use Rattle.html_page_stack.specs.{OpenElements.{OpenElement, is_at, is_html, mode, named_mode}, declared.modes.Mode.{Mode}}
 use Rattle.html_page_stack.specs.declared.modes.Mode.TheVariants.{InHead, InHeadNoscript, InText, InTable, InCaption, InColumns, InSection, InRow, InCell, InTemplate}
-use Rattle.typst_html_nesting_laws.proofs.KindFacts.{agree_of, names}
+use Rattle.typst_html_nesting_laws.proofs.{KindFacts.{agree_of, names}, Turns.{is_told}}
 
 -- an element of that name brings that mode, in which its own end tag ends it
 abbrev pub brings : Mode → (name : List ℕ) → List OpenElement → Bool
@@ -44,6 +44,17 @@ brought InRow n os h = brought_by n os kind.Tr InRow refl h
 brought InCell n os h = brought_by n os kind.Cell InCell refl h
 brought _ n os h = absurd (false≢true h)
 
+-- which the open elements tell
+pub brings_told : (m : Mode) (n : List ℕ) (os : List OpenElement) → brings m n os ≡ true →
+    is_told m ≡ true
+brings_told InTemplate n os h = absurd (false≢true h)
+brings_told m n os h = refl
+
+-- an element that brings none is none of text alone
+pub none_raw : (n : List ℕ) (os : List OpenElement) → named_mode n os ≡ None →
+    of kind.Raw n ≡ false
+none_raw n os e = false_from_ne_true _ (λ h. none-some InText (sym e ∙ brought InText n os h))
+
 -- where such an element is the current one
 pub own_mode : (o : OpenElement) (os : List OpenElement) (m : Mode) → is_html o.space ≡ true →
     brings m o.head.name os ≡ true → mode (o ∷ os) ≡ m
@@ -72,6 +83,17 @@ mode_in place.Section = Some InSection
 mode_in place.Row = Some InRow
 mode_in place.Columns = Some InColumns
 mode_in place.Body = None
+
+-- which the open elements tell
+abbrev pub tells : Option Mode → Bool
+tells None = true
+tells (Some m) = is_told m
+
+pub told_in : (l : Place) (m : Mode) → mode_in l ≡ Some m → is_told m ≡ true
+told_in l m e = sym (ap tells e) ∙ told l where
+  told : (l : Place) → tells (mode_in l) ≡ true
+  told place.Page = refl
+  told l = refl
 
 -- the test that an element passes in which that place is, unless it is a body
 abbrev pub place_test : Place → (is_in_head : Bool) → (name : List ℕ) → Bool

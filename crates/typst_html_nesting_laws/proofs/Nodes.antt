@@ -1,8 +1,8 @@
 -- Nodes that break no rule are read as they are.
-use Rattle.std.proofs.Common.{◌≡◌, ℕ, suc, ◌+◌, ◌<◌, ◌≤◌, Bool, true, false, ◌&&◌, List, [], ◌∷◌, ◌++◌, Some, None, length, refl, sym, ap, subst, ◌∙◌, append-nil, arith}
+use Rattle.std.proofs.Common.{◌≡◌, ℕ, suc, ◌+◌, ◌<◌, ◌≤◌, Bool, true, false, ◌&&◌, ◌||◌, List, [], ◌∷◌, ◌++◌, Some, None, length, refl, sym, ap, subst, ◌∙◌, append-nil, arith}
 use Rattle.std.proofs.lemmas.Bool.{and_left, and_parts, and_right, both_ways, false_from_ne_true, false≢true, ltb-false, true≢false}
 use Rattle.std.specs.{List.{list_all}, Prelude.{if◌then◌else◌}}
-use Rattle.html_names_core.specs.Kinds.{is_escapable_raw, is_raw}
+use Rattle.html_names_core.specs.Kinds.{is_escapable_raw, is_foreign_self_closing, is_raw, is_void}
 use Rattle.html_dom_tree.{proofs.Basics.{put_twice}, specs.FrameFree.{NodeIsFrameFree, NodesAreFrameFree}}
 use Rattle.html_dom_tree.specs.Tree.{Head, NodeView, tag_node, text_node, element_node, frame_node, NodesView, none, node}
 use Rattle.html_page_nesting.specs.{Ancestors.{Ancestor, ancestor, is_html, place_of, reading_of, space_of}, Contents.{begin_with_feed}}
@@ -21,12 +21,13 @@ use Rattle.html_page_stack.specs.{OpenElements.{OpenElement, is_of, is_removed},
 use Rattle.html_page_tree.specs.PageTrees.{token_read}
 use Rattle.html_page_read.specs.{PageReading.{run}, PageTokens.{PageReader}}
 use Rattle.html_page_stack.specs.Pages.{most_attrs}
-use Rattle.typst_html_nesting_laws.proofs.{Alike.{html_is, html_space, never_removed}, Begun.{start_taken}, Branches.{else_none, if_none, decide}}
+use Rattle.typst_html_nesting_laws.proofs.{Alike.{html_is, html_space, never_removed}, Begun.{IsBegun, start_taken}, Branches.{else_none, if_none, decide}}
 use Rattle.typst_html_nesting_laws.proofs.{Closed.{calm_begun}, ClosedBefore.{no_form}, Ended.{end_taken}, InnerTexts.{all_pass, no_return, no_returns}}
-use Rattle.typst_html_nesting_laws.proofs.Fillings.{KidsAreGathered, alone_filled, around, behind_data, child_normal, closed_moment, closes, element_closed, foreign_filled, form_back, fresh_behind, html_filled, filling, inside_faults, last_form, opened, opened_moment, opened_page, order_behind, with_child}
-use Rattle.typst_html_nesting_laws.proofs.Forms.{AreGathered, IsFilled, Moment, gathered_on, later, no_children, on, put_nodes, texted_children, with_text_is}
-use Rattle.typst_html_nesting_laws.proofs.{KeptTags.{lowered_differ, small_html}, KindFacts.{escapable_of, once_keeps, raw_of}}
-use Rattle.typst_html_nesting_laws.proofs.ListedFormats.{IsInOrder}
+use Rattle.typst_html_nesting_laws.proofs.Fillings.{FormIsAlone, KidsAreGathered, alone_filled, around, behind_data, child_normal, closed_moment, closes, element_closed, foreign_filled, form_back, fresh_behind, html_filled, filling, formats_behind, inside_faults, last_form, opened, opened_moment, opened_page, with_child}
+use Rattle.typst_html_nesting_laws.proofs.Forms.{AreGathered, AreOrdered, IsFilled, Moment, gathered_on, later, no_children, on, put_nodes, texted_children, with_text_is}
+use Rattle.typst_html_nesting_laws.proofs.{KeptTags.{lowered_differ, small_html}, KindFacts.{escapable_of, names, none_of, once_keeps, raw_of}}
+use Rattle.typst_html_nesting_laws.proofs.{ListedFormats.{order_opened, order_with_text}, Opened.{one_of}}
+use Rattle.typst_html_nesting_laws.proofs.Templates.{ReadsBody, are_modes, closed_own, closed_plain, has_with_text, is_template, modes_back, modes_deeper, modes_there}
 use Rattle.typst_html_nesting_laws.proofs.{Readers.{Emits, Takes, behind, data_at, written_tag}, StartTags.{start_emits}}
 use Rattle.typst_html_nesting_laws.proofs.Rules.{ContentFits, TagFits, content_fits, foreign_fits, form_alone, found_none, html_read, named_kept, still_no_page, tag_fits}
 use Rattle.typst_html_nesting_laws.proofs.Stands.{named_no_plaintext}
@@ -37,7 +38,7 @@ use Rattle.typst_html_nesting_laws.proofs.Ways.{AreAlike, IsCalm, IsSteady, ends
 -- a page in whose current node nodes are read
 pub record IsInside (above : List Ancestor) (p : Page) (o : OpenElement) (os : List OpenElement) :
     Type 0 where
-  pub calm : (c : NodesView) (t : List ℕ) (m : Moment) → IsInOrder (o ∷ os) m.formats →
+  pub calm : (c : NodesView) (t : List ℕ) (m : Moment) → AreOrdered (o ∷ os) m →
       IsCalm above (on p o os c t m)
   pub steady : (c : NodesView) → IsSteady above (record o { children = c } ∷ os)
   pub place : is_page_place (place_of above) ≡ false
@@ -57,7 +58,6 @@ pub record NodesFit (above : List Ancestor) (ns : NodesView) : Type 0 where
 -- and an element
 pub record ElementFits (above : List Ancestor) (h : Head) (kids : NodesView) : Type 0 where
   pub named : HeadIsNamed h
-  pub template : of kind.Template h.name ≡ false
   pub few : length h.attrs ≤ most_attrs
   pub shallow : length above ≤ 512
   pub fits : element_misnesting h kids (surroundings_of above) ≡ None
@@ -88,8 +88,7 @@ element_fits f =
     let x = shallow_by _ _ _ _ (left_empty _ _ f.nested) in
     record {
       named = f.named.0.0;
-      template = f.readable.0.0.0;
-      few = f.readable.0.0.1;
+      few = f.readable.0.0;
       shallow = ltb-false _ _ x.0;
       fits = found_none _ _ _ (left_empty _ _ x.1);
       below = record {
@@ -110,16 +109,15 @@ text_fits f = found_none _ _ _ (left_empty _ _ f.nested)
 -- a calm page stays so, whatever children the current node has
 pub calm_on : (above : List Ancestor) (p : Page) (o : OpenElement) (os : List OpenElement)
     (c : NodesView) (t : List ℕ) (m : Moment) → p.stack ≡ o ∷ os → IsCalm above p →
-    IsInOrder (o ∷ os) m.formats → IsCalm above (on p o os c t m)
+    AreOrdered (o ∷ os) m → IsCalm above (on p o os c t m)
 calm_on above p o os c t m e calm order = record {
   alike = alike_with above (subst (AreAlike above) e calm.alike);
-  ordered = order;
+  ordered = order.0;
+  modes = order.1;
   form = calm.form ∙ ap form_of e;
   moved = refl;
-  ordinary =
-      record { templates = calm.ordinary.templates; framesets = calm.ordinary.framesets };
+  framesets = calm.framesets;
   tables = calm.tables;
-  plain = calm.plain;
 } where
   alike_with : (above : List Ancestor) → AreAlike above (o ∷ os) →
       AreAlike above (record o { children = c } ∷ os)
@@ -150,7 +148,7 @@ taken_in w above p s e calm steady n m = record {
 
 pub text_gathered : (above : List Ancestor) (p : Page) (o : OpenElement) (os : List OpenElement)
     (c : NodesView) (t : List ℕ) (m : Moment) (pre_span fresh : Bool) (place : ℕ) (text : List ℕ)
-    (span : ℕ) (passes : ℕ → Bool) → IsInOrder (o ∷ os) m.formats →
+    (span : ℕ) (passes : ℕ → Bool) → AreOrdered (o ∷ os) m →
     Takes passes (on p o os c t m) → list_all passes text ≡ true →
     text_faults (escaping_of pre_span) span text ≡ [] → text_misnesting text (surroundings_of above)
     ≡ None → (fresh ≡ true → begins_with_lf text ≡ false) →
@@ -195,7 +193,7 @@ element_starts {above} {h} {kids} f values fresh place p =
 abbrev pub AreLed : Frames → NodesView → Type 0
 AreLed frames ns = (pre_span due : Bool) (level : ℕ) (above : List Ancestor) (p : Page)
     (o : OpenElement) (os : List OpenElement) (fresh : Bool) (place : ℕ) (c : NodesView)
-    (t : List ℕ) (m : Moment) → IsInside above p o os → IsInOrder (o ∷ os) m.formats →
+    (t : List ℕ) (m : Moment) → IsInside above p o os → AreOrdered (o ∷ os) m →
     NodesFit above ns → nodes_faults frames pre_span false ns ≡ [] →
     (fresh ≡ true → begin_with_feed ns ≡ false) →
     AreGathered (data_at fresh place (on p o os c t m))
@@ -217,7 +215,7 @@ module _ (frames : Frames) (level : ℕ) {above : List Ancestor} {h : Head} {kid
     (f : ElementFits above h kids) (values : attrs_faults h.span h.attrs ≡ [])
     (c : NodesView) (t : List ℕ) where
   -- behind the start tag, which begins at that moment
-  module _ (m : Moment) (order : IsInOrder (o ∷ os) m.formats) where
+  module _ (m : Moment) (order : AreOrdered (o ∷ os) m) where
     abbrev page : Page
     page = opened_page above h p o os c t m
 
@@ -234,25 +232,18 @@ module _ (frames : Frames) (level : ℕ) {above : List Ancestor} {h : Head} {kid
     stays : is_removed o.space ≡ false
     stays = never_removed above (record o { children = c }) os (there.calm c t m order).alike
 
-    -- no `template` is open
-    lone : p.templates ≡ []
-    lone = (there.calm c t m order).ordinary.templates
-
-    returns : last_form above h p o os c t m ≡ p.form
-    returns =
+    alone : FormIsAlone above h p o os c t m
+    alone e outside =
         let calm = there.calm c t m order in
-        form_back above h p o os c t m lone (λ e. let both = and_parts _ _ e in calm.form
-        ∙ no_form above (record o { children = c } ∷ os) calm.alike calm.plain
-        (form_alone above h kids there.place f.fits (sym (html_is space) ∙ both.0) both.1))
+        let both = and_parts _ _ e in
+        calm.form ∙ no_form above (record o { children = c } ∷ os) calm.alike
+        (sym (modes_there (record o { children = c } ∷ os) m.templates order.1) ∙ outside)
+        (form_alone above h kids there.place f.fits (sym (html_is space) ∙ both.0) both.1)
 
-    calm_page : IsCalm (ancestor h above ∷ above) page
-    calm_page = calm_begun above h (on p o os c t m) (there.calm c t m order) f.template
-
-    calm_filled : (children : NodesView) (words : List ℕ) (n : Moment) →
-        IsInOrder (it ∷ outer) n.formats →
-        IsCalm (ancestor h above ∷ above) (on page it outer children words n)
-    calm_filled children words n x =
-        calm_on (ancestor h above ∷ above) page it outer children words n refl calm_page x
+    returns : (n : Moment) → AreOrdered (it ∷ outer) n → last_form above h p o os c t m n ≡ p.form
+    returns n x = form_back above h p o os c t m n (modes_there (it ∷ outer) n.templates x.1
+        ∙ ap (λ b. is_template it || b) (has_with_text t (record o { children = c }) os
+        ∙ sym (modes_there (record o { children = c } ∷ os) m.templates order.1))) alone
 
     steady_outer : IsSteady above outer
     steady_outer = subst (λ x. IsSteady above (x ∷ os)) (sym (with_text_is t o c))
@@ -267,102 +258,136 @@ module _ (frames : Frames) (level : ℕ) {above : List Ancestor} {h : Head} {kid
     plaintext_it = decide (is_html space) (λ x. and_right _ _ (no_plaintext x))
         (λ x. ap (λ b. b && of kind.Plaintext h.name) (html_is space ∙ x))
 
-    inside_it : ends_at_once h ≡ false → (is_html (space_of (reading_of above) h.name)
-        && of kind.Raw h.name) ≡ false → IsInside (ancestor h above ∷ above) page it outer
-    inside_it e r = record {
-      calm = calm_filled;
-      steady = λ children. steady_begun above h kids outer calm_page.alike.1 steady_outer
-          there.place f.fits f.template e r (record it { children = children })
-          (record { name = refl; attrs = refl; space = refl });
-      place = still_no_page above h kids there.place f.fits;
-      raw = ap (λ b. b && of kind.Raw h.name) (html_is (space_of (reading_of above) h.name)) ∙ r;
-      plaintext = plaintext_it;
-      limit = there.limit;
-    }
+    -- the element has content
+    module _ (e : ends_at_once h ≡ false) (reads : ReadsBody it m.templates) where
+      calm_page : IsCalm (ancestor h above ∷ above) page
+      calm_page = calm_begun above h (on p o os c t m) (there.calm c t m order) reads
 
-    ends_it : ends_at_once h ≡ false → (children : NodesView) (words : List ℕ) (n : Moment) →
-        IsInOrder (it ∷ outer) n.formats →
-        token_read (End (lowered h.name)) (on page it outer children words n)
-        ≡ closed true (on page it outer children words n)
-    ends_it e children words n x = end_taken above h kids (on page it outer children words n)
-        (record it { children = children }) outer refl
-        (calm_filled children words n x) steady_outer there.place f.fits e
+      order_page : AreOrdered (it ∷ outer) (opened_moment above h p o os c t m)
+      order_page = (calm_page.ordered, calm_page.modes)
 
-    fill : AreLed frames kids → ends_at_once h ≡ false → inside_faults frames h kids ≡ [] →
-        (place : ℕ) → IsFilled (behind (Start (written_tag h)) place page)
-        (filling frames level h kids) h.name kids page it outer
-    fill led e g place = by_kind (is_html space) (of kind.Raw h.name) refl refl where
-      tag : TagFits space h
-      tag = tag_fits h kids (surroundings_of above) f.fits
+      calm_filled : (children : NodesView) (words : List ℕ) (n : Moment) →
+          AreOrdered (it ∷ outer) n →
+          IsCalm (ancestor h above ∷ above) (on page it outer children words n)
+      calm_filled children words n x =
+          calm_on (ancestor h above ∷ above) page it outer children words n refl calm_page x
 
-      returns : has_return (nodes_raw_text kids) ≡ false
-      returns = no_returns f.below.path f.below.index (ancestor h above ∷ above) kids f.below.nested
+      inside_it : (is_html (space_of (reading_of above) h.name) && of kind.Raw h.name) ≡ false →
+          IsInside (ancestor h above ∷ above) page it outer
+      inside_it r = record {
+        calm = calm_filled;
+        steady = λ children. steady_begun above h kids outer calm_page.alike.1
+            steady_outer there.place f.fits e r (record it { children = children })
+            (record { name = refl; attrs = refl; space = refl });
+        place = still_no_page above h kids there.place f.fits;
+        raw = ap (λ b. b && of kind.Raw h.name) (html_is (space_of (reading_of above) h.name)) ∙ r;
+        plaintext = plaintext_it;
+        limit = there.limit;
+      }
 
-      small : is_html space ≡ true → lowered h.name ≡ h.name
-      small x = small_html _ _ x tag.case
+      ends_it : (children : NodesView) (words : List ℕ) (n : Moment) →
+          AreOrdered (it ∷ outer) n →
+          token_read (End (lowered h.name)) (on page it outer children words n)
+          ≡ closed_own it (on page it outer children words n)
+      ends_it children words n x = end_taken above h kids (on page it outer children words n)
+          (record it { children = children }) outer refl
+          (calm_filled children words n x) steady_outer there.place f.fits e
 
-      content : is_html space ≡ true → ContentFits h kids
-      content x = content_fits h kids (surroundings_of above) f.fits (html_read _ _ x)
+      fill : AreLed frames kids → inside_faults frames h kids ≡ [] →
+          (place : ℕ) → IsFilled (behind (Start (written_tag h)) place page)
+          (filling frames level h kids) h.name kids page it outer
+      fill led g place = by_kind (is_html space) (of kind.Raw h.name) refl refl where
+        tag : TagFits space h
+        tag = tag_fits h kids (surroundings_of above) f.fits
 
-      gathered : (is_html space && of kind.Raw h.name) ≡ false →
-          KidsAreGathered frames level kids page it outer
-      gathered r = kids_gathered frames level (ancestor h above ∷ above) page it outer kids led
-          (inside_it e r) f.below
+        returns : has_return (nodes_raw_text kids) ≡ false
+        returns =
+            no_returns f.below.path f.below.index (ancestor h above ∷ above) kids f.below.nested
 
-      by_kind : (html raw : Bool) → is_html space ≡ html → of kind.Raw h.name ≡ raw →
-          IsFilled (behind (Start (written_tag h)) place page) (filling frames level h kids) h.name
-          kids page it outer
-      by_kind true true x y =
-          alone_filled frames level above h kids p o os c t m calm_page.ordered f.named.0
-          tag.letter returns g x (small x) (content x) y
-          (raw_takes (ancestor h above ∷ above) page it outer calm_page refl (html_space _ x) y)
-          (is_raw h.name) (is_escapable_raw h.name) refl refl place
-      by_kind true false x y =
-          html_filled frames level above h kids p o os c t m calm_page.ordered f.named.0
-          tag.letter returns g x (small x) (content x) y (no_plaintext x)
-          (false_from_ne_true _ (λ r. both_ways _ y (raw_of h.name r)))
-          (false_from_ne_true _ (λ r. both_ways _ y (escapable_of h.name r)))
-          (gathered (and_right _ _ y)) place
-      by_kind false raw x y =
-          foreign_filled frames level above h kids p o os c t m calm_page.ordered f.named.0
-          tag.letter returns g x (foreign_fits h kids (surroundings_of above) f.fits x)
-          (gathered (ap (λ b. b && of kind.Raw h.name) x))
-          (is_raw h.name) (is_escapable_raw h.name) refl refl place
+        small : is_html space ≡ true → lowered h.name ≡ h.name
+        small x = small_html _ _ x tag.case
 
-  module _ (fresh : Bool) (place : ℕ) (m : Moment) (order : IsInOrder (o ∷ os) m.formats) where
+        content : is_html space ≡ true → ContentFits h kids
+        content x = content_fits h kids (surroundings_of above) f.fits (html_read _ _ x)
+
+        gathered : (is_html space && of kind.Raw h.name) ≡ false →
+            KidsAreGathered frames level kids page it outer
+        gathered r = kids_gathered frames level (ancestor h above ∷ above) page it outer kids led
+            (inside_it r) f.below
+
+        by_kind : (html raw : Bool) → is_html space ≡ html → of kind.Raw h.name ≡ raw →
+            IsFilled (behind (Start (written_tag h)) place page) (filling frames level h kids)
+            h.name kids page it outer
+        by_kind true true x y =
+            alone_filled frames level above h kids p o os c t m order_page f.named.0
+            tag.letter returns g x (small x) (content x) y
+            (raw_takes (ancestor h above ∷ above) page it outer calm_page refl (html_space _ x) y)
+            (is_raw h.name) (is_escapable_raw h.name) refl refl place
+        by_kind true false x y =
+            html_filled frames level above h kids p o os c t m order_page f.named.0
+            tag.letter returns g x (small x) (content x) y (no_plaintext x)
+            (false_from_ne_true _ (λ r. both_ways _ y (raw_of h.name r)))
+            (false_from_ne_true _ (λ r. both_ways _ y (escapable_of h.name r)))
+            (gathered (and_right _ _ y)) place
+        by_kind false raw x y =
+            foreign_filled frames level above h kids p o os c t m order_page f.named.0
+            tag.letter returns g x (foreign_fits h kids (surroundings_of above) f.fits x)
+            (gathered (ap (λ b. b && of kind.Raw h.name) x))
+            (is_raw h.name) (is_escapable_raw h.name) refl refl place
+
+  module _ (fresh : Bool) (place : ℕ) (m : Moment) (order : AreOrdered (o ∷ os) m) where
     abbrev before : PageReader
     before = data_at fresh place (on p o os c t m)
 
     starts : Emits before (start_tag_text h) (Start (written_tag h)) (on p o os c t m)
     starts = element_starts f values fresh place (on p o os c t m)
 
-    -- where its start tag begins
-    abbrev at_start : Moment
-    at_start = later starts.start m
+    begun_there : IsBegun above h (on p o os c t (later starts.start m))
+    begun_there = start_taken above h kids (on p o os c t (later starts.start m))
+        (there.calm c t (later starts.start m) order)
+        (there.steady c) there.raw there.place f.fits (omega (arith, f.shallow, there.limit))
 
-    begins : token_read (Start (written_tag h)) (on p o os c t at_start)
-        ≡ (if ends_at_once h then closed true (page at_start order) else page at_start order)
-    begins = start_taken above h kids (on p o os c t at_start) (there.calm c t at_start order)
-        (there.steady c) there.place f.fits f.template (omega (arith, f.shallow, there.limit))
+    -- where its start tag begins, in a `template` that is read as it stands there
+    abbrev at_start : Moment
+    at_start = record (later starts.start m) { templates = begun_there.modes }
+
+    abbrev order_there : AreOrdered (o ∷ os) at_start
+    order_there = (order.0, begun_there.ordered)
+
+    abbrev page_there : Page
+    page_there = page at_start order_there
+
+    begins : token_read (Start (written_tag h)) (on p o os c t (later starts.start m))
+        ≡ one_of (ends_at_once h) page_there
+    begins = begun_there.is
 
     -- an element that is its start tag alone
     once : ends_at_once h ≡ true → void_faults h.span kids ≡ [] → AreGathered before
         (start_tag_text h ++ []) false p o os c t (node (element_node h kids) none)
     once e clean =
-        let last = closed_moment above h p o os c t at_start
-        (opened_moment above h p o os c t at_start) in
+        let x = it at_start order_there in
+        let first = opened_moment above h p o os c t at_start in
+        let last = closed_moment above h p o os c t at_start first in
         let after : Page = on p o os (with_child above h p o os c t at_start none) [] last in
-        let ends : token_read (Start (written_tag h)) (on p o os c t at_start) ≡ after = begins
-        ∙ (ap (λ b. if b then closed true (page at_start order) else page at_start order) e
-        ∙ closes above h p o os c t at_start (lone at_start order) (stays at_start order) (returns at_start order) none []
-        (opened_moment above h p o os c t at_start)) in
+        let plain : is_template x ≡ false = and_right _ _ (none_of
+        (λ n. is_foreign_self_closing n || is_void n) kind.Template h.name (unfold names in refl) e)
+        in
+        let ends : token_read (Start (written_tag h)) (on p o os c t (later starts.start m))
+        ≡ after = begins ∙ (ap (λ b. one_of b page_there) e ∙ (sym (closed_plain x page_there plain)
+        ∙ closes above h p o os c t at_start (stays at_start order_there) none [] first
+        (form_back above h p o os c t at_start first (modes_deeper x at_start.templates)
+        (alone at_start order_there)))) in
         record {
           children = with_child above h p o os c t at_start none;
           words = [];
           place = starts.place + 1;
           moment = last;
-          ordered = order_behind above h p o os c t at_start (page at_start order).formats
-              (calm_page at_start order).ordered;
+          ordered = (
+            formats_behind above h p o os c t at_start page_there.formats
+                (order_opened x (outer at_start order_there) at_start.formats
+                (order_with_text t (record o { children = c } ∷ os) at_start.formats order.0)),
+            ap (are_modes (o ∷ os)) (modes_back x at_start.templates) ∙ begun_there.ordered,
+          );
           is = ap (run before) (append-nil (start_tag_text h)) ∙ (starts.is after ends
               ∙ (behind_data (written_tag h) starts.place after there.raw there.plaintext
               ∙ ap (λ b. data_at b (starts.place + 1) after)
@@ -374,12 +399,12 @@ module _ (frames : Frames) (level : ℕ) {above : List Ancestor} {h : Head} {kid
     whole : AreLed frames kids → ends_at_once h ≡ false → inside_faults frames h kids ≡ [] →
         AreGathered before (start_tag_text h ++ filling frames level h kids) false p o os c t
         (node (element_node h kids) none)
-    whole led e g = element_closed above h p o os c t at_start (lone at_start order) (stays at_start order)
-        (returns at_start order) before
-        (behind (Start (written_tag h)) starts.place (page at_start order)) (filling frames level h kids)
-        kids (starts.is (page at_start order) (begins
-        ∙ ap (λ b. if b then closed true (page at_start order) else page at_start order) e))
-        (fill at_start order led e g starts.place) (ends_it at_start order e)
+    whole led e g = element_closed above h p o os c t at_start (stays at_start order_there)
+        (returns at_start order_there) before
+        (behind (Start (written_tag h)) starts.place page_there) (filling frames level h kids)
+        kids (starts.is page_there (begins ∙ ap (λ b. one_of b page_there) e))
+        (fill at_start order_there e (begun_there.reads e) led g starts.place)
+        (ends_it at_start order_there e (begun_there.reads e))
 
     pub element_gathered : AreLed frames kids →
         (if ends_at_once h then void_faults h.span kids else inside_faults frames h kids) ≡ [] →

@@ -1,5 +1,5 @@
 -- An element is opened by its start tag, and closed at once where it is its start tag alone.
-use Rattle.std.{proofs.Common.{◌≡◌, ℕ, ◌<◌, Bool, true, false, not, ◌||◌, List, [], ◌∷◌, length, refl, ap, ◌∙◌}, specs.Prelude.{if◌then◌else◌}}
+use Rattle.std.{proofs.Common.{◌≡◌, ℕ, ◌<◌, Bool, true, false, not, ◌||◌, List, [], ◌∷◌, length, refl, sym, ap, ◌∙◌}, specs.Prelude.{if◌then◌else◌}}
 use Rattle.std.proofs.lemmas.Bool.{both_ways, false≢true, false_from_ne_true, lt-leb, not-false, not-true, or_from, or_right}
 use Rattle.html_names_core.specs.{Characters.{is_capital, is_lower}, Kinds.{is_void, void_names}}
 use Rattle.html_dom_tree.specs.Tree.{TextPair}
@@ -7,12 +7,13 @@ use Rattle.html_page_nesting.specs.{Contents.{has_unread_end}, WrittenTags.{begi
 use Rattle.html_page_read.proofs.PageStretches.{other}
 use Rattle.html_page_names.specs.PageNames.{of}
 use Rattle.html_page_names.specs.declared.kind.Kind.TheVariants as kind
-use Rattle.html_page_stack.specs.Pages.{Page, StartTag, added_in, added_to, destination_of, closed, opened, opened_here, opened_in, opened_to, settled, with_element}
+use Rattle.html_page_stack.specs.Pages.{Page, StartTag, added_in, added_to, destination_of, closed, opened, opened_here, opened_in, opened_to, settled, template_opened, with_element}
 use Rattle.html_page_stack.specs.{OpenElements.{at, is_table_context}, Pages.{made as tag_made}}
-use Rattle.html_page_stack.specs.declared.modes.{Destination.TheVariants.{Parent}, Space.{Space}}
+use Rattle.html_page_stack.specs.declared.modes.{Destination.TheVariants.{Parent}, Mode.TheVariants.{InTemplate}, Space.{Space}}
+use Rattle.html_page_stack.specs.declared.modes.FramesetRule.TheVariants as frameset
 use Rattle.html_page_stack.specs.declared.modes.Space.TheVariants as spaces
 use Rattle.html_page_tree.specs.PageBodies.{entered, head_element, leaf}
-use Rattle.typst_html_nesting_laws.proofs.{Branches.{either, second_false, second_true, skip}, KindFacts.{agree_in, fails_of, names, passes_of}, Tables.{parent_there}}
+use Rattle.typst_html_nesting_laws.proofs.{Branches.{either, pick, second_false, second_true, skip}, KindFacts.{agree_in, fails_of, names, passes_of}, Tables.{parent_there}}
 
 -- the page with an element opened
 abbrev pub made : Space → (name : List ℕ) → List TextPair → Page → Page
@@ -21,6 +22,18 @@ made space name attrs p = with_element (tag_made Parent space name attrs p.start
 -- what a start tag leads to, by whether the element is its start tag alone
 abbrev pub one_of : (at_once : Bool) → Page → Page
 one_of at_once q = if at_once then closed true q else q
+
+-- once the element is a `template`
+abbrev pub template_begun : Page → Page
+template_begun q = record q { templates = InTemplate ∷ q.templates; framesets = frameset.Ignored }
+
+-- what a start tag of HTML leads to, by its name
+abbrev pub opened_as : (name : List ℕ) → Page → Page
+opened_as name q = if of kind.Template name then template_begun q else one_of (is_void name) q
+
+pub opened_plain : (n : List ℕ) (q : Page) → of kind.Template n ≡ false →
+    one_of (is_void n) q ≡ opened_as n q
+opened_plain n q h = sym (skip _ h refl)
 
 pub adds : (space : Space) (name : List ℕ) (attrs : List TextPair) (p : Page) →
     length p.stack < p.limit → added_to Parent space name attrs p ≡ closed true (made space name attrs p)
@@ -70,6 +83,8 @@ pub record Opens (tag : StartTag) (p q : Page) : Type 0 where
       entered spaces.Svg tag p ≡ q
   pub math : at is_table_context p.stack ≡ false → of kind.Math tag.name ≡ true →
       entered spaces.MathMl tag p ≡ q
+  pub template : of kind.Template tag.name ≡ true →
+      template_opened Parent tag.attrs p ≡ template_begun q
 
 -- elements that are their start tags alone
 
@@ -94,14 +109,18 @@ module _ (tag : StartTag) (p q : Page) (ops : Opens tag p q) where
       ap (λ d. added_to d spaces.Html tag.name tag.attrs p) (parent_there p.stack outside)
       ∙ ops.added a b
 
-  pub head_begun : of kind.HeadContent tag.name ≡ true → of kind.Template tag.name ≡ false →
-      has_unread_end tag.name ≡ false → head_element Parent tag p ≡ one_of (is_void tag.name) q
-  head_begun h t e =
+  pub head_begun : of kind.HeadContent tag.name ≡ true → has_unread_end tag.name ≡ false →
+      head_element Parent tag p ≡ opened_as tag.name q
+  head_begun h e =
       let svg = fails_of (of kind.Svg) kind.HeadContent tag.name (unfold names in refl) h in
       let math = fails_of (of kind.Math) kind.HeadContent tag.name (unfold names in refl) h in
       let leaf_or_whole = passes_of (λ n. of kind.HeadLeaf n || not (is_void n)) kind.HeadContent
       tag.name (unfold names in refl) h in
       either (of kind.HeadLeaf tag.name)
-      (λ k. rw (void_of tag.name e (or_right _ _ k)) (ops.added svg math))
-      (λ k. rw (not-true (is_void tag.name) (second_true leaf_or_whole k))
-      (skip _ t (ops.placed svg math)))
+      (λ k. rw (
+        void_of tag.name e (or_right _ _ k),
+        fails_of (of kind.Template) kind.HeadLeaf tag.name (unfold names in refl) k,
+      ) (ops.added svg math))
+      (λ k. either (of kind.Template tag.name) (λ t. ops.template t ∙ sym (pick _ t refl))
+      (λ t. rw (not-true (is_void tag.name) (second_true leaf_or_whole k), t)
+      (ops.placed svg math)))

@@ -20,6 +20,7 @@ pub record IsPart (n : List ℕ) : Type 0 where
   pub raw : of kind.Raw n ≡ false
   pub plaintext : of kind.Plaintext n ≡ false
   pub form : of kind.Form n ≡ false
+  pub template : of kind.Template n ≡ false
   pub written_raw : is_raw n ≡ false
   pub escapable : is_escapable_raw n ≡ false
   pub fed : drops_feed n ≡ false
@@ -38,6 +39,7 @@ part_of n h = record {
   raw = none (of kind.Raw) refl;
   plaintext = none (of kind.Plaintext) refl;
   form = none (of kind.Form) refl;
+  template = none (of kind.Template) refl;
   written_raw = none is_raw refl;
   escapable = none is_escapable_raw refl;
   fed = none drops_feed refl;

@@ -1,6 +1,6 @@
 -- The text of a page is read as its root: the document type, `html`, `head`, `body`, and the end.
-use Rattle.std.proofs.Common.{◌≡◌, ℕ, ◌+◌, ◌<◌, Bool, true, false, not, ◌==◌, List, [], ◌∷◌, ◌++◌, codes, length, refl, sym, ap, subst, ◌∙◌, append-nil, append_assoc, arith, None, Ok}
-use Rattle.std.{proofs.lemmas.Bool.{and_left, and_parts, and_right, both_ways, false≢true}, specs.Prelude.{if◌then◌else◌}}
+use Rattle.std.proofs.Common.{◌≡◌, ℕ, ◌+◌, ◌<◌, Bool, true, false, ◌||◌, List, [], ◌∷◌, ◌++◌, codes, length, refl, sym, ap, subst, ◌∙◌, append-nil, append_assoc, arith, None, Ok}
+use Rattle.std.{proofs.lemmas.Bool.{and_left, and_parts, and_right, both_ways, false≢true, or_from, or_right}, specs.Prelude.{if◌then◌else◌}}
 use Rattle.html_names_core.specs.Names.{stands_in}
 use Rattle.html_dom_tree.{proofs.Basics.{put_twice}, specs.PlainTree.{branch, Plains, no_plains, plain, put_words, nodes_normal}}
 use Rattle.html_dom_tree.specs.Tree.{Head, tag_node, text_node, element_node, frame_node, NodesView, none, node, ElementView, with_last}
@@ -17,23 +17,25 @@ use Rattle.typst_html_encode.specs.Text.{end_tag_text, escaped_text, escaping_of
 use Rattle.html_page_names.specs.{ForeignNames.{lowered}, PageNames.{of}}
 use Rattle.html_page_names.specs.declared.kind.Kind.TheVariants as kind
 use Rattle.html_page_stack.{proofs.Children.{element_counts}, specs.declared.modes.Mode.{Mode}}
-use Rattle.html_page_stack.specs.OpenElements.{OpenElement, at, completed, has_elements, is_removed, is_table_context, mode, placed, root_of, with_text}
+use Rattle.html_page_stack.specs.OpenElements.{OpenElement, at, completed, has_elements, is_of, is_removed, is_table_context, mode, placed, root_of, with_text}
+use Rattle.html_page_stack.specs.OpenElements as open_elements
 use Rattle.html_page_stack.specs.Pages.{Notes, Page, Token, Char, Start, End, Finish, closed, first_page, opened, settled, Taken}
 use Rattle.html_page_stack.specs.declared.modes.Mode.TheVariants.{BeforeHtml, BeforeHead, InHead, AfterHead, InBody}
+use Rattle.html_page_stack.specs.declared.modes.FramesetRule.TheVariants as frameset
 use Rattle.html_page_stack.specs.declared.modes.Space.TheVariants as spaces
 use Rattle.html_page_stack.specs.declared.modes.TableRule.TheVariants as rule
 use Rattle.html_page_tree.specs.PageTrees.{behind_token, by_mode, text_ended, token_read}
 use Rattle.html_page_read.specs.{DocumentTypes.{table_rule}, PageReading.{PageResult, answered, first_reader, page_result, root_made, run}}
 use Rattle.html_page_read.specs.PageTokens.{PageReader, finished}
-use Rattle.typst_html_nesting_laws.proofs.{Branches.{else_none, skip}, Closed.{calm_begun}, EndTags.{end_emits}, InnerTexts.{no_return}}
+use Rattle.typst_html_nesting_laws.proofs.{Branches.{either_way, else_none, skip}, Closed.{calm_begun}, EndTags.{end_emits}, InnerTexts.{no_return}}
 use Rattle.typst_html_nesting_laws.proofs.Fillings.{around, behind_data, element_closed, form_back, inside_faults, nodes_filled, opened as opened_element, opened_moment, opened_page}
-use Rattle.typst_html_nesting_laws.proofs.Forms.{AreGathered, IsFilled, Moment, filled_normal, later, normal_is, on, put_last, put_nodes, put_texted, texted_children, with_text_is}
-use Rattle.typst_html_nesting_laws.proofs.{KeptTags.{opened_back}, KindFacts.{names}, Rules.{found_none, tag_fits}, Texts.{text_leads}}
-use Rattle.typst_html_nesting_laws.proofs.ListedFormats.{IsInOrder, order_opened}
+use Rattle.typst_html_nesting_laws.proofs.Forms.{AreGathered, AreOrdered, IsFilled, Moment, filled_normal, later, normal_is, on, put_last, put_nodes, put_texted, texted_children, with_text_is}
+use Rattle.typst_html_nesting_laws.proofs.{KeptTags.{begun_plain, opened_back}, KindFacts.{names}, Rules.{found_none, tag_fits}, Texts.{text_leads}}
+use Rattle.typst_html_nesting_laws.proofs.ListedFormats.{order_opened}
 use Rattle.typst_html_nesting_laws.proofs.Nodes.{ElementFits, IsInside, NodesFit, calm_on, element_fits, element_starts, kids_gathered, nodes_lead, rest, rest_fits, text_fits}
 use Rattle.typst_html_nesting_laws.proofs.Readers.{Emits, Takes, data_at, lowered_attrs, run_on, started, written_tag}
 use Rattle.typst_html_nesting_laws.proofs.RootParts.{IsPart, begins_named, mode_of, name_of, part_names, part_of}
-use Rattle.typst_html_nesting_laws.{proofs.{Tables.{is_table_mode, outside_texts, text_kept}, Turns.{IsOrdinary, html_token, mode_taken}}, specs.TreesStay.{NodeIsReadable, TreesStay, no_notes}}
+use Rattle.typst_html_nesting_laws.{proofs.{Tables.{is_table_mode, outside_texts, text_kept}, Templates.{closed_plain, has_with_text, hold_modes, is_template, modes_opened, modes_there, reads_body, reads_inside}, Turns.{html_token, is_told, mode_taken, read_mode}}, specs.TreesStay.{NodeIsReadable, TreesStay, no_notes}}
 use Rattle.typst_html_nesting_laws.proofs.Ways.{IsCalm, begun, begun_element, ends_at_once, is_body_mode, is_page_place, open_space}
 
 -- one of the three elements, where it breaks no rule and is without a fault
@@ -67,7 +69,8 @@ module _ {frames : Frames} {above : List Ancestor} {h : Head} {kids : NodesView}
       let after = begun h above before in
       e.is after (reads e.start ∙ ap text_ended (opened_back h before limit outside
       (space_of (reading_of above) h.name) part_space
-      (tag_fits h kids (surroundings_of above) x.fits.fits)))
+      (tag_fits h kids (surroundings_of above) x.fits.fits)
+      ∙ begun_plain h above before (and_right _ _ x.part.template)))
       ∙ (behind_data (written_tag h) e.place after (and_right _ _ x.part.raw)
       (and_right _ _ x.part.plaintext)
       ∙ ap (λ b. data_at b (e.place + 1) after) (and_left _ _
@@ -85,7 +88,7 @@ module _ {frames : Frames} {above : List Ancestor} {h : Head} {kids : NodesView}
   -- its children, and its end tag
   part_filled : (p : Page) (o : OpenElement) (os : List OpenElement) →
       IsInside (ancestor h above ∷ above) p o os → (place : ℕ) (m : Moment) →
-      IsInOrder (o ∷ os) m.formats → IsFilled (data_at false place (on p o os none [] m))
+      AreOrdered (o ∷ os) m → IsFilled (data_at false place (on p o os none [] m))
       (rest frames level h kids) h.name kids p o os
   part_filled p o os there place m order = rw part_rest
       (nodes_filled frames level h.name kids p o os x.fits.named.0
@@ -123,10 +126,10 @@ made_at u v notes = Ok (root_at u v, notes)
 
 -- the page within `html`
 pub record InRoot (above : List Ancestor) (p : Page) (o : OpenElement) : Type 0 where
-  pub calm : (c : NodesView) (t : List ℕ) (m : Moment) → IsInOrder (o ∷ []) m.formats →
+  pub calm : (c : NodesView) (t : List ℕ) (m : Moment) → AreOrdered (o ∷ []) m →
       IsCalm above (on p o [] c t m)
   pub tables : p.tables ≡ rule.ClosesP
-  pub ordinary : IsOrdinary p
+  pub framesets : p.framesets ≡ frameset.Ignored
   pub limit : 512 < p.limit
   pub notes : p.notes ≡ no_notes
   pub refusal : p.refusal ≡ None
@@ -165,12 +168,19 @@ module _ {above : List Ancestor} {p : Page} {o : OpenElement} (inner : InRoot ab
   root_taken token c t m b r has h =
       let it : OpenElement = record o { children = c } in
       mode_taken token (on p o [] c t m) (if b then AfterHead else BeforeHead) r
-      inner.tables (record {
-        templates = inner.ordinary.templates;
-        framesets = inner.ordinary.framesets;
-      }) (html_token token it [] inner.space)
+      inner.tables inner.framesets (either_way is_told b refl refl)
+      (html_token token it [] inner.space)
       (unfold names in (mode_of (codes "html") it [] inner.name inner.space)
       ∙ ap (λ x. if x then AfterHead else BeforeHead) has) h
+
+  -- it is no `template`, and holds more than text
+  root_plain : is_template o ≡ false
+  unfolding names
+  root_plain = and_right _ _ (ap (of kind.Template) inner.name)
+
+  root_filled : is_of (of kind.Raw) o ≡ false
+  unfolding names
+  root_filled = and_right _ _ (ap (of kind.Raw) inner.name)
 
   -- it is no table
   root_outside : (c : NodesView) → at is_table_context (record o { children = c } ∷ []) ≡ false
@@ -186,14 +196,16 @@ module _ {above : List Ancestor} {p : Page} {o : OpenElement} (inner : InRoot ab
 -- the head or the body in the root, which its start tag opens, and the mode that it brings
 module _ {frames : Frames} {above : List Ancestor} {h : Head} {kids : NodesView} {p : Page}
     {o : OpenElement} (level : ℕ) (x : PartFits frames above h kids) (inner : InRoot above p o)
-    (c : NodesView) (t : List ℕ) (m : Moment) (order : IsInOrder (o ∷ []) m.formats) (here : ℕ)
+    (c : NodesView) (t : List ℕ) (m : Moment) (order : AreOrdered (o ∷ []) m) (here : ℕ)
     (has : Bool) (elements : has_elements c ≡ has)
     (opens : (q : Page) → by_mode (if has then AfterHead else BeforeHead) (Start (written_tag h)) q
     ≡ Taken (opened (lowered h.name) (lowered_attrs h.attrs) q))
-    (own : Mode) (brings : (it : OpenElement) (os : List OpenElement) → it.head.name ≡ h.name →
-    it.space ≡ spaces.Html → mode (it ∷ os) ≡ own)
+    (own : Mode) (told : is_told own ≡ true) (brings : (it : OpenElement)
+    (os : List OpenElement) → it.head.name ≡ h.name → it.space ≡ spaces.Html →
+    mode (it ∷ os) ≡ own)
     (l : Place) (stands : place_of (ancestor h above ∷ above) ≡ l)
-    (inside : is_page_place l ≡ false) (steady : l ≡ places.Body → is_body_mode own ≡ true) where
+    (inside : is_page_place l ≡ false)
+    (steady : l ≡ places.Body → is_body_mode (read_mode own) ≡ true) where
   abbrev reader : PageReader
   reader = data_at false here (on p o [] c t m)
 
@@ -213,9 +225,19 @@ module _ {frames : Frames} {above : List Ancestor} {h : Head} {kids : NodesView}
   abbrev outer : List OpenElement
   outer = around above h p o [] c t at_start
 
+  -- no `template` is open
+  around_it : open_elements.has (of kind.Template) (o ∷ []) ≡ false
+  around_it = or_from _ _ (root_plain inner) refl
+
+  plain_it : is_template it ≡ false
+  plain_it = and_right _ _ x.part.template
+
+  reads_here : reads_body m.templates ≡ true
+  reads_here = reads_inside (o ∷ []) m.templates order.1 (root_plain inner) (root_filled inner)
+
   calm_page : IsCalm (ancestor h above ∷ above) page
-  calm_page = calm_begun above h (on p o [] c t at_start)
-      (inner.calm c t at_start order) x.fits.template
+  calm_page = calm_begun above h (on p o [] c t at_start) (inner.calm c t at_start order)
+      (or_right (is_template it) _ (or_right (is_of (of kind.Raw) it) _ reads_here))
 
   html_it : it.space ≡ spaces.Html
   html_it = ap open_space (part_space x level)
@@ -235,7 +257,8 @@ module _ {frames : Frames} {above : List Ancestor} {h : Head} {kids : NodesView}
   there = record {
     calm = λ children words n order_in.
         calm_on (ancestor h above ∷ above) page it outer children words n refl calm_page order_in;
-    steady = λ children e. ap is_body_mode (mode_it children) ∙ steady (sym stands ∙ e);
+    steady = λ children e. ap (λ n. is_body_mode (read_mode n)) (mode_it children)
+        ∙ steady (sym stands ∙ e);
     place = ap is_page_place stands ∙ inside;
     raw = and_right _ _ x.part.raw;
     plaintext = and_right _ _ x.part.plaintext;
@@ -245,17 +268,19 @@ module _ {frames : Frames} {above : List Ancestor} {h : Head} {kids : NodesView}
   filled : IsFilled (data_at false (begins.place + 1) page) (rest frames level h kids) h.name kids
       page it outer
   filled = part_filled x level page it outer there (begins.place + 1)
-      (opened_moment above h p o [] c t at_start) calm_page.ordered
+      (opened_moment above h p o [] c t at_start) (calm_page.ordered, calm_page.modes)
+
+  -- and in it none is open but those that its nodes begin and end
+  none_open : (n : Moment) → AreOrdered (it ∷ outer) n → hold_modes n.templates ≡ false
+  none_open n order_in = modes_there (it ∷ outer) n.templates order_in.1
+      ∙ or_from _ _ plain_it (has_with_text t (record o { children = c }) [] ∙ around_it)
 
   -- a token in it
   own_taken : (token : Token) (children : NodesView) (words : List ℕ) (n : Moment) (r : Page) →
       by_mode own token (on page it outer children words n) ≡ Taken r →
       token_read token (on page it outer children words n) ≡ behind_token token r
   own_taken token children words n r h = mode_taken token
-      (on page it outer children words n) own r calm_page.tables (record {
-        templates = calm_page.ordinary.templates;
-        framesets = calm_page.ordinary.framesets;
-      })
+      (on page it outer children words n) own r calm_page.tables calm_page.framesets told
       (html_token token (record it { children = children }) outer html_it) (mode_it children) h
 
   -- the head, whose end tag closes it
@@ -263,13 +288,17 @@ module _ {frames : Frames} {above : List Ancestor} {h : Head} {kids : NodesView}
       (g : AreGathered reader (start_tag_text h ++ rest frames level h kids) false p o [] c t
       (node (element_node h kids) none)) × (has_elements g.children ≡ true)
   head_read closes = (
-    element_closed above h p o [] c t at_start inner.ordinary.templates (ap is_removed inner.space)
-        (form_back above h p o [] c t at_start inner.ordinary.templates (λ e. absurd (both_ways _ x.part.form
-        (and_parts _ _ e).1))) reader (data_at false (begins.place + 1) page)
+    element_closed above h p o [] c t at_start (ap is_removed inner.space)
+        (λ n order_in. form_back above h p o [] c t at_start n
+        (none_open n order_in ∙ sym (ap (λ b. b || hold_modes m.templates) plain_it
+        ∙ (modes_there (o ∷ []) m.templates order.1 ∙ around_it)))
+        (λ e. absurd (both_ways _ x.part.form (and_parts _ _ e).1)))
+        reader (data_at false (begins.place + 1) page)
         (rest frames level h kids) kids begun_there filled
         (λ children words n order_in. own_taken (End (lowered h.name)) children words n
         (closed true (on page it outer children words n))
-        (closes (on page it outer children words n))),
+        (closes (on page it outer children words n))
+        ∙ sym (closed_plain it (on page it outer children words n) plain_it)),
     element_counts (texted_children o.head.span c t) it.head
         (texted_children begins.start filled.children filled.words),
   )
@@ -277,7 +306,7 @@ module _ {frames : Frames} {above : List Ancestor} {h : Head} {kids : NodesView}
   -- the body, whose end tag and that of the root do nothing
   body_read : is_table_mode own ≡ false → ((n : List ℕ) → of kind.Root n ≡ true → (q : Page) →
       by_mode own (End n) q ≡ Taken q) →
-      ((q : Page) → q.templates ≡ [] → by_mode own Finish q ≡ Taken q) →
+      ((q : Page) → hold_modes q.templates ≡ false → by_mode own Finish q ≡ Taken q) →
       of kind.Root (lowered h.name) ≡ true → (root : List ℕ) → of kind.Root (lowered root) ≡ true →
       ((fresh : Bool) (place : ℕ) (q : Page) →
       Emits (data_at fresh place q) (end_tag_text root) (End (lowered root)) q) → RootIsRead
@@ -304,7 +333,8 @@ module _ {frames : Frames} {above : List Ancestor} {h : Head} {kids : NodesView}
       (filled.is (last first) (ended (lowered h.name) first is_own)))
       (e.is (last e.start) (ended (lowered root) e.start is_root)) in
       let over = own_taken Finish children words (later (e.place + 1) filled.moment)
-      (last (e.place + 1)) (finishes (last (e.place + 1)) calm_page.ordinary.templates) ∙ goes_on (e.place + 1) in
+      (last (e.place + 1)) (finishes (last (e.place + 1))
+      (none_open filled.moment filled.ordered)) ∙ goes_on (e.place + 1) in
       let end : Page = settled (last (e.place + 1)) in
       record {
         root = root_at z w;
@@ -338,7 +368,7 @@ module _ (frames : Frames) (pre_span : Bool) (level : ℕ) {above : List Ancesto
 
   module _ (h : Head) (kids ns : NodesView) (f : ElementFits above h kids)
       (clean : nodes_faults frames pre_span false (node (element_node h kids) ns) ≡ [])
-      (c : NodesView) (t : List ℕ) (m : Moment) (order : IsInOrder (o ∷ []) m.formats)
+      (c : NodesView) (t : List ℕ) (m : Moment) (order : AreOrdered (o ∷ []) m)
       (place : ℕ) where
     part_fits : stands_in part_names h.name ≡ true → PartFits frames above h kids
     unfolding node_faults nodes_faults
@@ -366,10 +396,10 @@ module _ (frames : Frames) (pre_span : Bool) (level : ℕ) {above : List Ancesto
         let no_html = ap (of kind.Html) low in
         let is_body = ap (of kind.Body) low in
         body_read (level + 1) x inner c t m order place true has
-        (λ q. rw (no_html, is_body) refl) InBody
+        (λ q. rw (no_html, is_body) refl) InBody refl
         (λ it os e html. mode_of (codes "body") it os (e ∙ name) html) places.Body
         (place_part (codes "body") x name) refl (λ e. refl) refl root_stays
-        (λ q e. skip _ (ap (λ ts. not (length ts == 0)) e) refl)
+        (λ q e. skip _ e refl)
         (ap (of kind.Root) low) root is_root ends
 
     head_first : h.name ≡ codes "head" → has_elements c ≡ false →
@@ -381,13 +411,13 @@ module _ (frames : Frames) (pre_span : Bool) (level : ℕ) {above : List Ancesto
         let low : lowered h.name ≡ codes "head" = x.part.small ∙ name in
         let is_head = ap (of kind.Head) low in
         head_read (level + 1) x inner c t m order place false none_yet
-        (λ q. begins_named (codes "head") (written_tag h) q low) InHead
+        (λ q. begins_named (codes "head") (written_tag h) q low) InHead refl
         (λ it os e html. mode_of (codes "head") it os (e ∙ name) html) places.Head
         (place_part (codes "head") x name) refl (λ e. absurd (cc)) (λ q. rw is_head refl)
 
   -- behind the head
   behind_head : (ns : NodesView) (due : Bool) (place : ℕ) (c : NodesView) (t : List ℕ)
-      (m : Moment) → IsInOrder (o ∷ []) m.formats → has_elements c ≡ true →
+      (m : Moment) → AreOrdered (o ∷ []) m → has_elements c ≡ true →
       is_complete (stage_behind_nodes stage.BehindHead ns) ≡ true →
       NodesFit above ns → nodes_faults frames pre_span false ns ≡ [] →
       RootIsRead (run (before place c t m) (nodes_text frames pre_span due
@@ -423,7 +453,7 @@ module _ (frames : Frames) (pre_span : Bool) (level : ℕ) {above : List Ancesto
 
   -- before it
   first_read : (ns : NodesView) (due : Bool) (place : ℕ) (m : Moment) →
-      IsInOrder (o ∷ []) m.formats → is_complete (stage_behind_nodes stage.First ns) ≡ true →
+      AreOrdered (o ∷ []) m → is_complete (stage_behind_nodes stage.First ns) ≡ true →
       NodesFit above ns →
       nodes_faults frames pre_span false ns ≡ [] → RootIsRead (run (before place none [] m)
       (nodes_text frames pre_span due (shut level) ns ++ end_tag_text root)) o
@@ -477,15 +507,15 @@ module _ (frames : Frames) (limit : ℕ) (h : Head) (kids : NodesView) (deep : 5
   in_root = record {
     calm = λ c t m order. record {
       alike = (record { name = refl; attrs = refl; space = refl }, tt);
-      ordered = order;
+      ordered = order.0;
+      modes = order.1;
       form = refl;
       moved = refl;
-      ordinary = record { templates = refl; framesets = refl };
+      framesets = refl;
       tables = refl;
-      plain = (x.fits.template, tt);
     };
     tables = refl;
-    ordinary = record { templates = refl; framesets = refl };
+    framesets = refl;
     limit = deep;
     notes = refl;
     refusal = refl;
@@ -506,7 +536,7 @@ module _ (frames : Frames) (limit : ℕ) (h : Head) (kids : NodesView) (deep : 5
       ≡ text_ended (opened (lowered h.name) (lowered_attrs h.attrs) (started s (typed limit))) =
       λ s. mode_taken (Start (written_tag h)) (started s (typed limit)) BeforeHtml
       (opened (lowered h.name) (lowered_attrs h.attrs) (started s (typed limit))) refl
-      (record { templates = refl; framesets = refl }) refl refl
+      refl refl refl refl
       (begins_named (codes "html") (written_tag h) (started s (typed limit)) low) in
       root_on (first_reader limit 0) (data_at false 15 (typed limit)) (codes "<!DOCTYPE html>")
       ((start_tag_text h ++ rest frames 0 h kids) ++ []) (type_read limit)
@@ -518,8 +548,13 @@ module _ (frames : Frames) (limit : ℕ) (h : Head) (kids : NodesView) (deep : 5
       (part_begun x 0 15 (typed limit) (omega (arith, deep)) refl begins)
       (first_read frames h.pre_span 0 in_root h.name (ap (of kind.Root) low)
       (λ fresh at q. end_emits h.name x.fits.named.0 tag.letter fresh at q) kids true
-      (starts.place + 1) (record { start = starts.start; formats = root_page.formats })
-      (order_opened (begun_element h [] starts.start) [] [] refl) complete x.fits.below
+      (starts.place + 1)
+      (record { start = starts.start; formats = root_page.formats; templates = root_page.templates })
+      (order_opened (begun_element h [] starts.start) [] [] refl,
+      modes_opened (begun_element h [] starts.start) [] [] refl
+      (or_right (is_template (begun_element h [] starts.start)) _
+      (or_right (is_of (of kind.Raw) (begun_element h [] starts.start)) _ refl)))
+      complete x.fits.below
       (part_faults x 0))))
 
 pub trees_stay : TreesStay
@@ -534,8 +569,7 @@ trees_stay frames limit e kept deep =
       part = part_of h.name (ap (stands_in part_names) name);
       fits = record {
         named = kept.named.0;
-        template = kept.readable.0.0;
-        few = kept.readable.0.1;
+        few = kept.readable.0;
         shallow = omega arith;
         fits = rules.1;
         below = record {

@@ -13,18 +13,18 @@ use Rattle.html_page_stack.specs.{OpenElements.{OpenElement, is_at, is_html, mod
 use Rattle.html_page_stack.specs.declared.modes.Mode.TheVariants.{InHead, InHeadNoscript, InText, InTable, InCaption, InColumns, InSection, InRow, InCell}
 use Rattle.typst_html_nesting_laws.proofs.{Alike.{at_is, space_html}, Branches.{decide, either, of_two, second_false, skip}}
 use Rattle.typst_html_nesting_laws.proofs.{Stands.{Stands, html_stands}, KindFacts.{agree_of, names, none_of}}
-use Rattle.typst_html_nesting_laws.proofs.{Modes.{brings, mode_around, own_mode}, Rules.{begins_foreign, has, named_kept}}
-use Rattle.typst_html_nesting_laws.proofs.Ways.{AreAlike, IsAlike, IsSteady, ends_at_once, is_body_mode, is_page_place}
+use Rattle.typst_html_nesting_laws.proofs.{Modes.{brings, mode_around, own_mode, template_mode}, Rules.{begins_foreign, has, named_kept}}
+use Rattle.typst_html_nesting_laws.proofs.{Turns.{read_mode}, Ways.{AreAlike, IsAlike, IsSteady, ends_at_once, is_body_mode, is_page_place}}
 
 -- an element that brings no mode stands in that of the elements around it
 pub around_steady : (above : List Ancestor) (os : List OpenElement) → AreAlike above os →
     IsSteady above os → place_of above ≡ place.Body → (o : OpenElement) →
     (if is_html o.space then named_mode o.head.name os else None) ≡ None →
-    is_body_mode (mode (o ∷ os)) ≡ true
+    is_body_mode (read_mode (mode (o ∷ os))) ≡ true
 around_steady [] os alike steady body o none = absurd (cc)
 around_steady (a ∷ above) [] alike steady body o none = absurd alike
 around_steady (a ∷ above) (q ∷ qs) alike steady body o none =
-    ap is_body_mode (mode_around o q qs none) ∙ steady body
+    ap (λ m. is_body_mode (read_mode m)) (mode_around o q qs none) ∙ steady body
 
 -- the place in an element of a kind
 placed_by : (n : List ℕ) (os : List OpenElement) (k : Kind) (p : Place) →
@@ -34,7 +34,8 @@ placed_by n os k p same h = agree_of (place_in (is_at (of kind.Head) os)) (λ l.
 
 -- an element of HTML whose place is that of a body brings a mode of one, or none
 own_body : (m : Mode) (n : List ℕ) (os : List OpenElement) → brings m n os ≡ true → place_in
-    (is_at (of kind.Head) os) n ≡ place.Body → of kind.Raw n ≡ false → is_body_mode m ≡ true
+    (is_at (of kind.Head) os) n ≡ place.Body → of kind.Raw n ≡ false →
+    is_body_mode (read_mode m) ≡ true
 unfolding names
 own_body InHead n os h body raw = let x = placed_by n os kind.Head place.Head refl h in absurd (cc)
 own_body InHeadNoscript n os h body raw =
@@ -58,8 +59,9 @@ own_body _ n os h body raw = absurd (false≢true h)
 html_steady : (above : List Ancestor) (os : List OpenElement) (o : OpenElement) →
     AreAlike above os → IsSteady above os → is_html o.space ≡ true →
     Stands o.head.name os (place_of above) → of kind.Raw o.head.name ≡ false → place_in
-    (is_in (of kind.Head) above) o.head.name ≡ place.Body → is_body_mode (mode (o ∷ os)) ≡ true
-html_steady above os o alike steady html (inl s) raw body = ap is_body_mode
+    (is_in (of kind.Head) above) o.head.name ≡ place.Body →
+    is_body_mode (read_mode (mode (o ∷ os))) ≡ true
+html_steady above os o alike steady html (inl s) raw body = ap (λ m. is_body_mode (read_mode m))
     (own_mode o os s.mode html s.is) ∙ own_body s.mode o.head.name os s.is
     (ap (λ b. place_in b o.head.name) (at_is (of kind.Head) above os alike) ∙ body) raw
 html_steady above os o alike steady html (inr s) raw body =
@@ -101,17 +103,20 @@ foreign_place above h kids page rules foreign =
 
 pub steady_begun : (above : List Ancestor) (h : Head) (kids : NodesView) (os : List OpenElement) →
     AreAlike above os → IsSteady above os → is_page_place (place_of above) ≡ false →
-    element_misnesting h kids (surroundings_of above) ≡ None → of kind.Template h.name ≡ false →
-    ends_at_once h ≡ false →
+    element_misnesting h kids (surroundings_of above) ≡ None → ends_at_once h ≡ false →
     (nest.is_html (space_of (reading_of above) h.name) && of kind.Raw h.name) ≡ false →
     (o : OpenElement) → IsAlike (ancestor h above) o → IsSteady (ancestor h above ∷ above) (o ∷ os)
-steady_begun above h kids os alike steady page rules t once raw o same place_is =
+steady_begun above h kids os alike steady page rules once raw o same place_is =
     decide (nest.is_html (space_of (reading_of above) h.name))
-    (λ html. html_steady above os o alike steady (space_html _ _ same ∙ html)
+    (λ html. let here : is_html o.space ≡ true = space_html _ _ same ∙ html in
+    decide (of kind.Template h.name)
+    (λ t. ap (λ m. is_body_mode (read_mode m))
+    (template_mode o os here (ap (of kind.Template) same.name ∙ t)))
+    (λ t. html_steady above os o alike steady here
     (subst (λ m. Stands m os (place_of above)) (sym same.name)
     (html_stands above h kids os alike page rules html t once))
     (ap (of kind.Raw) same.name ∙ second_false raw html)
-    (ap (place_in (is_in (of kind.Head) above)) same.name ∙ (rw html at place_is)))
+    (ap (place_in (is_in (of kind.Head) above)) same.name ∙ (rw html at place_is))))
     (λ foreign. around_steady above os alike steady
     (foreign_place above h kids page rules foreign) o
     (skip _ (space_html _ _ same ∙ foreign) refl))

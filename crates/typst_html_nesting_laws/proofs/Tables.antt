@@ -12,7 +12,7 @@ use Rattle.html_page_stack.specs.declared.modes.Mode.TheVariants.{InHead, InHead
 use Rattle.html_page_stack.specs.declared.modes.Space.TheVariants as spaces
 use Rattle.html_page_tree.specs.{PageBodies.{is_space}, PageTrees.{cleared_to, in_table, is_foreign_token, text_ended}}
 use Rattle.typst_html_nesting_laws.proofs.{Alike.{mode_is, of_is, placed_html}, Branches.{of_two, pick, skip}}
-use Rattle.typst_html_nesting_laws.proofs.{ClosedBefore.{while_not}, Modes.{mode_in, own_mode, place_test, placed, template_mode}, Ways.{AreAlike, is_body_mode}}
+use Rattle.typst_html_nesting_laws.proofs.{ClosedBefore.{while_not}, Modes.{mode_in, own_mode, place_test, placed, template_mode}, Turns.{read_mode}, Ways.{AreAlike, is_body_mode}}
 
 -- the modes that they bring, and that of a `template`
 abbrev pub is_table_mode : Mode → Bool
@@ -23,20 +23,27 @@ is_table_mode InTemplate = true
 is_table_mode m = false
 
 -- in another mode the current node is none of them
-pub outside_tables : (os : List OpenElement) → is_table_mode (mode os) ≡ false →
+abbrev is_read_in_table : Mode → Bool
+is_read_in_table m = is_table_mode (read_mode m)
+
+pub outside_tables : (os : List OpenElement) → is_read_in_table (mode os) ≡ false →
     at is_table_context os ≡ false
 outside_tables [] h = refl
 outside_tables (o ∷ os) h = false_from_ne_true _ (λ e.
     let both = and_parts (is_html o.space) _ e in
-    of_two both.1 (λ t. both_ways _ h (ap is_table_mode (own_mode o os InTable both.0 t)))
-    (λ r. of_two r (λ s. both_ways _ h (ap is_table_mode (own_mode o os InSection both.0 s)))
-    (λ s. both_ways _ h (ap is_table_mode (own_mode o os InRow both.0 s)))))
+    of_two both.1 (λ t. both_ways _ h (ap is_read_in_table (own_mode o os InTable both.0 t)))
+    (λ r. of_two r (λ s. both_ways _ h (ap is_read_in_table (own_mode o os InSection both.0 s)))
+    (λ s. both_ways _ h (ap is_read_in_table (own_mode o os InRow both.0 s)))))
+
+none_read : (m : Mode) → is_table_mode m ≡ false → is_read_in_table m ≡ false
+none_read InTemplate h = absurd (false≢true (sym h))
+none_read m h = h
 
 -- and there a text is not judged as a whole
 pub outside_texts : (os : List OpenElement) → is_table_mode (mode os) ≡ false →
     at holds_table_text os ≡ false
 outside_texts [] h = refl
-outside_texts (o ∷ os) h = or_from _ _ (outside_tables (o ∷ os) h) (false_from_ne_true _ (λ e.
+outside_texts (o ∷ os) h = or_from _ _ (outside_tables (o ∷ os) (none_read _ h)) (false_from_ne_true _ (λ e.
     let both = and_parts (is_html o.space) _ e in
     both_ways _ h (ap is_table_mode (template_mode o os both.0 both.1))))
 
@@ -48,9 +55,9 @@ body_is_none InRow h = sym h
 body_is_none InTemplate h = sym h
 body_is_none m h = refl
 
-pub outside_in_body : (os : List OpenElement) → is_body_mode (mode os) ≡ true →
+pub outside_in_body : (os : List OpenElement) → is_body_mode (read_mode (mode os)) ≡ true →
     at is_table_context os ≡ false
-outside_in_body os h = outside_tables os (body_is_none (mode os) h)
+outside_in_body os h = outside_tables os (body_is_none (read_mode (mode os)) h)
 
 -- and where a start tag is read by the rules for SVG and MathML
 pub outside_foreign : (tag : StartTag) (os : List OpenElement) →
@@ -121,9 +128,10 @@ named_there l m test i t (a ∷ above) (o ∷ os) s e =
     ∙ subst (λ p. place_test p b a.head.name ≡ true) (rw html at e) (placed b a.head.name))
 
 unnamed_there : (m : Mode) (above : List Ancestor) (os : List OpenElement) → AreAlike above os →
-    mode_in (place_of above) ≡ Some m → is_table_mode m ≡ false → at is_table_context os ≡ false
+    mode_in (place_of above) ≡ Some m → is_read_in_table m ≡ false →
+    at is_table_context os ≡ false
 unnamed_there m above os s e h =
-    outside_tables os (ap is_table_mode (mode_is m above os s e) ∙ h)
+    outside_tables os (ap is_read_in_table (mode_is m above os s e) ∙ h)
 
 pub at_place : (l : Place) (above : List Ancestor) (os : List OpenElement) → AreAlike above os →
     place_of above ≡ l → IsAtPlace l os

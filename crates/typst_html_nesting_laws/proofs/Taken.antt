@@ -1,60 +1,71 @@
 -- Texts that are added to the current node, and nothing else is done.
-use Rattle.std.{proofs.Common.{◌≡◌, ℕ, Bool, true, false, not, eqb, List, [], ◌∷◌, refl, sym, ap, ◌∙◌}, specs.Prelude.{Some}}
-use Rattle.std.proofs.lemmas.Bool.{and_from, false≢true, or_left, or_right}
+use Rattle.std.{proofs.Common.{◌≡◌, ℕ, Bool, true, false, eqb, List, [], ◌∷◌, refl, sym, ap, ◌∙◌}, specs.Prelude.{Some}}
+use Rattle.std.proofs.lemmas.Bool.{false≢true, or_left, or_right}
 use Rattle.html_page_nesting.specs.{Ancestors.{Ancestor, place_of}, WrittenTexts.{is_white_char}, declared.reading.Place.{Place}}
 use Rattle.html_page_nesting.specs.declared.reading.Place.TheVariants as place
 use Rattle.html_page_names.specs.PageNames.{of}
 use Rattle.html_page_names.specs.declared.kind.Kind.TheVariants as kind
 use Rattle.html_page_stack.specs.{Formats.{ends_closed}, OpenElements.{OpenElement, is_html, mode}, Pages.{Page, Char, Taken, with_char}}
-use Rattle.html_page_stack.specs.declared.modes.Mode.{Mode, TheVariants.{InBody, InText, InCaption, InCell}}
+use Rattle.html_page_stack.specs.declared.modes.Mode.{Mode, TheVariants.{InBody, InText, InCaption, InCell, InTemplate}}
+use Rattle.html_page_stack.specs.declared.modes.FramesetRule.TheVariants as frameset
 use Rattle.html_page_stack.specs.declared.modes.Space.TheVariants as spaces
-use Rattle.html_page_tree.{proofs.TakenTexts.{text_taken}, specs.PageTrees.{by_mode, is_foreign_token, is_unseen}}
-use Rattle.html_page_tree.specs.PageBodies.{is_barred}
-use Rattle.html_page_tree.specs.TakenTexts.{mode_takes_text, takes_text}
-use Rattle.typst_html_nesting_laws.proofs.{Alike.{html_space, mode_is, placed_html}, ListedFormats.{none_closed}, Modes.{mode_in, own_mode}}
-use Rattle.typst_html_nesting_laws.proofs.{Readers.{Takes, texted}, Tables.{IsAtPlace, at_place, inside_tables, white_in_table}, Turns.{IsOrdinary, html_token, mode_taken, stack_mode}}
+use Rattle.html_page_tree.specs.{PageBodies.{barred_by_char, char_in_body, is_space}, PageTrees.{by_mode, is_foreign_token, page_mode, turn}}
+use Rattle.typst_html_nesting_laws.proofs.{Alike.{html_space, mode_is, placed_html}, Branches.{either, skip}, ListedFormats.{none_closed}, Modes.{mode_in, own_mode, told_in}}
+use Rattle.typst_html_nesting_laws.proofs.{Readers.{Takes, texted}, Tables.{IsAtPlace, at_place, inside_tables, white_in_table}, Templates.{mode_passes}, Turns.{html_token, mode_taken, read_mode, turn_taken}}
 use Rattle.typst_html_nesting_laws.proofs.Ways.{AreAlike, IsCalm, IsSteady, is_body_mode, is_page_place}
 
--- the modes that take any text, where no formatting element is made again
+-- the modes that take any text
 abbrev is_text_mode : Mode → Bool
 is_text_mode InText = true
-is_text_mode m = is_body_mode m
+is_text_mode m = is_body_mode (read_mode m)
 
-mode_takes : (m : Mode) (p : Page) → is_text_mode m ≡ true →
-    ends_closed p.stack p.formats ≡ false → mode_takes_text m p ≡ true
-mode_takes InText p h l = refl
-mode_takes InBody p h l = ap not l
-mode_takes InCaption p h l = ap not l
-mode_takes InCell p h l = ap not l
-mode_takes _ p h l = absurd (false≢true h)
+-- a character, where no formatting element is made again
+module _ (c : ℕ) (q : Page) (some : eqb c 0 ≡ false) (barred : q.framesets ≡ frameset.Ignored)
+    (kept : ends_closed q.stack q.formats ≡ false) where
+  -- no frameset may come any more
+  barred_still : barred_by_char c q ≡ q
+  barred_still = either (is_space c) (λ e. refl)
+      (λ e. ap (λ r. record q { framesets = r }) (sym barred))
+
+  in_body_taken : char_in_body c q ≡ with_char c q
+  in_body_taken = skip _ some (ap (λ r. with_char c (barred_by_char c r)) (skip _ kept refl)
+      ∙ ap (with_char c) barred_still)
+
+  mode_text : (m : Mode) → is_text_mode m ≡ true → by_mode m (Char c) q ≡ Taken (with_char c q)
+  mode_text InText h = refl
+  mode_text InBody h = ap Taken in_body_taken
+  mode_text InCaption h = ap Taken in_body_taken
+  mode_text InCell h = ap Taken in_body_taken
+  mode_text InTemplate h = ap Taken in_body_taken
+  mode_text _ h = absurd (false≢true h)
+
+  turn_text : is_text_mode (page_mode q) ≡ true → turn (Char c) q ≡ Taken (with_char c q)
+  turn_text h = either (is_foreign_token (Char c) q.stack)
+      (λ e. ap Taken (rw some (ap (with_char c) barred_still))) (λ e. mode_text (page_mode q) h)
 
 -- in such a mode each character is taken
-mode_text : (above : List Ancestor) (p : Page) → IsCalm above p →
+all_taken : (above : List Ancestor) (p : Page) → IsCalm above p →
     is_text_mode (mode p.stack) ≡ true → Takes (λ c. true) p
-unfolding takes_text
-mode_text above p calm h c text start passes some =
+all_taken above p calm h c text start passes some =
     let q : Page = texted text start p in
-    let plain : IsOrdinary q =
-    record { templates = calm.ordinary.templates; framesets = calm.ordinary.framesets } in
-    text_taken c q some (and_from _ _ (and_from _ _ (ap (λ r. not (is_unseen r)) calm.tables)
-    (ap is_barred calm.ordinary.framesets))
-    (or_right _ _ (ap (λ m. mode_takes_text m q) (stack_mode q plain)
-    ∙ mode_takes (mode p.stack) q h (none_closed p.stack p.formats calm.ordered))))
+    turn_taken (Char c) q (with_char c q) calm.tables
+    (turn_text c q some calm.framesets (none_closed p.stack p.formats calm.ordered)
+    (mode_passes is_text_mode refl refl q calm.framesets calm.modes h))
 
-body_text : (m : Mode) → is_body_mode m ≡ true → is_text_mode m ≡ true
+body_text : (m : Mode) → is_body_mode (read_mode m) ≡ true → is_text_mode m ≡ true
 body_text InText h = refl
 body_text m h = h
 
 -- in a body
 pub body_takes : (above : List Ancestor) (p : Page) → IsCalm above p → IsSteady above p.stack →
     place_of above ≡ place.Body → Takes (λ c. true) p
-body_takes above p calm steady e = mode_text above p calm (body_text (mode p.stack) (steady e))
+body_takes above p calm steady e = all_taken above p calm (body_text (mode p.stack) (steady e))
 
 -- in an element of text alone
 pub raw_takes : (above : List Ancestor) (p : Page) (o : OpenElement) (os : List OpenElement) →
     IsCalm above p → p.stack ≡ o ∷ os → o.space ≡ spaces.Html → of kind.Raw o.head.name ≡ true →
     Takes (λ c. true) p
-raw_takes above p o os calm e html raw = mode_text above p calm
+raw_takes above p o os calm e html raw = all_taken above p calm
     (ap is_text_mode (ap mode e ∙ own_mode o os InText (ap is_html html) raw))
 
 -- a place whose mode takes white space
@@ -101,8 +112,7 @@ pub white_takes : (above : List Ancestor) (p : Page) → IsCalm above p → is_p
 white_takes above p calm page body c text start passes some =
     let w = white_place (place_of above) page body in
     let q : Page = texted text start p in
-    mode_taken (Char c) q w.mode (with_char c q) calm.tables
-    (record { templates = calm.ordinary.templates; framesets = calm.ordinary.framesets })
-    (white_html w.mode above p.stack calm.alike w.is c)
+    mode_taken (Char c) q w.mode (with_char c q) calm.tables calm.framesets
+    (told_in (place_of above) w.mode w.is) (white_html w.mode above p.stack calm.alike w.is c)
     (mode_is w.mode above p.stack calm.alike w.is) (w.read c q passes some
     (at_place (place_of above) above p.stack calm.alike refl))

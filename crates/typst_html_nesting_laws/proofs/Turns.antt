@@ -1,7 +1,8 @@
--- A token that is taken in one turn.
-use Rattle.std.proofs.Common.{◌≡◌, ◌+◌, false, not, List, [], ◌∷◌, length, refl, ap, ◌∙◌}
-use Rattle.html_page_stack.specs.{OpenElements.{OpenElement, mode}, Pages.{Page, Token, Finish, Taken}}
-use Rattle.html_page_stack.specs.declared.modes.Mode.{Mode, TheVariants.{AfterHead, InTemplate}}
+-- A token that is taken in one turn, or in two.
+use Rattle.std.proofs.Common.{◌≡◌, ◌+◌, suc, Bool, true, false, not, List, [], ◌∷◌, length, refl, ap, ◌∙◌, arith}
+use Rattle.std.proofs.lemmas.Bool.{false≢true}
+use Rattle.html_page_stack.specs.{OpenElements.{OpenElement, mode}, Pages.{Page, Token, Finish, Again, Taken}}
+use Rattle.html_page_stack.specs.declared.modes.Mode.{Mode, TheVariants.{AfterHead, InBody, InTemplate}}
 use Rattle.html_page_stack.specs.declared.modes.FramesetRule.TheVariants as frameset
 use Rattle.html_page_stack.specs.declared.modes.Space.TheVariants as spaces
 use Rattle.html_page_stack.specs.declared.modes.TableRule.TheVariants as rule
@@ -14,27 +15,44 @@ unfolding processed token_read
 turn_taken token p r tables h = pick _ (ap (λ x. not (is_unseen x)) tables)
     (ap (λ t. behind_token token (behind_turn (processed (length p.templates + 7)) t)) h)
 
--- no `template` is open, and no frameset is or was there
-pub record IsOrdinary (p : Page) : Type 0 where
-  pub templates : p.templates ≡ []
-  pub framesets : p.framesets ≡ frameset.Ignored
+pub turns_taken : (token : Token) (p q r : Page) → p.tables ≡ rule.ClosesP →
+    turn token p ≡ Again q token → turn token q ≡ Taken r →
+    token_read token p ≡ behind_token token r
+unfolding processed token_read
+turns_taken token p q r tables h k = pick _ (ap (λ x. not (is_unseen x)) tables)
+    (ap (λ t. behind_token token (behind_turn (processed (length p.templates + 7)) t)) h
+    ∙ (ap (λ n. behind_token token (processed n token q)) {x = length p.templates + 7}
+    {y = suc (length p.templates + 6)} (omega arith)
+    ∙ ap (λ t. behind_token token (behind_turn (processed (length p.templates + 6)) t)) k))
 
-none_within : (m : Mode) → mode_within m [] frameset.Ignored ≡ m
-none_within InTemplate = refl
-none_within AfterHead = refl
-none_within _ = refl
+-- the modes that the open elements tell; that of a `template` they do not
+abbrev pub is_told : Mode → Bool
+is_told InTemplate = false
+is_told m = true
 
--- there the open elements tell the mode
-pub stack_mode : (p : Page) → IsOrdinary p → page_mode p ≡ mode p.stack
-stack_mode p h = ap (λ ts. mode_within (mode p.stack) ts p.framesets) h.templates
-    ∙ (ap (mode_within (mode p.stack) []) h.framesets ∙ none_within (mode p.stack))
+-- the mode in which elements are read in a `template` whose content is that of a body
+abbrev pub read_mode : Mode → Mode
+read_mode InTemplate = InBody
+read_mode m = m
+
+told_within : (m : Mode) (ms : List Mode) → is_told m ≡ true →
+    mode_within m ms frameset.Ignored ≡ m
+told_within InTemplate ms h = absurd (false≢true h)
+told_within AfterHead ms h = refl
+told_within _ ms h = refl
+
+-- no frameset is or was there, so the open elements tell the mode
+pub stack_mode : (p : Page) → p.framesets ≡ frameset.Ignored → is_told (mode p.stack) ≡ true →
+    page_mode p ≡ mode p.stack
+stack_mode p barred told = ap (mode_within (mode p.stack) p.templates) barred
+    ∙ told_within (mode p.stack) p.templates told
 
 -- by the rules of a mode of HTML
 pub mode_taken : (token : Token) (p : Page) (m : Mode) (r : Page) → p.tables ≡ rule.ClosesP →
-    IsOrdinary p → is_foreign_token token p.stack ≡ false → mode p.stack ≡ m → by_mode m token p ≡ Taken r →
-    token_read token p ≡ behind_token token r
-mode_taken token p m r tables plain html e h = turn_taken token p r tables
-    (skip _ html (ap (λ n. by_mode n token p) (stack_mode p plain ∙ e) ∙ h))
+    p.framesets ≡ frameset.Ignored → is_told m ≡ true → is_foreign_token token p.stack ≡ false →
+    mode p.stack ≡ m → by_mode m token p ≡ Taken r → token_read token p ≡ behind_token token r
+mode_taken token p m r tables barred told html e h = turn_taken token p r tables (skip _ html
+    (ap (λ n. by_mode n token p) (stack_mode p barred (ap is_told e ∙ told) ∙ e) ∙ h))
 
 -- in an element of HTML
 pub html_token : (token : Token) (o : OpenElement) (os : List OpenElement) → o.space ≡ spaces.Html →

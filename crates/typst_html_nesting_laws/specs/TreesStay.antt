@@ -1,19 +1,17 @@
 -- A tree in which nothing is misnested stays: a parser of pages makes the same tree of its text.
-use Rattle.std.specs.Prelude.{◌≡◌, ℕ, ◌<◌, ◌≤◌, false, [], List, length, Some, Ok}
+use Rattle.std.specs.Prelude.{◌≡◌, ℕ, ◌<◌, ◌≤◌, [], List, length, Some, Ok}
 use Rattle.html_dom_tree.specs.{FrameFree.{ElementIsFrameFree}, PlainTree.{element_normal}}
 use Rattle.html_dom_tree.specs.Tree.{Head, NodeView, tag_node, text_node, element_node, frame_node, NodesView, none, node, ElementView}
 use Rattle.html_page_nesting.specs.Misnested.{misnested_nodes}
 use Rattle.typst_html_encode.specs.{ExportFaults.{document_faults}, FrameWriters.{Frames}, Reader.{read}, ReadingBack.{ElementIsNamed}}
 use Rattle.typst_html_encode.specs.Text.{plain_options, document_text}
-use Rattle.html_page_names.specs.PageNames.{of}
-use Rattle.html_page_names.specs.declared.kind.Kind.TheVariants as kind
 use Rattle.html_page_stack.specs.Pages.{Notes, most_attrs}
 use Rattle.html_page_read.specs.PageReading.{PageResult, page_read}
 
--- the reader of pages does not refuse the element in any tree: it is no `template`, and has no more
--- attributes than the reader accepts
+-- the reader of pages does not refuse the element in any tree: it has no more attributes than the
+-- reader accepts
 abbrev pub HeadIsReadable : Head → Type 0
-HeadIsReadable h = (of kind.Template h.name ≡ false) × (length h.attrs ≤ most_attrs)
+HeadIsReadable h = length h.attrs ≤ most_attrs
 
 -- the reader refuses no element for that, at any depth
 unfoldable mutual
