@@ -1,7 +1,7 @@
 -- The start tag of an element that breaks no rule opens it, and does nothing else.
-use Rattle.std.{proofs.Common.{◌≡◌, ◌<◌, ℕ, Bool, true, false, not, ◌||◌, List, [], ◌∷◌, drop, length, refl, sym, ap, ◌∙◌}, specs.Prelude.{if◌then◌else◌, None}}
+use Rattle.std.{proofs.Common.{◌≡◌, ◌<◌, ℕ, Bool, true, false, not, ◌||◌, List, [], ◌∷◌, length, refl, sym, ap, ◌∙◌}, specs.Prelude.{None}}
 use Rattle.std.proofs.lemmas.Bool.{and_from, and_parts, both_ways, false≢true, not-false, not-true, or_from, or_left, or_right, true_from_ne_false}
-use Rattle.html_names_core.specs.Kinds.{is_foreign_self_closing, is_void}
+use Rattle.html_names_core.specs.Kinds.{is_foreign_self_closing}
 use Rattle.html_dom_tree.specs.Tree.{Head, NodesView}
 use Rattle.html_page_nesting.specs.Ancestors.{Ancestor, begun_space, is_in, is_read_as_html, place_in, place_of, reading_in, reading_of, space_of}
 use Rattle.html_page_nesting.specs.Ancestors as nest
@@ -11,15 +11,15 @@ use Rattle.html_page_nesting.specs.declared.surroundings.Surroundings.{Surroundi
 use Rattle.html_page_nesting.specs.declared.reading.Place.TheVariants as place
 use Rattle.html_page_names.specs.{ForeignNames.{lowered}, PageNames.{of}}
 use Rattle.html_page_names.specs.declared.kind.Kind.TheVariants as kind
-use Rattle.html_page_stack.specs.{OpenElements.{OpenElement, is_at, is_of, mode}, Pages.{Again, Page, Start, StartTag, Turn, closed, Taken}}
-use Rattle.html_page_stack.specs.declared.modes.Mode.{Mode, TheVariants.{InBody}}
+use Rattle.html_page_stack.specs.{OpenElements.{is_at, is_of, mode}, Pages.{Again, Page, Start, StartTag, Turn, Taken}}
+use Rattle.html_page_stack.specs.declared.modes.Mode.{TheVariants.{InBody}}
 use Rattle.html_page_tree.specs.PageTrees.{by_mode, in_mode, is_foreign_token, page_mode, start_in_template, template_mode, text_ended, token_read, turn}
 use Rattle.typst_html_nesting_laws.proofs.{Alike.{at_is, html_is, length_is, mode_is, start_foreign}, BegunForeign.{foreign_taken}, Modes.{mode_in, told_in}}
 use Rattle.typst_html_nesting_laws.proofs.{BegunInBody.{body_taken, stays_in_body}, BegunInTables.{place_taken}, Opened.{Opens, head_begun, made, one_of, opened_as, void_of}}
 use Rattle.typst_html_nesting_laws.proofs.{Branches.{decide, either, else_none, of_two, pick, skip}, KeptTags.{begun_as, reading_small, small_begun, written_opens}}
 use Rattle.typst_html_nesting_laws.proofs.{KindFacts.{agree_of, names, outside_of, passes_of}, Readers.{written_tag}, Rules.{content_fits, named_kept, stays_foreign, tag_fits}}
 use Rattle.typst_html_nesting_laws.proofs.{Stands.{parts}, Tables.{at_place, outside_foreign, outside_in_body}}
-use Rattle.typst_html_nesting_laws.proofs.Templates.{ReadsBody, are_modes, body_mode, head_mode, is_template, modes_read, reads_body, reads_inside}
+use Rattle.typst_html_nesting_laws.proofs.Templates.{ReadsBody, TemplateModes, are_modes, body_mode, head_mode, is_template, modes_read, reads_body, reads_inside}
 use Rattle.typst_html_nesting_laws.proofs.{Turns.{is_told, read_mode, stack_mode, turn_taken, turns_taken}, Ways.{IsCalm, IsSteady, begun, begun_element, ends_at_once, is_page_place, open_space}}
 
 -- by the rules of HTML, in each place, where the innermost `template` is read as a body
@@ -70,7 +70,7 @@ head_html n h = agree_of (λ m. nest.is_html (begun_space m)) (λ m. true) kind.
 
 -- the element is begun, once the innermost `template` is read in the first of these modes
 pub record IsBegun (above : List Ancestor) (h : Head) (p : Page) : Type 0 where
-  pub modes : List Mode
+  pub modes : TemplateModes
   pub ordered : are_modes p.stack modes ≡ true
   pub reads : ends_at_once h ≡ false → ReadsBody (begun_element h above p.start) modes
   pub is : token_read (Start (written_tag h)) p

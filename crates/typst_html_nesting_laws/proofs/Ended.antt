@@ -1,5 +1,5 @@
 -- An end tag of the current node's name closes it, where nothing is misnested.
-use Rattle.std.proofs.Common.{◌≡◌, ℕ, Bool, true, false, not, ◌&&◌, ◌||◌, ◌==◌, List, [], ◌∷◌, drop, length, inl, inr, refl, sym, ap, subst, ◌∙◌}
+use Rattle.std.proofs.Common.{◌≡◌, ℕ, Bool, true, false, not, ◌&&◌, ◌||◌, List, [], ◌∷◌, drop, length, inl, inr, refl, sym, ap, subst, ◌∙◌}
 use Rattle.std.proofs.lemmas.{Bool.{and_from, and_left, and_parts, and_right, eq-eqb, false≢true, or_from, or_left, or_parts, or_right}, Slice.Eq.{bytes_eq-Decides}}
 use Rattle.std.specs.Prelude.{if◌then◌else◌, None, Option, codes}
 use Rattle.html_names_core.specs.Kinds.{is_void}

@@ -6,10 +6,9 @@ use Rattle.html_dom_tree.specs.Tree.{NodeView, tag_node, text_node, element_node
 use Rattle.typst_html_encode.{proofs.Runs.{right_empty}, specs.{ExportFaults.{nodes_raw_faults, void_faults}, Text.{nodes_raw_text}}}
 use Rattle.html_page_names.specs.ForeignNames.{lowered}
 use Rattle.html_page_stack.specs.{Formats.{Formats}, OpenElements.{OpenElement, end_in_text, joined, with_longer_last, with_text}, Pages.{Page, End}}
-use Rattle.html_page_stack.specs.declared.modes.Mode.{Mode}
 use Rattle.html_page_tree.specs.PageTrees.{token_read}
 use Rattle.html_page_read.specs.{PageReading.{run}, PageTokens.{PageReader}}
-use Rattle.typst_html_nesting_laws.proofs.{Branches.{decide}, ListedFormats.{IsInOrder}, Readers.{data_at, run_on}, Templates.{are_modes}}
+use Rattle.typst_html_nesting_laws.proofs.{Branches.{decide}, ListedFormats.{IsInOrder}, Readers.{data_at, run_on}, Templates.{TemplateModes, are_modes}}
 
 -- plain nodes behind a node, and behind nodes
 abbrev pub put_node : NodeView → Plains → Plains
@@ -88,7 +87,7 @@ no_children span (node n ns) h = cc
 pub record Moment : Type 0 where
   pub start : ℕ
   pub formats : Formats
-  pub templates : List Mode
+  pub templates : TemplateModes
 
 -- formats and modes are those of these open elements
 abbrev pub AreOrdered : List OpenElement → Moment → Type 0

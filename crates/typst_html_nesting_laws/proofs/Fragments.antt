@@ -8,7 +8,7 @@ use Rattle.typst_html_encode.{proofs.Runs.{right_empty}, specs.FrameWriters.{Fra
 use Rattle.typst_html_encode.specs.{Fragments.{fragment_text}, ReadingBack.{NodeIsNamed, NodesAreNamed}}
 use Rattle.html_page_stack.specs.OpenElements.{OpenElement, root_of}
 use Rattle.html_page_stack.specs.Pages.{Page, Finish, closed, first_page, opened, settled}
-use Rattle.html_page_stack.specs.declared.modes.{Destination.TheVariants.{Parent}, Mode.{Mode, TheVariants.{InBody}}}
+use Rattle.html_page_stack.specs.declared.modes.{Destination.TheVariants.{Parent}, Mode.{TheVariants.{InBody}}}
 use Rattle.html_page_stack.specs.declared.modes.Space.TheVariants as spaces
 use Rattle.html_page_stack.specs.declared.modes.TableRule.TheVariants as rule
 use Rattle.html_page_tree.specs.{FragmentPages.{fragment_begun}, PageTrees.{token_read}}
@@ -18,7 +18,7 @@ use Rattle.typst_html_nesting_laws.proofs.{Branches.{skip}, Fillings.{fresh_behi
 use Rattle.typst_html_nesting_laws.proofs.ListedFormats.Layer.{passed}
 use Rattle.typst_html_nesting_laws.proofs.Forms.{AreOrdered, Moment, later, normal_is, on, put_texted, texted_children, with_text_is}
 use Rattle.typst_html_nesting_laws.proofs.Nodes.{IsInside, NodesFit, element_fits, nodes_lead, rest_fits}
-use Rattle.typst_html_nesting_laws.proofs.{Opened.{opens}, Readers.{data_at}, Tables.{text_kept}, Templates.{are_modes, hold_modes, modes_there}, Turns.{html_token, mode_taken}}
+use Rattle.typst_html_nesting_laws.proofs.{Opened.{opens}, Readers.{data_at}, Tables.{text_kept}, Templates.{TemplateModes, are_modes, hold_modes, modes_there}, Turns.{html_token, mode_taken}}
 use Rattle.typst_html_nesting_laws.specs.FragmentsStay.{FragmentsStay, IsKeptFragment, bare_head, begins_marked, fragment_root}
 use Rattle.typst_html_nesting_laws.specs.TreesStay.{NodeIsReadable, NodesAreReadable, no_notes}
 
@@ -102,7 +102,7 @@ in_order : AreOrdered (body ∷ outer) begin
 unfolding names
 in_order = (passed refl (passed refl refl), refl)
 
-none_open : (ms : List Mode) → are_modes (body ∷ outer) ms ≡ true → hold_modes ms ≡ false
+none_open : (ms : TemplateModes) → are_modes (body ∷ outer) ms ≡ true → hold_modes ms ≡ false
 unfolding names
 none_open ms h = modes_there (body ∷ outer) ms h
 

@@ -1,5 +1,5 @@
 -- A start tag whose name and attributes keep their case is read as it is.
-use Rattle.std.proofs.{Common.{◌≡◌, ℕ, ◌<◌, Bool, true, false, not, ◌||◌, List, ◌∷◌, codes, length, map-id, refl, sym, ap, ◌∙◌}, lemmas.Bool.{and_from, and_right, false≢true, lt-leb, or_from}}
+use Rattle.std.proofs.{Common.{◌≡◌, ℕ, ◌<◌, Bool, true, false, not, ◌||◌, List, codes, length, map-id, refl, sym, ap, ◌∙◌}, lemmas.Bool.{and_from, and_right, false≢true, lt-leb, or_from}}
 use Rattle.std.specs.Prelude.{if◌then◌else◌}
 use Rattle.html_names_core.specs.Kinds.{is_foreign_self_closing, is_void}
 use Rattle.html_dom_tree.specs.{Attributes.{names_differ}, Tree.{TextPair, Head}}
@@ -11,13 +11,13 @@ use Rattle.html_page_names.specs.{ForeignNames.{keeps_case, lowered, svg_attrs, 
 use Rattle.html_page_names.specs.declared.kind.Kind.TheVariants as kind
 use Rattle.html_page_stack.specs.{OpenElements.{OpenElement, at, is_table_context}, Pages.{Page, StartTag, added_to, closed, opened, opened_here, opened_to, settled, template_opened, with_element}}
 use Rattle.html_page_stack.specs.OpenElements as open_elements
-use Rattle.html_page_stack.specs.declared.modes.{Destination.TheVariants.{Parent}, Mode.TheVariants.{InTemplate}}
+use Rattle.html_page_stack.specs.declared.modes.{Destination.TheVariants.{Parent}}
 use Rattle.html_page_stack.specs.declared.modes.FramesetRule.TheVariants as frameset
 use Rattle.html_page_stack.specs.declared.modes.Space.TheVariants as spaces
 use Rattle.html_page_tree.specs.PageBodies.{entered, foreign_attrs, foreign_name}
 use Rattle.typst_html_nesting_laws.proofs.Capitals.{attrs_back, attrs_come_back, attrs_small, capitals_back, names_lowered_differ, small_back}
 use Rattle.typst_html_nesting_laws.proofs.{KindFacts.{agree_of, fails_of, names}, Opened.{Opens, adds, adds_in, letter_plain, made, one_of, opened_as, opens, opens_here, opens_to, template_begun}, Rules.{TagFits}}
-use Rattle.typst_html_nesting_laws.proofs.{Readers.{lowered_attrs, written_tag}, RootParts.{name_of}, Templates.{is_template}, Ways.{begun, begun_element, open_space}}
+use Rattle.typst_html_nesting_laws.proofs.{Readers.{lowered_attrs, written_tag}, RootParts.{name_of}, Templates.{is_template, modes_if}, Ways.{begun, begun_element, open_space}}
 use Rattle.typst_html_nesting_laws.proofs.Branches.{decide, pick, skip}
 
 -- its attributes differ in small letters
@@ -157,7 +157,7 @@ pub begun_plain : (h : Head) (above : List Ancestor) (p : Page) →
 begun_plain h above p e =
     let it = begun_element h above p.start in
     ap (λ b. record (with_element it (settled p)) {
-      templates = if b then InTemplate ∷ p.templates else p.templates;
+      templates = modes_if b p.templates;
     }) (sym e)
 
 -- of one of HTML
@@ -172,7 +172,7 @@ begun_as h above p barred is c =
     (λ t. let here : is_template it ≡ true = and_from _ _ (ap (λ x. open_elements.is_html
     (open_space x)) (is ∙ template_html h.name t)) t in
     pick _ t (ap (λ b. record (with_element it (settled p)) {
-      templates = if b then InTemplate ∷ p.templates else p.templates;
+      templates = modes_if b p.templates;
       framesets = frameset.Ignored;
     }) (sym here) ∙ (ap (λ r. record (begun h above p) { framesets = r }) (sym barred)
     ∙ sym (skip _ (or_from _ _ c (fails_of is_void kind.Template h.name (unfold names in refl) t))

@@ -9,11 +9,11 @@ use Rattle.html_page_names.specs.PageNames.{of}
 use Rattle.html_page_names.specs.declared.kind.Kind.TheVariants as kind
 use Rattle.html_page_stack.specs.Pages.{Page, StartTag, added_in, added_to, destination_of, closed, opened, opened_here, opened_in, opened_to, settled, template_opened, with_element}
 use Rattle.html_page_stack.specs.{OpenElements.{at, is_table_context}, Pages.{made as tag_made}}
-use Rattle.html_page_stack.specs.declared.modes.{Destination.TheVariants.{Parent}, Mode.TheVariants.{InTemplate}, Space.{Space}}
+use Rattle.html_page_stack.specs.declared.modes.{Destination.TheVariants.{Parent}, Space.{Space}}
 use Rattle.html_page_stack.specs.declared.modes.FramesetRule.TheVariants as frameset
 use Rattle.html_page_stack.specs.declared.modes.Space.TheVariants as spaces
 use Rattle.html_page_tree.specs.PageBodies.{entered, head_element, leaf}
-use Rattle.typst_html_nesting_laws.proofs.{Branches.{either, pick, second_false, second_true, skip}, KindFacts.{agree_in, fails_of, names, passes_of}, Tables.{parent_there}}
+use Rattle.typst_html_nesting_laws.proofs.{Branches.{either, pick, second_false, second_true, skip}, KindFacts.{agree_in, fails_of, names, passes_of}, Tables.{parent_there}, Templates.{modes_if}}
 
 -- the page with an element opened
 abbrev pub made : Space → (name : List ℕ) → List TextPair → Page → Page
@@ -25,7 +25,7 @@ one_of at_once q = if at_once then closed true q else q
 
 -- once the element is a `template`
 abbrev pub template_begun : Page → Page
-template_begun q = record q { templates = InTemplate ∷ q.templates; framesets = frameset.Ignored }
+template_begun q = record q { templates = modes_if true q.templates; framesets = frameset.Ignored }
 
 -- what a start tag of HTML leads to, by its name
 abbrev pub opened_as : (name : List ℕ) → Page → Page

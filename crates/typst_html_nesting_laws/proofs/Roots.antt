@@ -549,11 +549,12 @@ module _ (frames : Frames) (limit : ℕ) (h : Head) (kids : NodesView) (deep : 5
       (first_read frames h.pre_span 0 in_root h.name (ap (of kind.Root) low)
       (λ fresh at q. end_emits h.name x.fits.named.0 tag.letter fresh at q) kids true
       (starts.place + 1)
-      (record { start = starts.start; formats = root_page.formats; templates = root_page.templates })
-      (order_opened (begun_element h [] starts.start) [] [] refl,
-      modes_opened (begun_element h [] starts.start) [] [] refl
-      (or_right (is_template (begun_element h [] starts.start)) _
-      (or_right (is_of (of kind.Raw) (begun_element h [] starts.start)) _ refl)))
+      (record { start = starts.start; formats = root_page.formats; templates = root_page.templates }) (
+        order_opened (begun_element h [] starts.start) [] [] refl,
+        modes_opened (begun_element h [] starts.start) [] [] refl
+            (or_right (is_template (begun_element h [] starts.start)) _
+            (or_right (is_of (of kind.Raw) (begun_element h [] starts.start)) _ refl)),
+      )
       complete x.fits.below
       (part_faults x 0))))
 

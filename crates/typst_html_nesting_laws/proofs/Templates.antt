@@ -8,12 +8,16 @@ use Rattle.html_page_names.specs.declared.kind.Kind.TheVariants as kind
 use Rattle.html_page_stack.specs.OpenElements.{OpenElement, has, has_elements, html_mode, is_at, is_html, is_of, mode, named_mode, with_last_text, with_text}
 use Rattle.html_page_stack.specs.Pages.{Page, closed}
 use Rattle.html_page_stack.specs.declared.modes.FramesetRule.TheVariants as frameset
-use Rattle.html_page_stack.specs.declared.modes.Mode.{Mode, TheVariants.{AfterHead, BeforeHead, InBody, InCaption, InCell, InColumns, InFrameset, InHead, InHeadNoscript, InRow, InSection, InTable, InTemplate, InText}}
+use Rattle.html_page_stack.specs.declared.modes.Mode.{Mode, TheVariants.{AfterHead, InBody, InFrameset, InTemplate}}
 use Rattle.html_page_tree.specs.PageTrees.{mode_within, page_mode}
 use Rattle.typst_html_nesting_laws.proofs.{Branches.{decide, either_way, second_false}, Modes.{tells, template_mode}, Turns.{is_told, read_mode}}
 
 abbrev pub is_template : OpenElement → Bool
 is_template = is_of (of kind.Template)
+
+-- the modes of the open templates, innermost first
+abbrev pub TemplateModes : Type 0
+TemplateModes = List Mode
 
 -- the modes of a `template` in which no part of a table stands: nothing but content of the head is
 -- begun in it, or it is read as a body
@@ -22,39 +26,46 @@ is_template_mode InTemplate = true
 is_template_mode InBody = true
 is_template_mode m = false
 
-abbrev begin_well : List Mode → Bool
+abbrev begin_well : TemplateModes → Bool
 begin_well [] = false
 begin_well (m ∷ ms) = is_template_mode m
 
 -- whether the innermost `template` is read as a body, if one is open
-abbrev pub reads_body : List Mode → Bool
+abbrev pub reads_body : TemplateModes → Bool
 reads_body [] = true
 reads_body (InBody ∷ ms) = true
 reads_body ms = false
 
 -- whether these are the modes of the templates among the open elements, of which each that holds an
 -- element other than content of the head is read as a body
-abbrev pub are_modes : List OpenElement → List Mode → Bool
+abbrev pub are_modes : List OpenElement → TemplateModes → Bool
 are_modes [] [] = true
 are_modes [] (m ∷ ms) = false
 are_modes (o ∷ os) ms = if is_template o then begin_well ms && are_modes os (drop 1 ms)
     else (is_of (of kind.Raw) o || reads_body ms) && are_modes os ms
 
 -- an element that may stand in the innermost `template`, as it is read
-abbrev pub ReadsBody : OpenElement → List Mode → Type 0
+abbrev pub ReadsBody : OpenElement → TemplateModes → Type 0
 ReadsBody o ms = (is_template o || (is_of (of kind.Raw) o || reads_body ms)) ≡ true
 
 -- whether a `template` is open, by its mode
-abbrev pub hold_modes : List Mode → Bool
+abbrev pub hold_modes : TemplateModes → Bool
 hold_modes ms = not (length ms == 0)
 
 -- the modes once an element is opened, and once it is closed
 
-abbrev pub modes_in : OpenElement → List Mode → List Mode
-modes_in o ms = if is_template o then InTemplate ∷ ms else ms
+abbrev pub modes_if : (template : Bool) → TemplateModes → TemplateModes
+modes_if template ms = if template then InTemplate ∷ ms else ms
 
-abbrev pub modes_behind : OpenElement → List Mode → List Mode
+abbrev pub modes_in : OpenElement → TemplateModes → TemplateModes
+modes_in o ms = modes_if (is_template o) ms
+
+abbrev pub modes_behind : OpenElement → TemplateModes → TemplateModes
 modes_behind o ms = if is_template o then drop 1 ms else ms
+
+-- the modes once the innermost `template` is read as a body
+abbrev pub read_modes : TemplateModes → TemplateModes
+read_modes ms = InBody ∷ drop 1 ms
 
 -- the page once the current node is closed by its own end tag
 abbrev pub closed_own : OpenElement → Page → Page
@@ -68,34 +79,33 @@ closed_plain o p h = ap (λ b. record (closed true p) {
 
 -- by whether an element is a `template`, or one of text alone
 
-abbrev modes_by : (template raw : Bool) → List OpenElement → List Mode → Bool
+abbrev modes_by : (template raw : Bool) → List OpenElement → TemplateModes → Bool
 modes_by template raw os ms = if template then begin_well ms && are_modes os (drop 1 ms)
     else (raw || reads_body ms) && are_modes os ms
 
-in_by : (template raw : Bool) (os : List OpenElement) (ms : List Mode) → are_modes os ms ≡ true →
+in_by : (template raw : Bool) (os : List OpenElement) (ms : TemplateModes) → are_modes os ms ≡ true →
     (template || (raw || reads_body ms)) ≡ true →
-    modes_by template raw os (if template then InTemplate ∷ ms else ms) ≡ true
+    modes_by template raw os (modes_if template ms) ≡ true
 in_by true raw os ms h reads = h
 in_by false raw os ms h reads = and_from _ _ reads h
 
-behind_by : (template raw : Bool) (os : List OpenElement) (ms : List Mode) →
+behind_by : (template raw : Bool) (os : List OpenElement) (ms : TemplateModes) →
     modes_by template raw os ms ≡ true →
     are_modes os (if template then drop 1 ms else ms) ≡ true
 behind_by true raw os ms h = (and_parts _ _ h).1
 behind_by false raw os ms h = (and_parts _ _ h).1
 
-back_by : (template : Bool) (ms : List Mode) →
-    (if template then drop 1 (if template then InTemplate ∷ ms else ms)
-    else (if template then InTemplate ∷ ms else ms)) ≡ ms
+back_by : (template : Bool) (ms : TemplateModes) →
+    (if template then drop 1 (modes_if template ms) else modes_if template ms) ≡ ms
 back_by true ms = refl
 back_by false ms = refl
 
-deeper_by : (template : Bool) (ms : List Mode) →
-    hold_modes (if template then InTemplate ∷ ms else ms) ≡ (template || hold_modes ms)
+deeper_by : (template : Bool) (ms : TemplateModes) →
+    hold_modes (modes_if template ms) ≡ (template || hold_modes ms)
 deeper_by true ms = ap not (eqb-suc-zero (length ms))
 deeper_by false ms = refl
 
-holds_by : (template raw : Bool) (os : List OpenElement) (ms : List Mode) →
+holds_by : (template raw : Bool) (os : List OpenElement) (ms : TemplateModes) →
     (are_modes os ms ≡ true → hold_modes ms ≡ has (of kind.Template) os) →
     modes_by template raw os ms ≡ true →
     hold_modes ms ≡ (template || has (of kind.Template) os)
@@ -103,45 +113,45 @@ holds_by true raw os [] rest h = absurd (false≢true h)
 holds_by true raw os (m ∷ ms) rest h = ap not (eqb-suc-zero (length ms))
 holds_by false raw os ms rest h = rest (and_parts _ _ h).1
 
-reads_by : (template raw : Bool) (os : List OpenElement) (ms : List Mode) →
+reads_by : (template raw : Bool) (os : List OpenElement) (ms : TemplateModes) →
     template ≡ false → raw ≡ false → modes_by template raw os ms ≡ true → reads_body ms ≡ true
 reads_by true raw os ms e k h = absurd (false≢true (sym e))
 reads_by false true os ms e k h = absurd (false≢true (sym k))
 reads_by false false os ms e k h = (and_parts _ _ h).0
 
-read_by : (template raw : Bool) (os : List OpenElement) (ms : List Mode) → template ≡ true →
-    modes_by template raw os ms ≡ true → modes_by template raw os (InBody ∷ drop 1 ms) ≡ true
+read_by : (template raw : Bool) (os : List OpenElement) (ms : TemplateModes) → template ≡ true →
+    modes_by template raw os ms ≡ true → modes_by template raw os (read_modes ms) ≡ true
 read_by true raw os ms e h = (and_parts _ _ h).1
 read_by false raw os ms e h = absurd (false≢true e)
 
-begins_by : (template raw : Bool) (os : List OpenElement) (ms : List Mode) → template ≡ true →
+begins_by : (template raw : Bool) (os : List OpenElement) (ms : TemplateModes) → template ≡ true →
     modes_by template raw os ms ≡ true → begin_well ms ≡ true
 begins_by true raw os ms e h = (and_parts _ _ h).0
 begins_by false raw os ms e h = absurd (false≢true e)
 
 -- an element is opened
-pub modes_opened : (o : OpenElement) (os : List OpenElement) (ms : List Mode) →
+pub modes_opened : (o : OpenElement) (os : List OpenElement) (ms : TemplateModes) →
     are_modes os ms ≡ true → ReadsBody o ms → are_modes (o ∷ os) (modes_in o ms) ≡ true
 modes_opened o os ms h reads = in_by (is_template o) (is_of (of kind.Raw) o) os ms h reads
 
 -- the current node is closed
-pub modes_closed : (o : OpenElement) (os : List OpenElement) (ms : List Mode) →
+pub modes_closed : (o : OpenElement) (os : List OpenElement) (ms : TemplateModes) →
     are_modes (o ∷ os) ms ≡ true → are_modes os (modes_behind o ms) ≡ true
 modes_closed o os ms h = behind_by (is_template o) (is_of (of kind.Raw) o) os ms h
 
-pub modes_back : (o : OpenElement) (ms : List Mode) → modes_behind o (modes_in o ms) ≡ ms
+pub modes_back : (o : OpenElement) (ms : TemplateModes) → modes_behind o (modes_in o ms) ≡ ms
 modes_back o ms = back_by (is_template o) ms
 
 -- texts change nothing of that
 
-pub modes_with_text : (text : List ℕ) (os : List OpenElement) (ms : List Mode) →
+pub modes_with_text : (text : List ℕ) (os : List OpenElement) (ms : TemplateModes) →
     are_modes os ms ≡ true → are_modes (with_last_text text os) ms ≡ true
 modes_with_text text [] ms h = h
 modes_with_text [] (o ∷ os) ms h = h
 modes_with_text (c ∷ cs) (o ∷ os) ms h = h
 
 pub modes_without_text : (text : List ℕ) (o : OpenElement) (os : List OpenElement)
-    (ms : List Mode) → are_modes (with_text text o ∷ os) ms ≡ true → are_modes (o ∷ os) ms ≡ true
+    (ms : TemplateModes) → are_modes (with_text text o ∷ os) ms ≡ true → are_modes (o ∷ os) ms ≡ true
 modes_without_text [] o os ms h = h
 modes_without_text (c ∷ cs) o os ms h = h
 
@@ -152,19 +162,19 @@ has_with_text (c ∷ cs) o os = refl
 
 -- whether a `template` is open, by the open elements
 
-pub modes_there : (os : List OpenElement) (ms : List Mode) → are_modes os ms ≡ true →
+pub modes_there : (os : List OpenElement) (ms : TemplateModes) → are_modes os ms ≡ true →
     hold_modes ms ≡ has (of kind.Template) os
 modes_there [] [] h = refl
 modes_there [] (m ∷ ms) h = absurd (false≢true h)
 modes_there (o ∷ os) ms h =
     holds_by (is_template o) (is_of (of kind.Raw) o) os ms (modes_there os ms) h
 
-pub modes_deeper : (o : OpenElement) (ms : List Mode) →
+pub modes_deeper : (o : OpenElement) (ms : TemplateModes) →
     hold_modes (modes_in o ms) ≡ (is_template o || hold_modes ms)
 modes_deeper o ms = deeper_by (is_template o) ms
 
 -- where the current node is no `template`, the innermost is read as a body
-pub reads_inside : (os : List OpenElement) (ms : List Mode) → are_modes os ms ≡ true →
+pub reads_inside : (os : List OpenElement) (ms : TemplateModes) → are_modes os ms ≡ true →
     is_at (of kind.Template) os ≡ false → is_at (of kind.Raw) os ≡ false → reads_body ms ≡ true
 reads_inside [] [] h e k = refl
 reads_inside [] (m ∷ ms) h e k = absurd (false≢true h)
@@ -172,8 +182,8 @@ reads_inside (o ∷ os) ms h e k =
     reads_by (is_template o) (is_of (of kind.Raw) o) os ms e k h
 
 -- and where it is one, it may be so from now on
-pub modes_read : (os : List OpenElement) (ms : List Mode) → is_at (of kind.Template) os ≡ true →
-    are_modes os ms ≡ true → are_modes os (InBody ∷ drop 1 ms) ≡ true
+pub modes_read : (os : List OpenElement) (ms : TemplateModes) → is_at (of kind.Template) os ≡ true →
+    are_modes os ms ≡ true → are_modes os (read_modes ms) ≡ true
 modes_read [] ms e h = absurd (false≢true e)
 modes_read (o ∷ os) ms e h = read_by (is_template o) (is_of (of kind.Raw) o) os ms e h
 
@@ -222,7 +232,7 @@ mode_holds (o ∷ q ∷ qs) e = decide (is_template o) (or_left (is_template o) 
     (sym (ap (λ b. unwrap_or (if is_html o.space then named_mode o.head.name (q ∷ qs) else None)
     (if b then html_mode o.children else mode (q ∷ qs))) (eqb-suc-zero (length qs))) ∙ e))))
 
-within_body : (m : Mode) (ms : List Mode) → (m ≡ InTemplate → hold_modes ms ≡ true) →
+within_body : (m : Mode) (ms : TemplateModes) → (m ≡ InTemplate → hold_modes ms ≡ true) →
     reads_body ms ≡ true → mode_within m ms frameset.Ignored ≡ read_mode m
 within_body InTemplate [] there reads = absurd (false≢true (there refl))
 within_body InTemplate (InBody ∷ ms) there reads = refl
@@ -238,7 +248,7 @@ body_mode p barred modes reads = ap (mode_within (mode p.stack) p.templates) bar
     ∙ within_body (mode p.stack) p.templates
     (λ e. modes_there p.stack p.templates modes ∙ mode_holds p.stack e) reads
 
-within_template : (ms : List Mode) → begin_well ms ≡ true → reads_body ms ≡ false →
+within_template : (ms : TemplateModes) → begin_well ms ≡ true → reads_body ms ≡ false →
     mode_within InTemplate ms frameset.Ignored ≡ InTemplate
 within_template [] h reads = absurd (false≢true h)
 within_template (InTemplate ∷ ms) h reads = refl
@@ -250,7 +260,7 @@ at_template [] e = absurd (false≢true e)
 at_template (o ∷ os) e =
     let both = and_parts (is_html o.space) _ e in template_mode o os both.0 both.1
 
-begins_at : (os : List OpenElement) (ms : List Mode) → is_at (of kind.Template) os ≡ true →
+begins_at : (os : List OpenElement) (ms : TemplateModes) → is_at (of kind.Template) os ≡ true →
     are_modes os ms ≡ true → begin_well ms ≡ true
 begins_at [] ms e h = absurd (false≢true e)
 begins_at (o ∷ os) ms e h = begins_by (is_template o) (is_of (of kind.Raw) o) os ms e h
@@ -265,13 +275,13 @@ head_mode p barred at modes reads = ap (mode_within (mode p.stack) p.templates) 
 
 -- there is no other mode in a `template`
 
-first_by : (template raw : Bool) (os : List OpenElement) (m : Mode) (ms : List Mode) →
+first_by : (template raw : Bool) (os : List OpenElement) (m : Mode) (ms : TemplateModes) →
     (are_modes os (m ∷ ms) ≡ true → is_template_mode m ≡ true) →
     modes_by template raw os (m ∷ ms) ≡ true → is_template_mode m ≡ true
 first_by true raw os m ms rest h = (and_parts _ _ h).0
 first_by false raw os m ms rest h = rest (and_parts _ _ h).1
 
-first_mode : (os : List OpenElement) (m : Mode) (ms : List Mode) → are_modes os (m ∷ ms) ≡ true →
+first_mode : (os : List OpenElement) (m : Mode) (ms : TemplateModes) → are_modes os (m ∷ ms) ≡ true →
     is_template_mode m ≡ true
 first_mode [] m ms h = absurd (false≢true h)
 first_mode (o ∷ os) m ms h =
@@ -279,7 +289,7 @@ first_mode (o ∷ os) m ms h =
 
 -- what holds of the mode that the open elements tell, and of those of templates, holds of a page's
 within_any : (test : Mode → Bool) → test InTemplate ≡ true → test InBody ≡ true → (m : Mode)
-    (ms : List Mode) → ((n : Mode) (ns : List Mode) → ms ≡ n ∷ ns → is_template_mode n ≡ true) →
+    (ms : TemplateModes) → ((n : Mode) (ns : TemplateModes) → ms ≡ n ∷ ns → is_template_mode n ≡ true) →
     test m ≡ true → test (mode_within m ms frameset.Ignored) ≡ true
 within_any test a b InTemplate [] first h = h
 within_any test a b InTemplate (m ∷ ms) first h = by_first m (first m ms refl) where

@@ -1,5 +1,5 @@
 -- A token that is taken in one turn, or in two.
-use Rattle.std.proofs.Common.{◌≡◌, ◌+◌, suc, Bool, true, false, not, List, [], ◌∷◌, length, refl, ap, ◌∙◌, arith}
+use Rattle.std.proofs.Common.{◌≡◌, ◌+◌, suc, Bool, true, false, not, List, ◌∷◌, length, refl, ap, ◌∙◌, arith}
 use Rattle.std.proofs.lemmas.Bool.{false≢true}
 use Rattle.html_page_stack.specs.{OpenElements.{OpenElement, mode}, Pages.{Page, Token, Finish, Again, Taken}}
 use Rattle.html_page_stack.specs.declared.modes.Mode.{Mode, TheVariants.{AfterHead, InBody, InTemplate}}
