@@ -54,7 +54,8 @@ behind_raw : (tag : StartTag) (place : ℕ) (p : Page) → is_at (of kind.Raw) p
     ≡ raw_at (of kind.DropsFeed tag.name && is_at (of kind.DropsFeed) p.stack) (place + 1) p
 behind_raw tag place p h = rw h refl
 
--- the form behind an element, by whether it is a `template`, one is open around it, and it is a form
+-- the form behind an element, by whether it is a `template`, one is open around it, and it is itself
+-- a form
 form_by : (template inside form : Bool) (start : ℕ) (before : Option ℕ) →
     (template ≡ true → form ≡ false) → (form ≡ true → inside ≡ false → before ≡ None) →
     (if template || inside then (if not inside && form then Some start else before)

@@ -500,6 +500,22 @@ module _ (frames : Frames) (limit : ℕ) (h : Head) (kids : NodesView) (deep : 5
   abbrev root_page : Page
   root_page = begun h [] (started starts.start (typed limit))
 
+  -- the moment behind its start tag
+  abbrev root_moment : Moment
+  root_moment = record {
+    start = starts.start;
+    formats = root_page.formats;
+    templates = root_page.templates;
+  }
+
+  root_order : AreOrdered (begun_element h [] starts.start ∷ []) root_moment
+  root_order =
+      let it = begun_element h [] starts.start in (
+        order_opened it [] [] refl,
+        modes_opened it [] [] refl
+            (or_right (is_template it) _ (or_right (is_of (of kind.Raw) it) _ refl)),
+      )
+
   root_space : space_of reading.AsHtml h.name ≡ nest.Html
   root_space = part_space x 0
 
@@ -549,13 +565,7 @@ module _ (frames : Frames) (limit : ℕ) (h : Head) (kids : NodesView) (deep : 5
       (first_read frames h.pre_span 0 in_root h.name (ap (of kind.Root) low)
       (λ fresh at q. end_emits h.name x.fits.named.0 tag.letter fresh at q) kids true
       (starts.place + 1)
-      (record { start = starts.start; formats = root_page.formats; templates = root_page.templates }) (
-        order_opened (begun_element h [] starts.start) [] [] refl,
-        modes_opened (begun_element h [] starts.start) [] [] refl
-            (or_right (is_template (begun_element h [] starts.start)) _
-            (or_right (is_of (of kind.Raw) (begun_element h [] starts.start)) _ refl)),
-      )
-      complete x.fits.below
+      root_moment root_order complete x.fits.below
       (part_faults x 0))))
 
 pub trees_stay : TreesStay

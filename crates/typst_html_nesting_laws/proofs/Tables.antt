@@ -43,8 +43,8 @@ none_read m h = h
 pub outside_texts : (os : List OpenElement) → is_table_mode (mode os) ≡ false →
     at holds_table_text os ≡ false
 outside_texts [] h = refl
-outside_texts (o ∷ os) h = or_from _ _ (outside_tables (o ∷ os) (none_read _ h)) (false_from_ne_true _ (λ e.
-    let both = and_parts (is_html o.space) _ e in
+outside_texts (o ∷ os) h = or_from _ _ (outside_tables (o ∷ os) (none_read _ h))
+    (false_from_ne_true _ (λ e. let both = and_parts (is_html o.space) _ e in
     both_ways _ h (ap is_table_mode (template_mode o os both.0 both.1))))
 
 -- so in a body

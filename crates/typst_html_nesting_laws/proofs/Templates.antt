@@ -83,8 +83,8 @@ abbrev modes_by : (template raw : Bool) → List OpenElement → TemplateModes �
 modes_by template raw os ms = if template then begin_well ms && are_modes os (drop 1 ms)
     else (raw || reads_body ms) && are_modes os ms
 
-in_by : (template raw : Bool) (os : List OpenElement) (ms : TemplateModes) → are_modes os ms ≡ true →
-    (template || (raw || reads_body ms)) ≡ true →
+in_by : (template raw : Bool) (os : List OpenElement) (ms : TemplateModes) →
+    are_modes os ms ≡ true → (template || (raw || reads_body ms)) ≡ true →
     modes_by template raw os (modes_if template ms) ≡ true
 in_by true raw os ms h reads = h
 in_by false raw os ms h reads = and_from _ _ reads h
@@ -151,7 +151,8 @@ modes_with_text [] (o ∷ os) ms h = h
 modes_with_text (c ∷ cs) (o ∷ os) ms h = h
 
 pub modes_without_text : (text : List ℕ) (o : OpenElement) (os : List OpenElement)
-    (ms : TemplateModes) → are_modes (with_text text o ∷ os) ms ≡ true → are_modes (o ∷ os) ms ≡ true
+    (ms : TemplateModes) → are_modes (with_text text o ∷ os) ms ≡ true →
+    are_modes (o ∷ os) ms ≡ true
 modes_without_text [] o os ms h = h
 modes_without_text (c ∷ cs) o os ms h = h
 
@@ -281,16 +282,16 @@ first_by : (template raw : Bool) (os : List OpenElement) (m : Mode) (ms : Templa
 first_by true raw os m ms rest h = (and_parts _ _ h).0
 first_by false raw os m ms rest h = rest (and_parts _ _ h).1
 
-first_mode : (os : List OpenElement) (m : Mode) (ms : TemplateModes) → are_modes os (m ∷ ms) ≡ true →
-    is_template_mode m ≡ true
+first_mode : (os : List OpenElement) (m : Mode) (ms : TemplateModes) →
+    are_modes os (m ∷ ms) ≡ true → is_template_mode m ≡ true
 first_mode [] m ms h = absurd (false≢true h)
 first_mode (o ∷ os) m ms h =
     first_by (is_template o) (is_of (of kind.Raw) o) os m ms (first_mode os m ms) h
 
 -- what holds of the mode that the open elements tell, and of those of templates, holds of a page's
 within_any : (test : Mode → Bool) → test InTemplate ≡ true → test InBody ≡ true → (m : Mode)
-    (ms : TemplateModes) → ((n : Mode) (ns : TemplateModes) → ms ≡ n ∷ ns → is_template_mode n ≡ true) →
-    test m ≡ true → test (mode_within m ms frameset.Ignored) ≡ true
+    (ms : TemplateModes) → ((n : Mode) (ns : TemplateModes) → ms ≡ n ∷ ns →
+    is_template_mode n ≡ true) → test m ≡ true → test (mode_within m ms frameset.Ignored) ≡ true
 within_any test a b InTemplate [] first h = h
 within_any test a b InTemplate (m ∷ ms) first h = by_first m (first m ms refl) where
   by_first : (m : Mode) → is_template_mode m ≡ true → test m ≡ true
