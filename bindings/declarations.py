@@ -54,7 +54,7 @@ CHANGES = [
     ("library", '("status", ctypes.c_uint8)', '("state", ctypes.c_uint8)', "reply"),
     ("library", "VERSION: Final = 8", "VERSION: Final = 9", "version"),
     ("refusal", "tag name must not be empty", "tag name is empty", "words"),
-    ("spoken", "a token finds no place", "a token has no place", "words"),
+    ("spoken", "too many elements are made again", "too many elements are made anew", "words"),
     ("header", "a void element has a child", "a void element has children", "words"),
     ("source", "UNKNOWN_LABEL: u8 = 25", "UNKNOWN_LABEL: u8 = 26", "names"),
     ("faults", "ExportFault::RawChild { .. } => 13", "ExportFault::RawChild { .. } => 14", "names"),

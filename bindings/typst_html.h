@@ -86,7 +86,6 @@ enum typst_html_refusal {
     TYPST_HTML_REFUSAL_FRAME_REFUSED = 15,
     TYPST_HTML_REFUSAL_UNKNOWN_LABEL = 25,
     TYPST_HTML_REFUSAL_TOO_MANY_ATTRIBUTES = 28,
-    TYPST_HTML_REFUSAL_UNSETTLED = 39,
     TYPST_HTML_REFUSAL_TOO_MANY_COPIES = 40,
 };
 
@@ -127,8 +126,6 @@ static inline const char *typst_html_words(uint8_t number) {
         return "the page names an encoding that is not known";
     case TYPST_HTML_REFUSAL_TOO_MANY_ATTRIBUTES:
         return "an element has too many attributes";
-    case TYPST_HTML_REFUSAL_UNSETTLED:
-        return "a token finds no place";
     case TYPST_HTML_REFUSAL_TOO_MANY_COPIES:
         return "too many elements are made again";
     default:

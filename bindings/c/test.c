@@ -384,7 +384,7 @@ static void strings_end_with_nul(void) {
 /* Each number has words of its own, and what is none has others. */
 static void refusals_have_words(void) {
     for (unsigned number = 0; number < 256; number++) {
-        bool is_one = (number >= 1 && number <= 15) || number == 25 || number == 28 || number == 39 || number == 40;
+        bool is_one = (number >= 1 && number <= 15) || number == 25 || number == 28 || number == 40;
         expect("the words of a number", is_one == !!strcmp(typst_html_words(number), "refused"));
         for (unsigned other = 0; is_one && other < number; other++)
             expect("words of their own", strcmp(typst_html_words(number), typst_html_words(other)));

@@ -23,7 +23,6 @@ WORDS: Final[Mapping[int, str]] = MappingProxyType({
     15: "a frame is refused",
     25: "the page names an encoding that is not known",
     28: "an element has too many attributes",
-    39: "a token finds no place",
     40: "too many elements are made again",
 })
 """The words for what is wrong, by the number of the refusal. A page that is checked has refusals 8 and from 25 on."""

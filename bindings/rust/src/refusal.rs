@@ -246,7 +246,6 @@ fn words(number: &u8) -> &'static str {
         15 => "a frame is refused",
         25 => "the page names an encoding that is not known",
         28 => "an element has too many attributes",
-        39 => "a token finds no place",
         40 => "too many elements are made again",
         _ => "refused",
     }

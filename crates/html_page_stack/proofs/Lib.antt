@@ -13,3 +13,4 @@ pub mod Roots
 pub mod Stacks
 pub mod Templates
 pub mod Uncovering
+pub mod Unmade

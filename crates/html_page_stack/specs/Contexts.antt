@@ -27,11 +27,11 @@ abbrev pub brought_mode : List OpenElement → Option Mode
 brought_mode [] = None
 brought_mode (o ∷ os) = some_or (own_mode o os) (brought_mode os)
 
--- the mode if no element sets one: it depends on the root only
+-- the mode if no element sets one
 abbrev pub root_mode : List OpenElement → Mode
 root_mode [] = BeforeHtml
 root_mode (o ∷ []) = html_mode o.children
-root_mode (o ∷ p ∷ ps) = root_mode (p ∷ ps)
+root_mode (o ∷ p ∷ ps) = AfterHead
 
 abbrev pub context : List OpenElement → Context
 context os = record {

@@ -14,3 +14,4 @@ pub mod OpenElements
 pub mod PageRefusals
 pub mod PageViews
 pub mod Pages
+pub mod UnmadeNames

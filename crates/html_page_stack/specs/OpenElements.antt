@@ -173,11 +173,16 @@ hold_named test (node n ns) = hold_named test ns
 abbrev pub html_mode : NodesView → Mode
 html_mode children = if has_elements children then AfterHead else BeforeHead
 
+-- the mode in an element that sets none, given that around it: the head is never before it
+abbrev pub mode_inside : Mode → Mode
+mode_inside BeforeHead = AfterHead
+mode_inside m = m
+
 -- the insertion mode (13.2.4.1, "reset the insertion mode appropriately")
 abbrev pub mode : List OpenElement → Mode
 mode [] = BeforeHtml
 mode (o ∷ os) = unwrap_or (if is_html o.space then named_mode o.head.name os else None)
-    (if length os == 0 then html_mode o.children else mode os)
+    (if length os == 0 then html_mode o.children else mode_inside (mode os))
 
 abbrev pub is_text : NodeView → Bool
 is_text (text_node text span) = true
@@ -359,7 +364,7 @@ root_alone [] = []
 root_alone (o ∷ []) = o ∷ []
 root_alone (o ∷ p ∷ ps) = root_alone (p ∷ ps)
 
--- whether there is a `template` in an element among the nodes
+-- whether an element among the nodes holds a `template`
 abbrev pub hold_template : NodesView → Bool
 hold_template none = false
 hold_template (node (element_node h children) ns) =

@@ -7,5 +7,4 @@ use Rattle.html_page_stack.specs.declared.fault.PageRefusal.TheVariants as refus
 abbrev pub refusal_number : PageRefusal → ℕ
 refusal_number refusal.TooDeep = 8
 refusal_number refusal.TooManyAttributes = 28
-refusal_number refusal.Unsettled = 39
 refusal_number refusal.TooManyCopies = 40

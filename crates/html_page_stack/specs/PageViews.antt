@@ -37,6 +37,7 @@ page_of p = record {
   copied = p.copied;
   form = option_map (λ span. span.0) p.form;
   templates = reverse p.templates.items;
+  unmade = reverse p.unmade.items;
   tables = p.tables;
   framesets = p.framesets;
   limit = p.limit;

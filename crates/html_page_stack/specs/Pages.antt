@@ -5,16 +5,16 @@ use Rattle.html_dom_tree.specs.Tree.{TextPair, Head, none}
 use Rattle.html_page_stack.specs.Copies.{copy_size, spare_at}
 use Rattle.html_page_stack.specs.Formats.{Format, Formats, after_current, before_closed, closed_entries, ends_closed, entered}
 use Rattle.html_page_stack.specs.OpenElements.{OpenElement, at, attr_count_at, before_table, with_attrs_at, is_of, is_at, is_table_context, in_scope, removed, uncovered, with_last_text, with_text, without_current}
-use Rattle.html_page_names.specs.PageNames.{of}
+use Rattle.html_page_names.specs.PageNames.{is, of}
 use Rattle.html_page_names.specs.declared.kind.Kind.TheVariants as kind
 use Rattle.html_page_stack.specs.declared.error.PageError.{PageError}
 use Rattle.html_page_stack.specs.declared.error.PageError.TheVariants as error
 use Rattle.html_page_stack.specs.declared.fault.PageRefusal.{PageRefusal}
 use Rattle.html_page_stack.specs.declared.fault.PageRefusal.TheVariants as refusal
 use Rattle.html_page_stack.specs.declared.modes.{Destination.{Destination}, Destination.TheVariants.{Parent, Replaced, BeforeTable, ReplacedBeforeTable}, Scope.{Scope}}
-use Rattle.html_page_stack.specs.declared.modes.{FramesetRule.{FramesetRule}, Mode.{Mode}, Space.{Space}, TableRule.{TableRule}, Space.TheVariants.{Html}}
+use Rattle.html_page_stack.specs.declared.modes.{FramesetRule.{FramesetRule}, Space.{Space}, TableRule.{TableRule}, Space.TheVariants.{Html}}
 use Rattle.html_page_stack.specs.declared.modes.FramesetRule.TheVariants as frameset
-use Rattle.html_page_stack.specs.declared.modes.Mode.TheVariants.{InTemplate}
+use Rattle.html_page_stack.specs.declared.modes.TemplateMode.{TemplateMode, TheVariants.{Unset}}
 use Rattle.html_page_stack.specs.declared.modes.TableRule.TheVariants as rule
 
 -- the errors that the reader recovered from: their number (at most that of 32 bits), and the first
@@ -43,7 +43,10 @@ pub record Page : Type 0 where
   -- the span of the `form` that was begun last, unless its end tag ended it (13.2.4.4)
   pub form : Option ℕ
   -- the modes of the open `template` elements, innermost first (13.2.4.1)
-  pub templates : List Mode
+  pub templates : List TemplateMode
+  -- the names of the elements that were too deep to be made, and whose end tags are to come, the last
+  -- first; they are open as long as the deepest open element is
+  pub unmade : List (List ℕ)
   pub tables : TableRule
   pub framesets : FramesetRule
   -- the greatest depth of elements
@@ -64,6 +67,7 @@ first_page limit = record {
   copied = 0;
   form = None;
   templates = [];
+  unmade = [];
   tables = rule.Unseen;
   framesets = frameset.Ignored;
   limit = limit;
@@ -130,6 +134,7 @@ with_element o p = record p {
   stack = o ∷ p.stack;
   formats = entered o (length p.stack) p.formats;
   form = if not (has_template p) && is_of (of kind.Form) o then Some o.head.span else p.form;
+  unmade = [];
 }
 
 -- the head of an element that a tag makes; its span is the offset in bytes of the token that opens
@@ -158,9 +163,13 @@ made destination space name attrs start = record {
 abbrev pub is_full : Page → Bool
 is_full p = nat_le p.limit (length p.stack)
 
+-- refuses the page for an element that is too deep, and passes its start tag over
+abbrev pub not_made : (name : List ℕ) → Page → Page
+not_made name p = refused refusal.TooDeep (record p { unmade = name ∷ p.unmade })
+
 -- opens an element, unless it is too deep (13.2.6.1)
 abbrev pub opened_to : Destination → Space → (name : List ℕ) → List TextPair → Page → Page
-opened_to destination space name attrs p = if is_full p then refused refusal.TooDeep p
+opened_to destination space name attrs p = if is_full p then not_made name p
     else with_element (made destination space name attrs p.start) (settled p)
 
 -- where an element of that name stands: names that begin with `-` stand for those that no element
@@ -189,6 +198,23 @@ opened = opened_in Html
 abbrev pub opened_here : (name : List ℕ) → List TextPair → Page → Page
 opened_here name attrs p = opened_to (destination_of name) Html name attrs p
 
+-- whether an element was too deep to be made, and its end tag is to come
+abbrev pub has_unmade : Page → Bool
+has_unmade p = not (length p.unmade == 0)
+
+-- the names behind the first that is this one, among so many
+abbrev pub names_behind : (names : List (List ℕ)) (among : ℕ) (name : List ℕ) →
+    Option (List (List ℕ))
+names_behind [] among name = None
+names_behind (n ∷ ns) zero name = None
+names_behind (n ∷ ns) (suc among) name =
+    if is name n then Some ns else names_behind ns among name
+
+-- the names whose end tags are to come behind that of such an element: it is the last of that name
+-- that was not made, among as many as may be open
+abbrev pub passed_end : (name : List ℕ) → Page → Option (List (List ℕ))
+passed_end name p = names_behind p.unmade (if is_full p then p.limit else 0) name
+
 -- the greatest number of attributes of an element
 abbrev pub most_attrs : ℕ
 most_attrs = 256
@@ -207,15 +233,15 @@ abbrev pub form_after : (own : Bool) → List OpenElement → Option ℕ → Opt
 form_after own os form = if is_at (of kind.Form) os && own then None else form
 
 -- the same in a page, where forms in templates do not count
-abbrev pub form_left : (own : Bool) → Page → Option ℕ
-form_left own p = if has_template p then p.form else form_after own p.stack p.form
+abbrev pub form_behind : (own : Bool) → Page → Option ℕ
+form_behind own p = if has_template p then p.form else form_after own p.stack p.form
 
 -- closes the current node, whose text is already a child of it, by its own end tag or another
 abbrev pub settled_closed : (own : Bool) → Page → Page
 settled_closed own p = record p {
   stack = uncovered (without_current p.stack);
   formats = after_current own p.stack p.formats;
-  form = form_left own p;
+  form = form_behind own p;
 }
 
 abbrev pub closed : (own : Bool) → Page → Page
@@ -272,7 +298,7 @@ template_closed p = let q = closed_to (of kind.Template) p in
 abbrev pub template_opened : Destination → List TextPair → Page → Page
 template_opened destination attrs p = let q = opened_to destination Html (codes "template") attrs p in
     if is_full p then q
-    else record q { templates = InTemplate ∷ q.templates; framesets = frameset.Ignored }
+    else record q { templates = Unset ∷ q.templates; framesets = frameset.Ignored }
 
 -- closes the nearest element of HTML whose name passes `test`; records an error unless the current
 -- node is the named one
@@ -295,6 +321,7 @@ reopened f p = record p {
   stack = made (body_destination Parent p.stack) Html f.name f.attrs f.span ∷ p.stack;
   formats = Some (record f { index = length p.stack }) ∷ p.formats;
   copied = p.copied + copy_size f;
+  unmade = [];
 }
 
 -- refuses the page, and leaves the entry as it is

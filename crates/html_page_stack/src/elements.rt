@@ -208,6 +208,7 @@ pub(crate) fn root_mode(elements: &[PageElement]) -> Mode
 {
     match elements {
         [] => Mode::BeforeHtml,
-        [root, ..] => html_mode(root),
+        [root] => html_mode(root),
+        _ => Mode::AfterHead,
     }
 }

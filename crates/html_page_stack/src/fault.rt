@@ -15,9 +15,6 @@ pub enum PageRefusal {
     /// are more.
     #[error("an element has too many attributes")]
     TooManyAttributes,
-    /// A token went from one insertion mode to another more often than in any known page.
-    #[error("a token finds no place")]
-    Unsettled,
     /// Formatting elements would be made again so often that their tags take more than sixteen times
     /// the bytes before the token and 64 kB.
     #[error("too many elements are made again")]
@@ -33,7 +30,6 @@ impl PageRefusal {
         match self {
             PageRefusal::TooDeep => 8,
             PageRefusal::TooManyAttributes => 28,
-            PageRefusal::Unsettled => 39,
             PageRefusal::TooManyCopies => 40,
         }
     }

@@ -23,7 +23,7 @@ pub use element::PageElement;
 pub use error::PageError;
 pub use fault::PageRefusal;
 pub use formats::{Entry, Format, Formats};
-pub use modes::{Destination, FramesetRule, Mode, Scope, Space, TableRule};
+pub use modes::{Destination, FramesetRule, Mode, Scope, Space, TableRule, TemplateMode};
 pub use notes::Notes;
 pub use page::Page;
 pub use search::{Bound, Goal, Target, While};

@@ -57,6 +57,19 @@ pub enum Mode {
     AfterFrameset,
 }
 
+/// How the content of an open `template` is read, which the first start tag in it decides that begins
+/// no content of the head (HTML Standard 13.2.6.4.18).
+#[derive(Clone, Copy, Debug, PartialEq, Eq)]
+pub enum TemplateMode {
+    /// There was none yet.
+    Unset,
+    Body,
+    Table,
+    Columns,
+    Section,
+    Row,
+}
+
 /// What a table does to an open `p`, which depends on the document type.
 #[derive(Clone, Copy, Debug, PartialEq, Eq)]
 pub enum TableRule {

@@ -8,7 +8,7 @@ ghost use Rattle.html_page_stack.specs.Adoption.{adopted_from, adoption, entries
 ghost use Rattle.html_page_stack.specs.{Copies.{copy_size, spare_at}, Endings.{Finishes}, Formats.{after_current}, OpenElements.{in_scope, root_alone}};
 ghost use Rattle.html_page_stack.specs.PageViews.{element_of, format_of, goal_test, page_of, target_test, while_test};
 ghost use Rattle.html_page_stack.specs.Pages as pages;
-ghost use Rattle.html_page_stack.specs.Pages.{most_attrs};
+ghost use Rattle.html_page_stack.specs.{Pages.{most_attrs}, UnmadeNames.{IsLastNamed, PassesEnd}};
 
 use crate::adoption::Adoption;
 use crate::before_table::Moved;
@@ -16,7 +16,7 @@ use crate::element::PageElement;
 use crate::error::PageError;
 use crate::fault::PageRefusal;
 use crate::formats::{Entry, Format, Formats, copies_size};
-use crate::modes::{Destination, FramesetRule, Mode, Scope, Space, TableRule};
+use crate::modes::{Destination, FramesetRule, Scope, Space, TableRule, TemplateMode};
 use crate::notes::Notes;
 use crate::search::{Bound, Goal, Target, While};
 use crate::stack::Stack;
@@ -52,6 +52,25 @@ fn destination_of(tag: &HtmlTag) -> Destination
     }
 }
 
+/// Returns the index of the last of the names that is the given one, among so many of the last.
+fn last_named(names: &[HtmlTag], among: usize, name: &HtmlTag) -> Option<usize>
+    ensures { IsLastNamed result names.now among name.now }
+{
+    let mut outer = names;
+    let mut left = among;
+    while let Some((last, before)) = outer.split_last() {
+        if left == 0 {
+            return None;
+        }
+        if *last == *name {
+            return Some(before.len());
+        }
+        outer = before;
+        left -= 1;
+    }
+    None
+}
+
 /// A page that is being read.
 #[derive(Drop)]
 pub struct Page {
@@ -71,7 +90,10 @@ pub struct Page {
     /// 13.2.4.4).
     pub form: Option<Span>,
     /// The modes of the open `template` elements, outermost first (HTML Standard 13.2.4.1).
-    pub templates: Vec<Mode>,
+    pub templates: Vec<TemplateMode>,
+    /// The names of the elements that were too deep to be made, and whose end tags are to come, the
+    /// last one last.
+    pub(crate) unmade: Vec<HtmlTag>,
     /// What a table does to an open `p`.
     pub tables: TableRule,
     /// What a `frameset` does.
@@ -100,6 +122,7 @@ impl Page {
             copied: 0,
             form: None,
             templates: Vec::new(alloc),
+            unmade: Vec::new(alloc),
             tables: TableRule::Unseen,
             framesets: FramesetRule::Ignored,
             limit,
@@ -205,6 +228,7 @@ impl Page {
         if !self.has_template() && element.is(Kind::Form) {
             self.form = Some(element.element.span);
         }
+        self.unmade.clear();
         self.stack.push(element)?;
         Ok(())
     }
@@ -227,11 +251,43 @@ impl Page {
         self.push(PageElement::new(self.alloc, destination, space, tag, kinds, attrs, span))
     }
 
+    /// Returns whether an element was too deep to be made, and its end tag is to come.
+    pub fn has_unmade(&self) -> bool
+        ensures { result ≡ pages.has_unmade (page_of self.now) }
+    {
+        !self.unmade.is_empty()
+    }
+
+    /// Passes the end tag of an element over that was too deep to be made, and reports whether it is
+    /// one: that of the last of that name, among as many as may be open.
+    pub fn pass_end(&mut self, tag: &HtmlTag) -> bool
+        ensures { PassesEnd result tag.now (page_of self.old) (page_of self.new) }
+    {
+        let most = if self.is_full() { self.limit } else { 0 };
+        match last_named(self.unmade.as_slice(), most, tag) {
+            None => false,
+            Some(index) => {
+                self.unmade.truncate(index);
+                true
+            }
+        }
+    }
+
     /// Returns whether an element in the current node would be too deep.
-    fn is_full(&self) -> bool
+    pub fn is_full(&self) -> bool
         ensures { result ≡ pages.is_full (page_of self.now) }
     {
         self.limit <= self.stack.len()
+    }
+
+    /// Refuses the page for an element that would be too deep, and passes its start tag over.
+    #[tactic(auto, using(crate::proofs::Unmade::added_last))]
+    pub fn pass_start(&mut self, tag: HtmlTag) -> Result<(), AllocError>
+        ensures { OnOk result (page_of self.new ≡ pages.not_made tag (page_of self.old)) }
+    {
+        self.refuse(PageRefusal::TooDeep);
+        self.unmade.push(tag)?;
+        Ok(())
     }
 
     /// Opens an element, unless it would be too deep: then the page is refused (HTML Standard
@@ -249,8 +305,7 @@ impl Page {
             ≡ pages.opened_to destination space tag (attrs_view attrs) (page_of self.old)) }
     {
         if self.is_full() {
-            self.refuse(PageRefusal::TooDeep);
-            return Ok(());
+            return self.pass_start(tag);
         }
         self.open_new(destination, space, tag, kinds, attrs)
     }
@@ -276,7 +331,8 @@ impl Page {
         self.close(true)
     }
 
-    /// Opens an element where its name and the rules of a body say, unless it would be too deep: then the page is refused.
+    /// Opens an element where its name and the rules of a body say, unless it would be too deep: then
+    /// the page is refused.
     pub fn open_in(
         &mut self,
         space: Space,
@@ -369,7 +425,7 @@ impl Page {
     /// templates.
     fn leave_form(&mut self, own: bool)
         ensures { page_of self.new ≡ (let p = page_of self.old in
-            record p { form = pages.form_left own p }) }
+            record p { form = pages.form_behind own p }) }
     {
         if self.has_template() {
             return;
@@ -465,7 +521,7 @@ impl Page {
         if is_full {
             return Ok(());
         }
-        self.templates.push(Mode::InTemplate)?;
+        self.templates.push(TemplateMode::Unset)?;
         self.framesets = FramesetRule::Ignored;
         Ok(())
     }
@@ -564,6 +620,7 @@ impl Page {
     {
         self.settle()?;
         self.copied += size;
+        self.unmade.clear();
         let element = format.element(self.alloc)?;
         let index = self.stack.len();
         self.stack.insert(element)?;

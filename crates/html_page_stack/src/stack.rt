@@ -51,7 +51,7 @@ impl Stack {
         }
     }
 
-    pub(crate) fn len(&self) -> usize
+    pub fn len(&self) -> usize
         ensures { result ≡ length (stack_of self.now) }
     {
         self.items.len()

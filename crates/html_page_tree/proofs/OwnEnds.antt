@@ -1,5 +1,6 @@
 -- Where a page takes the end tag of the current node's name, the tag closes it.
 use Rattle.std.proofs.Common.{◌≡◌, arith, ℕ, Bool, true, false, not, ◌&&◌, ◌||◌, ◌==◌, List, [], ◌∷◌, length, inl, inr, refl, sym, ap, subst, ◌∙◌}
+use Rattle.std.proofs.Math.Dec.{eqb-suc-zero}
 use Rattle.std.proofs.lemmas.Bool.{and_from, and_parts, and_right, cases_Bool, eqb-true, false≢true, le-leb, not-true, or_left, or_parts}
 use Rattle.std.proofs.lemmas.{Option.{none-some, same_Some}, Slice.Eq.{bytes_eq-Decides}}
 use Rattle.std.specs.{Option.{option_or}, Prelude.{Some, None, codes, if◌then◌else◌}}
@@ -8,7 +9,7 @@ use Rattle.html_page_names.specs.declared.kind.Kind.TheVariants as kind
 use Rattle.html_page_stack.specs.Adoption.{furthest_block}
 use Rattle.html_page_stack.specs.Formats.{Format, Formats, ends_with, is_entry_of, is_last, is_listed, is_named, is_open, last_entry}
 use Rattle.html_page_stack.specs.OpenElements.{OpenElement, at, bounds, current_name, in_scope, is_at, is_html, is_of, is_opened, is_special, mode, reaches}
-use Rattle.html_page_stack.specs.Pages.{Page, End, Taken, added_in, closed, closed_in, closed_named, closed_over, closed_to, closed_to_goal, closed_while, implied_closed, no_name, noted, noted_if, taken_with}
+use Rattle.html_page_stack.specs.Pages.{Page, End, Taken, added_in, closed, closed_in, closed_named, closed_over, closed_to, closed_to_goal, closed_while, has_unmade, implied_closed, is_full, names_behind, passed_end, no_name, noted, noted_if, taken_with}
 use Rattle.html_page_stack.specs.declared.error.PageError.TheVariants as error
 use Rattle.html_page_stack.specs.declared.modes.Space.TheVariants.{Html}
 use Rattle.html_page_stack.specs.declared.modes.{Mode.{Mode}, Scope.{Scope}, Mode.TheVariants.{InBody, InTable, InSection, InRow, InCell}}
@@ -17,6 +18,15 @@ use Rattle.html_page_tree.proofs.Branches.{either, pick, skip}
 use Rattle.html_page_tree.specs.OwnEnds.{closes_in, closes_in_body, closes_in_cell, is_of_table, takes_own_end}
 use Rattle.html_page_tree.specs.PageBodies.{Agency, Settled, adopted, agency, agency_run, behind_agency, element_ended, format_closed, format_ended, format_removed, format_taken, in_body_end, other_closed, p_closed, p_ended}
 use Rattle.html_page_tree.specs.PageTrees.{by_mode, cleared_to, in_cell, current_part_closed, in_foreign, is_unseen, mode_within, page_mode, part_closed, processed, token_read, turn}
+
+-- where each element was made, no end tag is passed over
+pub none_passed : (n : List ℕ) (p : Page) → not (has_unmade p) ≡ true → passed_end n p ≡ None
+none_passed n p h = by_names p.unmade h where
+  by_names : (names : List (List ℕ)) → not (not (length names == 0)) ≡ true →
+      names_behind names (if is_full p then p.limit else 0) n ≡ None
+  by_names [] h = refl
+  by_names (m ∷ ms) h =
+      absurd (false≢true (sym (ap (λ b. not (not b)) (eqb-suc-zero (length ms))) ∙ h))
 
 -- the last entry is one that passes the test
 record EndsWith (test : Format → Bool) (fs : Formats) : Type 0 where
@@ -247,10 +257,11 @@ module _ (p : Page) (o : OpenElement) (os : List OpenElement) (html : is_html o.
       let seen = and_parts (not (is_unseen p.tables)) _ h in
       let kept = and_parts (is_at (closes_in (mode q.stack)) q.stack) _ seen.1 in
       let closes_itself = (and_parts (is_html o.space) _ kept.0).1 in
+      let free = and_parts (not (has_unmade p)) _ kept.1 in
       let turned : turn (End n) q ≡ Taken (closed true q) =
       ap (λ b. if not b then in_foreign (End n) q else by_mode (page_mode q) (End n) q) html
-      ∙ end_in_mode (mode q.stack) closes_itself kept.1 in
-      rw (seen.0, turned) refl
+      ∙ end_in_mode (mode q.stack) closes_itself free.1 in
+      rw (seen.0, none_passed n q free.0, turned) refl
 
 is_html_at : (o : OpenElement) (os : List OpenElement) (p : Page) →
     takes_own_end (record p { stack = o ∷ os }) ≡ true → is_html o.space ≡ true

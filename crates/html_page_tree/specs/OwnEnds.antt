@@ -2,7 +2,7 @@
 use Rattle.std.specs.Prelude.{ℕ, Bool, false, not, ◌&&◌, ◌||◌, List, if◌then◌else◌}
 use Rattle.html_page_names.specs.PageNames.{of}
 use Rattle.html_page_names.specs.declared.kind.Kind.TheVariants as kind
-use Rattle.html_page_stack.specs.{Formats.{is_last}, OpenElements.{is_at, mode}, Pages.{Page}, declared.modes.Mode.{Mode}}
+use Rattle.html_page_stack.specs.{Formats.{is_last}, OpenElements.{is_at, mode}, Pages.{Page, has_unmade}, declared.modes.Mode.{Mode}}
 use Rattle.html_page_stack.specs.declared.modes.Mode.TheVariants.{InBody, InTable, InSection, InRow, InCell}
 use Rattle.html_page_tree.specs.PageTrees.{is_unseen}
 
@@ -30,4 +30,5 @@ closes_in m = λ name. false
 
 unfoldable pub takes_own_end : Page → Bool
 takes_own_end p = not (is_unseen p.tables) && (is_at (closes_in (mode p.stack)) p.stack
-    && (not (is_at (of kind.Formatting) p.stack) || is_last p.stack p.formats))
+    && (not (has_unmade p)
+    && (not (is_at (of kind.Formatting) p.stack) || is_last p.stack p.formats)))

@@ -1,14 +1,15 @@
 -- The steps of a token in a body (HTML Standard 13.2.6.4.7), and before it (13.2.6.4.2 to
 -- 13.2.6.4.6).
-use Rattle.std.specs.Prelude.{ℕ, zero, suc, Bool, true, false, not, ◌&&◌, ◌||◌, ◌==◌, List, [], length, if◌then◌else◌, codes, map, Option, Some, None, is_some, option_map}
+use Rattle.std.specs.Prelude.{ℕ, zero, suc, Bool, true, false, not, ◌&&◌, ◌||◌, ◌==◌, nat_lt, List, [], length, if◌then◌else◌, codes, map, Option, Some, None, is_some, option_map}
 use Rattle.html_names_core.specs.Names.{listed_names, stands_in}
 use Rattle.html_dom_tree.specs.{Attributes.{first}, Tree.{TextPair}}
 use Rattle.html_page_names.specs.{ForeignNames.{lowered, svg_names, svg_attrs, math_attrs, with_capitals}, PageNames.{is, of}}
 use Rattle.html_page_stack.specs.Adoption.{adopted_from, furthest_block}
 use Rattle.html_page_stack.specs.Formats.{Format, has_value, is_listed, is_named, is_open, is_same, last_entry, without_entry}
 use Rattle.html_page_stack.specs.OpenElements.{OpenElement, at, bounds, hold_template, is_at, is_opened, in_scope, is_near, reaches, has_item, root_alone}
-use Rattle.html_page_stack.specs.Pages.{Page, StartTag, Token, Char, Start, End, Finish, has_template, merged, noted, noted_if, template_closed, template_opened, thoroughly_closed, with_char, added_in, body_destination, added_to, opened, opened_in, opened_to, closed, closed_around, closed_to, closed_to_goal, implied_closed, no_name, closed_over, closed_in, reconstructed, Turn, Taken, Again, taken_with}
+use Rattle.html_page_stack.specs.Pages.{Page, StartTag, Token, Char, Start, End, Finish, has_template, is_full, merged, not_made, noted, noted_if, refused, template_closed, template_opened, thoroughly_closed, with_char, added_in, body_destination, added_to, opened, opened_in, opened_to, closed, closed_around, closed_to, closed_to_goal, implied_closed, no_name, closed_over, closed_in, reconstructed, Turn, Taken, Again, taken_with}
 use Rattle.html_page_stack.specs.declared.error.PageError.TheVariants as error
+use Rattle.html_page_stack.specs.declared.fault.PageRefusal.TheVariants as refusal
 use Rattle.html_page_names.specs.declared.kind.Kind.{Kind}
 use Rattle.html_page_names.specs.declared.kind.Kind.TheVariants as kind
 use Rattle.html_page_stack.specs.declared.modes.Scope.TheVariants as scope
@@ -324,27 +325,35 @@ in_body_end name p = if of kind.Root name then Taken p
 abbrev pub char_in_body : ℕ → Page → Page
 char_in_body c p = if c == 0 then p else with_char c (barred_by_char c (reconstructed p))
 
--- handles the end of the page, at which each `template` ends (13.2.6.4.18)
-abbrev pub body_finished : Page → Turn
-body_finished p = if has_template p then Again (template_closed p) Finish else Taken p
-
 abbrev pub in_body : Token → Page → Turn
 in_body (Char c) p = Taken (char_in_body c p)
 in_body (Start tag) p = in_body_start tag p
 in_body (End name) p = in_body_end name p
-in_body Finish p = body_finished p
+in_body Finish p = Taken p
 
 -- whether an end tag of that name begins a body, as start tags do (13.2.6.4.6)
 abbrev pub opens_body : List ℕ → Bool
 opens_body name = of kind.Root name || of kind.Br name
 
+-- passes a token over before which an element had to be made that is too deep: a character stands in
+-- the deepest open element
+abbrev pub passed : Token → Page → Page
+passed (Char c) p = with_char c (refused refusal.TooDeep p)
+passed (Start tag) p = not_made tag.name p
+passed token p = refused refusal.TooDeep p
+
 -- opens an element before the token
 abbrev pub implied : (name : List ℕ) → Token → Page → Turn
-implied name token p = Again (opened name [] p) token
+implied name token p = if is_full p then Taken (passed token p) else Again (opened name [] p) token
+
+-- processes the token again behind an element that it closed, given how many were open; the root
+-- stays open, and behind that the token is taken
+abbrev pub resumed : Token → (count : ℕ) → Page → Turn
+resumed token count p = if nat_lt (length p.stack) count then Again p token else Taken p
 
 -- closes the current node before the token
 abbrev pub left : Token → Page → Turn
-left token p = Again (closed true p) token
+left token p = resumed token (length p.stack) (closed true p)
 
 -- handles a token before `html` or before `head`, which the token begins or implies
 abbrev pub before : (name : List ℕ) → Token → Page → Turn
@@ -384,7 +393,7 @@ in_head_noscript (End name) p = if of kind.Noscript name then Taken (closed true
     else taken_with error.EndTagWithoutStart p)
 in_head_noscript Finish p = noscript_left Finish p
 
--- what a `frameset` does in a body that no tag begins
+-- what a `frameset` does in a body that no tag begins: a `template` in the head has barred it
 abbrev pub frameset_rule : List OpenElement → FramesetRule
 frameset_rule os =
     if at (λ o. hold_template o.children) os then frameset.Ignored else frameset.ReplacesBody

@@ -1,15 +1,15 @@
 -- The steps of a token in a table (HTML Standard 13.2.6.4.9 to 13.2.6.4.15), in SVG and MathML
 -- (13.2.6.5), and in a page (13.2.6).
-use Rattle.std.specs.{List.{list_any}, Prelude.{ℕ, zero, suc, Bool, true, false, not, ◌&&◌, ◌||◌, ◌==◌, ◌+◌, List, [], ◌∷◌, ◌++◌, drop, length, if◌then◌else◌, codes, Some, is_some}}
+use Rattle.std.specs.{List.{list_any}, Prelude.{ℕ, zero, suc, Bool, true, false, not, ◌&&◌, ◌||◌, ◌==◌, ◌+◌, List, [], ◌∷◌, ◌++◌, drop, length, if◌then◌else◌, codes, Option, Some, None, is_some}}
 use Rattle.html_page_names.specs.{ForeignNames.{is_font_attr}, PageNames.{is, of}}
 use Rattle.html_page_stack.specs.OpenElements.{OpenElement, at, holds_html_in, holds_tags, holds_table_text, holds_text_in, is_html, is_table_context, reaches, is_at, in_scope, mode, current_space, is_foreign_of}
-use Rattle.html_page_stack.specs.Pages.{Page, StartTag, Token, Char, Start, End, Finish, has_template, refused, noted, noted_if, with_char, added_to, opened_here, closed, closed_to, closed_to_goal, closed_while, implied_closed, no_name, reconstructed, settled, Turn, Taken, Again, taken_with}
-use Rattle.html_page_tree.specs.PageBodies.{after_frameset, barred_by_char, body_finished, is_hidden_input, is_space, leaf, repeated, head_element, entered, in_body, in_body_start, in_body_end, in_frameset, left, before, in_head, in_head_noscript, after_head, in_text, template_ended}
+use Rattle.html_page_stack.specs.Pages.{Page, StartTag, Token, Char, Start, End, Finish, has_template, is_full, not_made, noted, noted_if, with_char, added_to, opened_here, closed, closed_to, closed_to_goal, closed_while, implied_closed, no_name, reconstructed, passed_end, settled, template_closed, Turn, Taken, Again, taken_with}
+use Rattle.html_page_tree.specs.PageBodies.{after_frameset, barred_by_char, is_hidden_input, is_space, leaf, repeated, head_element, entered, in_body, in_body_start, in_body_end, in_frameset, left, resumed, before, in_head, in_head_noscript, after_head, in_text, template_ended}
 use Rattle.html_page_stack.specs.declared.error.PageError.{PageError}
 use Rattle.html_page_stack.specs.declared.error.PageError.TheVariants as error
-use Rattle.html_page_stack.specs.declared.fault.PageRefusal.TheVariants as refusal
 use Rattle.html_page_names.specs.declared.kind.Kind.TheVariants as kind
-use Rattle.html_page_stack.specs.declared.modes.{Destination.TheVariants.{Parent}, Mode.{Mode}}
+use Rattle.html_page_stack.specs.declared.modes.{Destination.TheVariants.{Parent}, Mode.{Mode}, TemplateMode.{TemplateMode}}
+use Rattle.html_page_stack.specs.declared.modes.TemplateMode.TheVariants as modes
 use Rattle.html_page_stack.specs.declared.modes.Mode.TheVariants.{BeforeHtml, BeforeHead, InHead, InHeadNoscript, AfterHead, InBody, InText, InTable, InCaption, InColumns, InSection, InRow, InCell, InTemplate, InFrameset, AfterFrameset}
 use Rattle.html_page_stack.specs.declared.modes.Scope.TheVariants as scope
 use Rattle.html_page_stack.specs.declared.modes.FramesetRule.TheVariants as frameset
@@ -18,7 +18,8 @@ use Rattle.html_page_stack.specs.declared.modes.TableRule.TheVariants as rule
 
 -- opens a part of a table before the start tag
 abbrev pub part_implied : (name : List ℕ) → StartTag → Page → Turn
-part_implied name tag p = Again (opened_here name [] p) (Start tag)
+part_implied name tag p = if is_full p then Taken (not_made tag.name p)
+    else Again (opened_here name [] p) (Start tag)
 
 -- closes elements up to one of HTML whose name passes the test, or a `template` around
 -- (13.2.6.4.9, 13.2.6.4.13 and 13.2.6.4.14, clear the stack back to a table, a section or a row)
@@ -46,7 +47,8 @@ has_table p = in_scope scope.Table (of kind.Table) p.stack
 -- handles a start tag of a table in a table
 abbrev pub nested_table : StartTag → Page → Turn
 nested_table tag p = if has_table p
-    then Again (closed_to (of kind.Table) (noted error.NestedElement p)) (Start tag)
+    then resumed (Start tag) (length p.stack)
+    (closed_to (of kind.Table) (noted error.NestedElement p))
     else taken_with error.IgnoredStartTag p
 
 -- whether the start tag is that of an element that stays right in a table
@@ -104,32 +106,38 @@ in_table (Char c) p = if at holds_table_text p.stack then Taken (char_in_table c
     else in_body (Char c) p
 in_table (Start tag) p = in_table_start tag p
 in_table (End name) p = in_table_end name p
-in_table Finish p = body_finished p
+in_table Finish p = Taken p
+
+-- the error that says that a token is ignored
+abbrev pub ignored : Token → PageError
+ignored (Start tag) = error.IgnoredStartTag
+ignored (End name) = error.EndTagWithoutStart
+ignored token = error.IgnoredText
 
 -- closes a `colgroup` before the token, or ignores that: right in a `template`
-abbrev pub columns_left : Token → PageError → Page → Turn
-columns_left token ignored p = if is_at (of kind.Colgroup) p.stack then left token p
-    else taken_with ignored p
+abbrev pub columns_left : Token → Page → Turn
+columns_left token p = if is_at (of kind.Colgroup) p.stack then left token p
+    else taken_with (ignored token) p
 
 abbrev pub in_columns : Token → Page → Turn
 in_columns (Char c) p = if is_space c then Taken (with_char c p)
-    else columns_left (Char c) error.IgnoredText p
+    else columns_left (Char c) p
 in_columns (Start tag) p = if of kind.Col tag.name then Taken (leaf tag p)
     else (if of kind.Html tag.name then Taken (repeated tag p)
     else (if of kind.Template tag.name then Taken (head_element Parent tag p)
-    else columns_left (Start tag) error.IgnoredStartTag p))
+    else columns_left (Start tag) p))
 in_columns (End name) p = if of kind.Colgroup name && is_at (of kind.Colgroup) p.stack
     then Taken (closed true p)
     else (if of kind.Col name then taken_with error.EndTagWithoutStart p
     else (if of kind.Template name then Taken (template_ended p)
-    else columns_left (End name) error.EndTagWithoutStart p))
-in_columns Finish p = body_finished p
+    else columns_left (End name) p))
+in_columns Finish p = Taken p
 
 -- closes the elements up to such a part of a table, and the part, before the token; ignores the token
 -- if there is none in scope, as in a `template` that begins with another part
-abbrev pub part_left : (test : List ℕ → Bool) → Token → PageError → Page → Turn
-part_left test token ignored p = if in_scope scope.Table test p.stack
-    then left token (cleared_to test p) else taken_with ignored p
+abbrev pub part_left : (test : List ℕ → Bool) → Token → Page → Turn
+part_left test token p = if in_scope scope.Table test p.stack
+    then left token (cleared_to test p) else taken_with (ignored token) p
 
 abbrev pub in_section : Token → Page → Turn
 in_section (Char c) p = in_table (Char c) p
@@ -138,14 +146,14 @@ in_section (Start tag) p = let cleared = cleared_to (of kind.Section) p in
     else (if of kind.Cell tag.name
     then part_implied (codes "tr") tag (noted error.CellWithoutRow cleared)
     else (if of kind.TablePart tag.name
-    then part_left (of kind.Section) (Start tag) error.IgnoredStartTag p
+    then part_left (of kind.Section) (Start tag) p
     else in_table (Start tag) p))
 in_section (End name) p = if of kind.Section name && in_scope scope.Table (is name) p.stack
     then Taken (closed true (cleared_to (of kind.Section) p))
     else (if of kind.Table name
-    then part_left (of kind.Section) (End name) error.EndTagWithoutStart p
+    then part_left (of kind.Section) (End name) p
     else in_table (End name) p)
-in_section Finish p = body_finished p
+in_section Finish p = Taken p
 
 -- whether the end tag is that of the table or of the section around a row
 abbrev pub ends_around_row : (name : List ℕ) → Page → Bool
@@ -157,14 +165,14 @@ in_row (Char c) p = in_table (Char c) p
 in_row (Start tag) p = if of kind.Cell tag.name
     then Taken (opened_here tag.name tag.attrs (cleared_to (of kind.Tr) p))
     else (if of kind.TablePart tag.name
-    then part_left (of kind.Tr) (Start tag) error.IgnoredStartTag p
+    then part_left (of kind.Tr) (Start tag) p
     else in_table (Start tag) p)
 in_row (End name) p = if of kind.Tr name && in_scope scope.Table (of kind.Tr) p.stack
     then Taken (closed true (cleared_to (of kind.Tr) p))
     else (if ends_around_row name p
-    then part_left (of kind.Tr) (End name) error.EndTagWithoutStart p
+    then part_left (of kind.Tr) (End name) p
     else in_table (End name) p)
-in_row Finish p = body_finished p
+in_row Finish p = Taken p
 
 -- closes a cell or a caption, and records an error unless it is the current node
 abbrev pub current_part_closed : (test : List ℕ → Bool) → Page → Page
@@ -175,15 +183,20 @@ current_part_closed test p =
 abbrev pub part_closed : (test : List ℕ → Bool) → Page → Page
 part_closed test p = current_part_closed test (implied_closed no_name p)
 
+-- closes a cell or a caption by an end tag, its own or that of an element around
+abbrev pub part_ended : (test : List ℕ → Bool) (name : List ℕ) → Page → Turn
+part_ended test name p = if test name then Taken (part_closed test p)
+    else resumed (End name) (length p.stack) (part_closed test p)
+
 -- handles an end tag in a cell or in a caption, given whether it closes it
 abbrev pub in_part_end : (test : List ℕ → Bool) (closes : Bool) (name : List ℕ) → Page → Turn
-in_part_end test closes name p = if closes then (if test name then Taken (part_closed test p) else Again (part_closed test p) (End name))
+in_part_end test closes name p = if closes then part_ended test name p
     else (if of kind.TablePart name || of kind.Table name || of kind.Root name
     then taken_with error.EndTagWithoutStart p else in_body_end name p)
 
 abbrev pub in_part_start : (test : List ℕ → Bool) → StartTag → Page → Turn
 in_part_start test tag p = if of kind.TablePart tag.name
-    then Again (part_closed test p) (Start tag) else in_body_start tag p
+    then resumed (Start tag) (length p.stack) (part_closed test p) else in_body_start tag p
 
 abbrev pub in_cell : Token → Page → Turn
 in_cell (End name) p = in_part_end (of kind.Cell)
@@ -200,14 +213,14 @@ in_caption token p = in_body token p
 
 -- the mode in which a start tag is read in a `template` that it is the first to begin something in
 -- (13.2.6.4.18)
-abbrev pub template_mode : (name : List ℕ) → Mode
-template_mode name = if begins_part name then InTable
-    else (if of kind.Col name then InColumns
-    else (if of kind.Tr name then InSection
-    else (if of kind.Cell name then InRow else InBody)))
+abbrev pub template_mode : (name : List ℕ) → TemplateMode
+template_mode name = if begins_part name then modes.Table
+    else (if of kind.Col name then modes.Columns
+    else (if of kind.Tr name then modes.Section
+    else (if of kind.Cell name then modes.Row else modes.Body)))
 
 -- the page in which the innermost `template` is read in that mode
-abbrev pub in_mode : Mode → Page → Page
+abbrev pub in_mode : TemplateMode → Page → Page
 in_mode m p = record p { templates = m ∷ drop 1 p.templates }
 
 -- handles a start tag in a `template` in which nothing but content of the head stands
@@ -246,9 +259,18 @@ by_mode InTemplate = in_template
 by_mode InFrameset = in_frameset
 by_mode AfterFrameset = after_frameset
 
+-- the mode of a `template`
+abbrev pub mode_of : TemplateMode → Mode
+mode_of modes.Unset = InTemplate
+mode_of modes.Body = InBody
+mode_of modes.Table = InTable
+mode_of modes.Columns = InColumns
+mode_of modes.Section = InSection
+mode_of modes.Row = InRow
+
 -- the mode, if that is one of a `template` or behind a `frameset`, which the open elements do not tell
-abbrev pub mode_within : Mode → (templates : List Mode) → FramesetRule → Mode
-mode_within InTemplate (m ∷ ms) rule = m
+abbrev pub mode_within : Mode → (templates : List TemplateMode) → FramesetRule → Mode
+mode_within InTemplate (m ∷ ms) rule = mode_of m
 mode_within AfterHead ms frameset.Behind = AfterFrameset
 mode_within AfterHead ms frameset.BehindHtml = AfterFrameset
 mode_within m ms rule = m
@@ -327,7 +349,7 @@ behind_turn process (Taken p) = p
 behind_turn process (Again p token) = process token p
 
 unfoldable pub processed : (times : ℕ) → Token → Page → Page
-processed zero token p = refused refusal.Unsettled p
+processed zero token p = p
 processed (suc n) token p = behind_turn (processed n) (turn token p)
 
 abbrev pub is_unseen : TableRule → Bool
@@ -356,9 +378,29 @@ abbrev pub behind_token : Token → Page → Page
 behind_token (Char c) p = p
 behind_token token p = text_ended p
 
--- processes a token, and again as often as needed: each open `template` may take one turn more
+-- closes the open `template` elements, at most so many (13.2.6.4.18)
+abbrev pub templates_ended : (at_most : ℕ) → Page → Page
+templates_ended zero p = p
+templates_ended (suc n) p = templates_ended n (template_closed p)
+
+-- the page before a token: each `template` ends at the end of the page
+abbrev pub before_token : Token → Page → Page
+before_token Finish p = templates_ended (length p.templates) p
+before_token token p = p
+
+-- processes a token, and again as long as it is not taken, which takes no more turns than these
+abbrev pub taken_at_last : Token → Page → Page
+taken_at_last token p = processed (suc (length p.stack + 14)) token p
+
+-- passes the end tag of an element over that was too deep to be made; processes any other token
+abbrev pub unless_passed : Option (List (List ℕ)) → Token → Page → Page
+unless_passed (Some names) token p = record p { unmade = names }
+unless_passed None token p = taken_at_last token p
+
+-- handles a token, whose end tag may be that of an element that was not made
 abbrev pub wholly_processed : Token → Page → Page
-wholly_processed token p = processed (suc (length p.templates + 7)) token p
+wholly_processed (End name) p = unless_passed (passed_end name p) (End name) p
+wholly_processed token p = taken_at_last token (before_token token p)
 
 -- reads a token of a page
 unfoldable pub token_read : Token → Page → Page

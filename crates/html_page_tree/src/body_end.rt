@@ -158,17 +158,6 @@ fn add_char_to_body(page: &mut Page, c: char) -> Result<(), AllocError>
     page.add_char(c)
 }
 
-/// Handles the end of the page, at which each `template` ends (HTML Standard 13.2.6.4.18).
-pub(crate) fn finish_body(page: &mut Page) -> Result<Option<Token>, AllocError>
-    ensures { Turns result (bodies.body_finished (page_of page.old)) (page_of page.new) }
-{
-    if !page.has_template() {
-        return Ok(None);
-    }
-    page.close_template()?;
-    Ok(Some(Token::Finish))
-}
-
 pub(crate) fn in_body(page: &mut Page, token: Token) -> Result<Option<Token>, AllocError>
     ensures { Turns result (bodies.in_body (token_of token) (page_of page.old)) (page_of page.new) }
 {
@@ -179,6 +168,6 @@ pub(crate) fn in_body(page: &mut Page, token: Token) -> Result<Option<Token>, Al
         }
         Token::Start(start) => in_body_start(page, start),
         Token::End(name) => in_body_end(page, name),
-        Token::Finish => finish_body(page),
+        Token::Finish => Ok(None),
     }
 }

@@ -2,14 +2,14 @@
 //! (13.2.6.4.8).
 
 ghost use Rattle.std.specs.Prelude.{◌≡◌, OnOk, codes};
-ghost use Rattle.html_page_stack.specs.{Endings.{Turns}, PageViews.{page_of, start_of, token_of}};
+ghost use Rattle.html_page_stack.specs.{Endings.{Turns, turn_of}, PageViews.{page_of, start_of, token_of}};
 ghost use Rattle.html_page_tree.specs.PageBodies as bodies;
 
 use crate::body_start::{add_to_head, open, open_implied, repeat};
 use crate::frameset::allow_frameset;
 use html_names_core::{HtmlTag, tag};
 use html_page_names::Kind;
-use html_page_stack::{Destination, Page, PageError, StartTag, TagName, Token};
+use html_page_stack::{Destination, Page, PageError, PageRefusal, StartTag, TagName, Token};
 use std::alloc::AllocError;
 
 /// Returns whether it is a tab, a line feed, a form feed, a carriage return or a space.
@@ -26,11 +26,33 @@ fn opens_body(name: &TagName) -> bool
     name.is(Kind::Root) || name.is(Kind::Br)
 }
 
-/// Opens `html` or `head`, whichever is given, before the token.
+/// Passes a token over before which an element had to be made that is too deep: a character stands
+/// in the deepest open element.
+pub(crate) fn pass(page: &mut Page, token: Token) -> Result<(), AllocError>
+    ensures { OnOk result (page_of page.new ≡ bodies.passed (token_of token) (page_of page.old)) }
+{
+    match token {
+        Token::Start(start) => page.pass_start(start.name.tag),
+        Token::Char(c) => {
+            page.refuse(PageRefusal::TooDeep);
+            page.add_char(c)
+        }
+        Token::End(_) | Token::Finish => {
+            page.refuse(PageRefusal::TooDeep);
+            Ok(())
+        }
+    }
+}
+
+/// Opens `html`, `head` or `body`, whichever is given, before the token.
 fn imply(page: &mut Page, tag: HtmlTag, token: Token) -> Result<Option<Token>, AllocError>
     ensures { Turns result (bodies.implied tag (token_of token) (page_of page.old))
         (page_of page.new) }
 {
+    if page.is_full() {
+        pass(page, token)?;
+        return Ok(None);
+    }
     open_implied(page, tag)?;
     Ok(Some(token))
 }
@@ -45,12 +67,26 @@ fn imply_body(page: &mut Page, token: Token) -> Result<Option<Token>, AllocError
     imply(page, tag::body, token)
 }
 
+/// Returns the token, to process it again behind an element that it closed, given how many were
+/// open. The root stays open, and behind that the token is taken.
+pub(crate) fn resume(page: &Page, count: usize, token: Token) -> Option<Token>
+    ensures { let p = page_of page.now in
+        turn_of result p ≡ bodies.resumed (token_of token) count p }
+{
+    if page.stack.len() < count {
+        Some(token)
+    } else {
+        None
+    }
+}
+
 /// Closes the current node before the token.
 pub(crate) fn leave(page: &mut Page, token: Token) -> Result<Option<Token>, AllocError>
     ensures { Turns result (bodies.left (token_of token) (page_of page.old)) (page_of page.new) }
 {
+    let open = page.stack.len();
     page.close(true)?;
-    Ok(Some(token))
+    Ok(resume(page, open, token))
 }
 
 /// Handles a token before `html` or before `head`, which it begins or implies.

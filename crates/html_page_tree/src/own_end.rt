@@ -65,6 +65,7 @@ pub fn takes_own_end(page: &Page) -> bool
         Some(element) => {
             element.is_html()
                 && closes_in(page.stack.mode(), element)
+                && !page.has_unmade()
                 && (!page.stack.is_at(Kind::Formatting) || page.stack.is_last(&page.formats))
         }
     }

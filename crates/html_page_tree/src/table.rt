@@ -10,10 +10,10 @@ ghost use Rattle.html_page_stack.specs.Pages as pages;
 ghost use Rattle.html_page_tree.specs.PageBodies as bodies;
 ghost use Rattle.html_page_tree.specs.PageTrees as trees;
 
-use crate::body_end::{end_template, finish_body, in_body, in_body_end};
+use crate::body_end::{end_template, in_body, in_body_end};
 use crate::body_start::{add_leaf, add_to, add_to_head, in_body_start, repeat};
 use crate::frameset::is_hidden_input;
-use crate::head::{is_space, leave};
+use crate::head::{is_space, leave, resume};
 use html_dom_tree::{HtmlAttrs, Span};
 use html_names_core::{HtmlTag, tag};
 use html_page_names::Kind;
@@ -43,6 +43,10 @@ fn imply_part(page: &mut Page, tag: HtmlTag, start: StartTag) -> Result<Option<T
     ensures { Turns result (trees.part_implied tag (start_of start) (page_of page.old))
         (page_of page.new) }
 {
+    if page.is_full() {
+        page.pass_start(start.name.tag)?;
+        return Ok(None);
+    }
     let name = TagName::new(tag);
     open_here(page, name, HtmlAttrs::new(page.alloc))?;
     Ok(Some(Token::Start(start)))
@@ -117,9 +121,10 @@ fn nest_table(page: &mut Page, start: StartTag) -> Result<Option<Token>, AllocEr
         page.note(PageError::IgnoredStartTag)?;
         return Ok(None);
     }
+    let open = page.stack.len();
     page.note(PageError::NestedElement)?;
     page.close_to(Target::Kind(Kind::Table))?;
-    Ok(Some(Token::Start(start)))
+    Ok(resume(page, open, Token::Start(start)))
 }
 
 /// Returns whether the start tag is that of an element that stays right in a table.
@@ -245,23 +250,30 @@ pub(crate) fn in_table(page: &mut Page, token: Token) -> Result<Option<Token>, A
         Token::Char(c) => in_body(page, Token::Char(c)),
         Token::Start(start) => start_in_table(page, start),
         Token::End(name) => end_in_table(page, name),
-        Token::Finish => finish_body(page),
+        Token::Finish => Ok(None),
+    }
+}
+
+/// Returns the error that says that a token is ignored.
+fn ignored(token: &Token) -> PageError
+    ensures { result ≡ trees.ignored (token_of token.now) }
+{
+    match token {
+        Token::Start(_) => PageError::IgnoredStartTag,
+        Token::End(_) => PageError::EndTagWithoutStart,
+        Token::Char(_) | Token::Finish => PageError::IgnoredText,
     }
 }
 
 /// Closes a `colgroup` before the token, or ignores that: right in a `template`.
-fn leave_columns(
-    page: &mut Page,
-    token: Token,
-    ignored: PageError,
-) -> Result<Option<Token>, AllocError>
-    ensures { Turns result (trees.columns_left (token_of token) ignored (page_of page.old))
+fn leave_columns(page: &mut Page, token: Token) -> Result<Option<Token>, AllocError>
+    ensures { Turns result (trees.columns_left (token_of token) (page_of page.old))
         (page_of page.new) }
 {
     if page.stack.is_at(Kind::Colgroup) {
         return leave(page, token);
     }
-    page.note(ignored)?;
+    page.note(ignored(&token))?;
     Ok(None)
 }
 
@@ -277,7 +289,7 @@ fn start_in_columns(page: &mut Page, start: StartTag) -> Result<Option<Token>, A
     } else if name.is(Kind::Template) {
         add_to_head(page, Destination::Parent, start)?;
     } else {
-        return leave_columns(page, Token::Start(start), PageError::IgnoredStartTag);
+        return leave_columns(page, Token::Start(start));
     }
     Ok(None)
 }
@@ -293,7 +305,7 @@ fn end_in_columns(page: &mut Page, name: TagName) -> Result<Option<Token>, Alloc
     } else if name.is(Kind::Template) {
         end_template(page)?;
     } else {
-        return leave_columns(page, Token::End(name), PageError::EndTagWithoutStart);
+        return leave_columns(page, Token::End(name));
     }
     Ok(None)
 }
@@ -308,26 +320,21 @@ pub(crate) fn in_columns(page: &mut Page, token: Token) -> Result<Option<Token>,
             page.add_char(c)?;
             Ok(None)
         }
-        Token::Char(c) => leave_columns(page, Token::Char(c), PageError::IgnoredText),
+        Token::Char(c) => leave_columns(page, Token::Char(c)),
         Token::Start(start) => start_in_columns(page, start),
         Token::End(name) => end_in_columns(page, name),
-        Token::Finish => finish_body(page),
+        Token::Finish => Ok(None),
     }
 }
 
 /// Closes a section or a row, with what is open in it, before the token, or ignores that if there is
 /// none in scope.
-fn leave_part(
-    page: &mut Page,
-    part: Kind,
-    token: Token,
-    ignored: PageError,
-) -> Result<Option<Token>, AllocError>
-    ensures { Turns result (trees.part_left (of part) (token_of token) ignored (page_of page.old))
+fn leave_part(page: &mut Page, part: Kind, token: Token) -> Result<Option<Token>, AllocError>
+    ensures { Turns result (trees.part_left (of part) (token_of token) (page_of page.old))
         (page_of page.new) }
 {
     if !page.in_scope(Scope::Table, Target::Kind(part)) {
-        page.note(ignored)?;
+        page.note(ignored(&token))?;
         return Ok(None);
     }
     clear_to(page, part)?;
@@ -368,23 +375,17 @@ pub(crate) fn in_section(page: &mut Page, token: Token) -> Result<Option<Token>,
             page.note(PageError::CellWithoutRow)?;
             imply_tr(page, start)
         }
-        Token::Start(start) if start.name.is(Kind::TablePart) => {
-            leave_part(
-                page,
-                Kind::Section,
-                Token::Start(start),
-                PageError::IgnoredStartTag,
-            )
-        }
+        Token::Start(start) if start.name.is(Kind::TablePart) => leave_part(
+            page,
+            Kind::Section,
+            Token::Start(start),
+        ),
         Token::End(name) if ends_section(page, &name) => close_part_here(page, Kind::Section),
-        Token::End(name) if name.is(Kind::Table) => {
-            leave_part(
-                page,
-                Kind::Section,
-                Token::End(name),
-                PageError::EndTagWithoutStart,
-            )
-        }
+        Token::End(name) if name.is(Kind::Table) => leave_part(
+            page,
+            Kind::Section,
+            Token::End(name),
+        ),
         token => in_table(page, token),
     }
 }
@@ -413,23 +414,17 @@ pub(crate) fn in_row(page: &mut Page, token: Token) -> Result<Option<Token>, All
             open_here(page, start.name, start.attrs)?;
             Ok(None)
         }
-        Token::Start(start) if start.name.is(Kind::TablePart) => {
-            leave_part(
-                page,
-                Kind::Tr,
-                Token::Start(start),
-                PageError::IgnoredStartTag,
-            )
-        }
+        Token::Start(start) if start.name.is(Kind::TablePart) => leave_part(
+            page,
+            Kind::Tr,
+            Token::Start(start),
+        ),
         Token::End(name) if ends_row(page, &name) => close_part_here(page, Kind::Tr),
-        Token::End(name) if ends_around_row(page, &name) => {
-            leave_part(
-                page,
-                Kind::Tr,
-                Token::End(name),
-                PageError::EndTagWithoutStart,
-            )
-        }
+        Token::End(name) if ends_around_row(page, &name) => leave_part(
+            page,
+            Kind::Tr,
+            Token::End(name),
+        ),
         token => in_table(page, token),
     }
 }
@@ -452,6 +447,19 @@ fn close_part(page: &mut Page, part: Kind) -> Result<(), AllocError>
     close_current_part(page, part)
 }
 
+/// Closes a cell or a caption by an end tag, its own or that of an element around.
+fn end_part(page: &mut Page, part: Kind, name: TagName) -> Result<Option<Token>, AllocError>
+    ensures { Turns result (trees.part_ended (of part) name.tag (page_of page.old))
+        (page_of page.new) }
+{
+    let open = page.stack.len();
+    close_part(page, part)?;
+    if name.is(part) {
+        return Ok(None);
+    }
+    Ok(resume(page, open, Token::End(name)))
+}
+
 /// Handles an end tag in a cell or in a caption, given whether it closes it.
 fn end_in_part(
     page: &mut Page,
@@ -463,12 +471,7 @@ fn end_in_part(
         (page_of page.new) }
 {
     if closes {
-        close_part(page, part)?;
-        return Ok(if name.is(part) {
-            None
-        } else {
-            Some(Token::End(name))
-        });
+        return end_part(page, part, name);
     }
     if name.is(Kind::TablePart) || name.is(Kind::Table) || name.is(Kind::Root) {
         page.note(PageError::EndTagWithoutStart)?;
@@ -483,8 +486,9 @@ fn start_in_part(page: &mut Page, part: Kind, start: StartTag) -> Result<Option<
         (page_of page.new) }
 {
     if start.name.is(Kind::TablePart) {
+        let open = page.stack.len();
         close_part(page, part)?;
-        return Ok(Some(Token::Start(start)));
+        return Ok(resume(page, open, Token::Start(start)));
     }
     in_body_start(page, start)
 }

@@ -8,29 +8,29 @@ use crate::body_end::{end_template, in_body};
 use crate::body_start::add_to_head;
 use crate::table::begins_part;
 use html_page_names::Kind;
-use html_page_stack::{Destination, Mode, Page, PageError, StartTag, TagName, Token};
+use html_page_stack::{Destination, Page, PageError, StartTag, TagName, TemplateMode, Token};
 use std::alloc::AllocError;
 
 /// Returns the mode in which a start tag is read in a `template` that it is the first to begin
 /// something in.
-fn template_mode(name: &TagName) -> Mode
+fn template_mode(name: &TagName) -> TemplateMode
     ensures { result ≡ trees.template_mode name.now.tag }
 {
     if begins_part(name) {
-        Mode::InTable
+        TemplateMode::Table
     } else if name.is(Kind::Col) {
-        Mode::InColumns
+        TemplateMode::Columns
     } else if name.is(Kind::Tr) {
-        Mode::InSection
+        TemplateMode::Section
     } else if name.is(Kind::Cell) {
-        Mode::InRow
+        TemplateMode::Row
     } else {
-        Mode::InBody
+        TemplateMode::Body
     }
 }
 
 /// Reads the innermost `template` in that mode from now on.
-fn set_mode(page: &mut Page, mode: Mode) -> Result<(), AllocError>
+fn set_mode(page: &mut Page, mode: TemplateMode) -> Result<(), AllocError>
     ensures { OnOk result (page_of page.new ≡ trees.in_mode mode (page_of page.old)) }
 {
     let _ = page.templates.pop();

@@ -1,6 +1,6 @@
 //! The steps of a token in a page (HTML Standard 13.2.6).
 
-ghost use Rattle.std.specs.Prelude.{◌≡◌, OnOk};
+ghost use Rattle.std.specs.Prelude.{◌≡◌, OnOk, length};
 ghost use Rattle.html_page_stack.specs.{Endings.{Turns}, PageViews.{page_of, start_of, token_of}};
 ghost use Rattle.html_page_stack.specs.declared.modes.Mode.TheVariants.{AfterHead, InTemplate};
 ghost use Rattle.html_page_stack.specs.Pages as pages;
@@ -19,12 +19,12 @@ use crate::table::{in_caption, in_cell, in_columns, in_row, in_section, in_table
 use crate::template::in_template;
 use html_page_names::Kind;
 use html_page_stack::{
-    FramesetRule, Mode, Page, PageError, PageRefusal, StartTag, TableRule, TagName, Token,
+    FramesetRule, Mode, Page, PageError, StartTag, TableRule, TagName, TemplateMode, Token,
 };
 use std::alloc::AllocError;
 
-/// The number of times that a token is processed again at most, beside once for each open `template`.
-const MOST_TURNS: usize = 7;
+/// The number of times that a token is processed again at most, beside once for each open element.
+const MOST_TURNS: usize = 14;
 
 fn is_space_token(token: &Token) -> bool
     ensures { result ≡ trees.is_space_token (token_of token.now) }
@@ -47,6 +47,20 @@ fn page_mode(page: &Page) -> Mode
     }
 }
 
+/// Returns the mode of a `template`.
+fn mode_of(mode: TemplateMode) -> Mode
+    ensures { result ≡ trees.mode_of mode }
+{
+    match mode {
+        TemplateMode::Unset => Mode::InTemplate,
+        TemplateMode::Body => Mode::InBody,
+        TemplateMode::Table => Mode::InTable,
+        TemplateMode::Columns => Mode::InColumns,
+        TemplateMode::Section => Mode::InSection,
+        TemplateMode::Row => Mode::InRow,
+    }
+}
+
 /// Returns the mode of the innermost `template`.
 fn template_mode(page: &Page) -> Mode
     ensures { let p = page_of page.now in
@@ -54,7 +68,7 @@ fn template_mode(page: &Page) -> Mode
 {
     match page.templates.last() {
         None => Mode::InTemplate,
-        Some(mode) => *mode,
+        Some(mode) => mode_of(*mode),
     }
 }
 
@@ -150,20 +164,48 @@ fn process_again(page: &mut Page, most: usize, token: Token) -> Result<(), Alloc
             Some(again) => token = again,
         }
     }
-    page.refuse(PageRefusal::Unsettled);
     Ok(())
 }
 
+/// Processes a token until it is taken.
 #[tactic(auto, unfolding(crate::specs::PageTrees::processed))]
-fn process(page: &mut Page, token: Token) -> Result<(), AllocError>
+fn take(page: &mut Page, token: Token) -> Result<(), AllocError>
     ensures { OnOk result (page_of page.new
-        ≡ trees.wholly_processed (token_of token) (page_of page.old)) }
+        ≡ trees.taken_at_last (token_of token) (page_of page.old)) }
 {
-    let most = page.templates.len() + MOST_TURNS;
+    let most = page.stack.len() + MOST_TURNS;
     match turn(page, token)? {
         None => Ok(()),
         Some(again) => process_again(page, most, again),
     }
+}
+
+/// Closes so many open `template` elements.
+#[tactic(auto, using(crate::proofs::Turning::ended_once, crate::proofs::Turning::ended_out))]
+fn end_templates(page: &mut Page, most: usize) -> Result<(), AllocError>
+    ensures { OnOk result (page_of page.new ≡ trees.templates_ended most (page_of page.old)) }
+{
+    for count in 0..most {
+        page.close_template()?;
+    }
+    Ok(())
+}
+
+/// Handles a token, whose end tag may be that of an element that was too deep to be made.
+#[inline(always)]
+fn process(page: &mut Page, token: Token) -> Result<(), AllocError>
+    ensures { OnOk result (page_of page.new
+        ≡ trees.wholly_processed (token_of token) (page_of page.old)) }
+{
+    match &token {
+        Token::End(name) if page.pass_end(&name.tag) => return Ok(()),
+        Token::Finish => {
+            let most = page.templates.len();
+            end_templates(page, most)?;
+        }
+        _ => {}
+    }
+    take(page, token)
 }
 
 /// Handles a token without a document type before it: a table keeps a `p` open.

@@ -93,7 +93,7 @@ const OF_PAGES: &str = "\
     0: out of memory\n\
     25: unknown encoding `big5` at 3:14\n\
     25: a byte that is no text at 3:14\n\
-    39: a token finds no place at 3:14\n";
+    40: too many elements are made again at 3:14\n";
 
 #[test]
 fn other_faults(rt: HostRuntime) -> TestResult {
@@ -117,7 +117,7 @@ fn other_faults(rt: HostRuntime) -> TestResult {
 fn faults_of_pages(rt: HostRuntime) -> TestResult {
     let (mut shown, place) = (String::new(rt.alloc()), PLACE);
     let label = String::from_str(rt.alloc(), "big5")?;
-    let refusal = PageRefusal::Unsettled;
+    let refusal = PageRefusal::TooManyCopies;
     let faults = [
         PageFault::OutOfMemory,
         PageFault::UnknownLabel { label, place },

@@ -12,7 +12,7 @@ use Rattle.html_page_nesting.specs.declared.reading.Place.TheVariants as place
 use Rattle.html_page_names.specs.{ForeignNames.{lowered}, PageNames.{of}}
 use Rattle.html_page_names.specs.declared.kind.Kind.TheVariants as kind
 use Rattle.html_page_stack.specs.{OpenElements.{is_at, is_of, mode}, Pages.{Again, Page, Start, StartTag, Turn, Taken}}
-use Rattle.html_page_stack.specs.declared.modes.Mode.{TheVariants.{InBody}}
+use Rattle.html_page_stack.specs.declared.modes.TemplateMode.TheVariants as modes
 use Rattle.html_page_tree.specs.PageTrees.{by_mode, in_mode, is_foreign_token, page_mode, start_in_template, template_mode, text_ended, token_read, turn}
 use Rattle.typst_html_nesting_laws.proofs.{Alike.{at_is, html_is, length_is, mode_is, start_foreign}, BegunForeign.{foreign_taken}, Modes.{mode_in, told_in}}
 use Rattle.typst_html_nesting_laws.proofs.{BegunInBody.{body_taken, stays_in_body}, BegunInTables.{place_taken}, Opened.{Opens, head_begun, made, one_of, opened_as, void_of}}
@@ -145,7 +145,7 @@ module _ (above : List Ancestor) (h : Head) (kids : NodesView)
       ordered = calm.modes;
       reads = λ e. or_right (is_template (begun_element h above p.start)) _
           (or_right (is_of (of kind.Raw) (begun_element h above p.start)) _ reads);
-      is = turn_taken (Start tag) p (one_of (ends_at_once h) (begun h above p)) calm.tables turned
+      is = turn_taken (Start tag) p (one_of (ends_at_once h) (begun h above p)) refl calm.tables turned
           ∙ none_ended (ends_at_once h) h above p;
     }
 
@@ -167,7 +167,7 @@ module _ (above : List Ancestor) (h : Head) (kids : NodesView)
         (head_mode p calm.framesets at calm.modes waits))
 
     abbrev next : Page
-    next = in_mode InBody p
+    next = in_mode modes.Body p
 
     calm_next : IsCalm above next
     calm_next = record {
@@ -177,6 +177,7 @@ module _ (above : List Ancestor) (h : Head) (kids : NodesView)
       form = calm.form;
       moved = calm.moved;
       framesets = calm.framesets;
+      unmade = calm.unmade;
       tables = calm.tables;
     }
 
@@ -186,7 +187,7 @@ module _ (above : List Ancestor) (h : Head) (kids : NodesView)
     no_part : of kind.TablePart tag.name ≡ false
     no_part = (stays_in_body tag.name around rules_here).part
 
-    reads_as_body : template_mode tag.name ≡ InBody
+    reads_as_body : template_mode tag.name ≡ modes.Body
     reads_as_body =
         let x = parts tag.name p.stack no_part in
         skip _ (or_from _ _ (or_from _ _ x.3 x.4) x.1)
@@ -218,7 +219,7 @@ module _ (above : List Ancestor) (h : Head) (kids : NodesView)
       modes = p.templates;
       ordered = calm.modes;
       reads = in_head_reads head;
-      is = turn_taken (Start tag) p (one_of (ends_at_once h) (begun h above p)) calm.tables
+      is = turn_taken (Start tag) p (one_of (ends_at_once h) (begun h above p)) refl calm.tables
           (turn_here ∙ pick _ head (ap Taken (head_begun tag p (begins read_here p)
           (opens_it read_here p fits) head (unread read_here) ∙ begins_it read_here p calm)))
           ∙ none_ended (ends_at_once h) h above p;
@@ -231,7 +232,8 @@ module _ (above : List Ancestor) (h : Head) (kids : NodesView)
       ordered = calm_next.modes;
       reads = λ e. or_right (is_template (begun_element h above p.start)) _
           (or_right (is_of (of kind.Raw) (begun_element h above p.start)) _ refl);
-      is = turns_taken (Start tag) p next (one_of (ends_at_once h) (begun h above next)) calm.tables
+      is = turns_taken (Start tag) p next (one_of (ends_at_once h) (begun h above next)) refl
+          calm.tables
           (turn_here ∙ skip _ other (ap (λ m. Again (in_mode m p) (Start tag)) reads_as_body))
           (turned next calm_next steady fits refl) ∙ none_ended (ends_at_once h) h above next;
     }

@@ -94,5 +94,6 @@ calm_begun above h p c reads =
           then Some p.start else f) (c.form ∙ sym (ap form_of e ∙ form_of_text p.text p.stack));
       moved = refl;
       framesets = c.framesets;
+      unmade = refl;
       tables = c.tables;
     }

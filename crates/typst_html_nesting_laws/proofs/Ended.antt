@@ -26,7 +26,7 @@ use Rattle.typst_html_nesting_laws.proofs.{KeptTags.{small_html}, ListedFormats.
 use Rattle.typst_html_nesting_laws.proofs.{Closed.{closed_is}, ClosedBefore.{while_not}}
 use Rattle.typst_html_nesting_laws.proofs.Templates.{body_mode, closed_own, closed_plain, hold_modes, is_template, is_template_mode, modes_there, reads_inside, template_page}
 use Rattle.typst_html_nesting_laws.proofs.{KindFacts.{AllFail, fails_of, names, outside_of, passes_of}, Rules.{foreign_fits, tag_fits}}
-use Rattle.typst_html_nesting_laws.proofs.{Stands.{Stands, html_stands, parts}, Steady.{around_steady}, Tables.{none_cleared}, Turns.{is_told, read_mode, stack_mode, turn_taken}}
+use Rattle.typst_html_nesting_laws.proofs.{Stands.{Stands, html_stands, parts}, Steady.{around_steady}, Tables.{none_cleared}, Turns.{end_whole, is_told, read_mode, stack_mode, turn_taken}}
 use Rattle.typst_html_nesting_laws.proofs.Ways.{AreAlike, AreBegun, IsAlike, IsCalm, IsSteady, ends_at_once, is_body_mode, is_page_place}
 
 -- the current node, an element of HTML
@@ -346,7 +346,8 @@ end_taken above h kids p o os e calm steady page rules once =
     subst (λ s. token_read (End (lowered h.name)) (record p { stack = s })
     ≡ closed_own o (record p { stack = s })) (sym e)
     (turn_taken (End (lowered h.name)) (record p { stack = o ∷ os })
-    (closed_own o (record p { stack = o ∷ os })) calm.tables
+    (closed_own o (record p { stack = o ∷ os }))
+    (end_whole (lowered h.name) (record p { stack = o ∷ os }) calm.unmade) calm.tables
     (decide (nest.is_html (space_of (reading_of above) h.name))
     (turn_html above h kids p o os alike.0 kept page rules alike.1 steady once)
     (turn_foreign above h kids p o os alike.0 kept page rules)))

@@ -146,12 +146,13 @@ module _ (above : List Ancestor) (h : Head) (p : Page) (o : OpenElement) (os : L
     formats = n.formats;
     templates = n.templates;
     form = form;
+    unmade = [];
   }
 
-  pub closes : is_removed o.space ≡ false → (children : NodesView) (words : List ℕ) (n : Moment) →
+  pub closes : p.unmade ≡ [] → is_removed o.space ≡ false → (children : NodesView) (words : List ℕ) (n : Moment) →
       last_form n ≡ p.form → closed_own opened (on opened_page opened around children words n)
       ≡ on p o os (with_child (texted_children m.start children words)) [] (closed_moment n)
-  closes stays children words n form =
+  closes made stays children words n form =
       let y : OpenElement = with_text t (record o { children = c }) in
       let x : OpenElement = record opened { children = texted_children m.start children words } in
       let z : OpenElement = record o {
@@ -166,7 +167,8 @@ module _ (above : List Ancestor) (h : Head) (p : Page) (o : OpenElement) (os : L
       (with_text_is words opened children)
       ∙ (ap (λ w. page_of (uncovered (placed x w ∷ os)) (last_form n) behind) (with_text_is t o c)
       ∙ (ap (λ s. page_of s (last_form n) behind) (still_open z os stays)
-      ∙ ap (λ f. page_of (z ∷ os) f behind) form)))
+      ∙ (ap (λ f. page_of (z ∷ os) f behind) form
+      ∙ ap (λ u. record (page_of (z ∷ os) p.form behind) { unmade = u }) (sym made)))))
 
   pub child_normal : (children kids : NodesView) → nodes_normal children ≡ nodes_normal kids →
       (k : Plains) → put_nodes (with_child children) k
@@ -177,7 +179,7 @@ module _ (above : List Ancestor) (h : Head) (p : Page) (o : OpenElement) (os : L
       ∙ put_texted o.head.span c t (plain (branch h.name h.attrs (nodes_normal kids)) k))
 
   -- from the start tag to the end tag
-  abbrev pub element_closed : is_removed o.space ≡ false → ((n : Moment) →
+  abbrev pub element_closed : p.unmade ≡ [] → is_removed o.space ≡ false → ((n : Moment) →
       AreOrdered (opened ∷ around) n → last_form n ≡ p.form) → (q behind_start : PageReader)
       (rest : List ℕ) (kids : NodesView) → run q (start_tag_text h) ≡ behind_start →
       IsFilled behind_start rest h.name kids opened_page opened around →
@@ -185,7 +187,7 @@ module _ (above : List Ancestor) (h : Head) (p : Page) (o : OpenElement) (os : L
       token_read (End (lowered h.name)) (on opened_page opened around children words n)
       ≡ closed_own opened (on opened_page opened around children words n)) →
       AreGathered q (start_tag_text h ++ rest) false p o os c t (node (element_node h kids) none)
-  element_closed stays form q behind_start rest kids starts f ends =
+  element_closed made stays form q behind_start rest kids starts f ends =
       let kept = texted_children m.start f.children f.words in
       let after : Page = on p o os (with_child kept) [] (closed_moment f.moment) in
       record {
@@ -196,7 +198,7 @@ module _ (above : List Ancestor) (h : Head) (p : Page) (o : OpenElement) (os : L
         ordered = order_behind f.moment f.ordered;
         is = run_on q behind_start _ (start_tag_text h) rest starts (f.is after
             (ends f.children f.words f.moment f.ordered
-            ∙ closes stays f.children f.words f.moment (form f.moment f.ordered)));
+            ∙ closes made stays f.children f.words f.moment (form f.moment f.ordered)));
         same = child_normal kept kids (filled_normal m.start f);
       }
 

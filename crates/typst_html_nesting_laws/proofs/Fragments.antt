@@ -14,11 +14,11 @@ use Rattle.html_page_stack.specs.declared.modes.TableRule.TheVariants as rule
 use Rattle.html_page_tree.specs.{FragmentPages.{fragment_begun}, PageTrees.{token_read}}
 use Rattle.html_page_read.specs.FragmentReading.{fragment_passed, fragment_reader}
 use Rattle.html_page_read.specs.{PageReading.{page_result, root_made, run}, PageTokens.{finished}}
-use Rattle.typst_html_nesting_laws.proofs.{Branches.{skip}, Fillings.{fresh_behind}, KindFacts.{names}}
+use Rattle.typst_html_nesting_laws.proofs.{Fillings.{fresh_behind}, KindFacts.{names}}
 use Rattle.typst_html_nesting_laws.proofs.ListedFormats.Layer.{passed}
 use Rattle.typst_html_nesting_laws.proofs.Forms.{AreOrdered, Moment, later, normal_is, on, put_texted, texted_children, with_text_is}
 use Rattle.typst_html_nesting_laws.proofs.Nodes.{IsInside, NodesFit, element_fits, nodes_lead, rest_fits}
-use Rattle.typst_html_nesting_laws.proofs.{Opened.{opens}, Readers.{data_at}, Tables.{text_kept}, Templates.{TemplateModes, are_modes, hold_modes, modes_there}, Turns.{html_token, mode_taken}}
+use Rattle.typst_html_nesting_laws.proofs.{Opened.{opens}, Readers.{data_at}, Tables.{text_kept}, Templates.{TemplateModes, are_modes, hold_modes, modes_there}, Turns.{finish_whole, html_token, mode_taken}}
 use Rattle.typst_html_nesting_laws.specs.FragmentsStay.{FragmentsStay, IsKeptFragment, bare_head, begins_marked, fragment_root}
 use Rattle.typst_html_nesting_laws.specs.TreesStay.{NodeIsReadable, NodesAreReadable, no_notes}
 
@@ -85,6 +85,7 @@ in_body limit deep = record {
     form = refl;
     moved = refl;
     framesets = refl;
+    unmade = refl;
     tables = refl;
   };
   steady = λ c e. refl;
@@ -131,9 +132,10 @@ module _ (limit place : ℕ) (fresh : Bool) (c : NodesView) (t : List ℕ) (m : 
   -- which the end does not change
   finish_taken : token_read Finish last ≡ last
   unfolding names
-  finish_taken = mode_taken Finish last InBody last refl refl refl
-      (html_token Finish (record body { children = c }) outer refl) refl
-      (skip _ (none_open m.templates order.1) refl) ∙ text_kept last refl
+  finish_taken = mode_taken Finish last InBody last
+      (finish_whole last (none_open m.templates order.1)) refl refl refl
+      (html_token Finish (record body { children = c }) outer refl) refl refl
+      ∙ text_kept last refl
 
   -- and which is read as the page around those children
   page_ends : page_result (finished

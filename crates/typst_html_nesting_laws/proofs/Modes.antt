@@ -5,7 +5,7 @@ use Rattle.html_page_nesting.specs.{Ancestors.{place_in}, declared.reading.Place
 use Rattle.html_page_nesting.specs.declared.reading.Place.TheVariants as place
 use Rattle.html_page_names.specs.{PageNames.{kind_names, of}, declared.kind.Kind.{Kind}}
 use Rattle.html_page_names.specs.declared.kind.Kind.TheVariants as kind
-use Rattle.html_page_stack.specs.{OpenElements.{OpenElement, is_at, is_html, mode, named_mode}, declared.modes.Mode.{Mode}}
+use Rattle.html_page_stack.specs.{OpenElements.{OpenElement, is_at, is_html, mode, mode_inside, named_mode}, declared.modes.Mode.{Mode}}
 use Rattle.html_page_stack.specs.declared.modes.Mode.TheVariants.{InHead, InHeadNoscript, InText, InTable, InCaption, InColumns, InSection, InRow, InCell, InTemplate}
 use Rattle.typst_html_nesting_laws.proofs.{KindFacts.{agree_of, names}, Turns.{is_told}}
 
@@ -67,10 +67,10 @@ unfolding names
 template_mode o os html h =
     rw (html, brought_by o.head.name os kind.Template InTemplate refl h) refl
 
--- an element that brings none stands in the mode around it
+-- an element that brings none stands in the mode around it, but never before the head
 pub mode_around : (o q : OpenElement) (qs : List OpenElement) →
     (if is_html o.space then named_mode o.head.name (q ∷ qs) else None) ≡ None →
-    mode (o ∷ q ∷ qs) ≡ mode (q ∷ qs)
+    mode (o ∷ q ∷ qs) ≡ mode_inside (mode (q ∷ qs))
 mode_around o q qs h = rw (h, eqb-suc-zero (length qs)) refl
 
 -- the mode of a place but a body

@@ -117,6 +117,7 @@ calm_on above p o os c t m e calm order = record {
   form = calm.form ∙ ap form_of e;
   moved = refl;
   framesets = calm.framesets;
+  unmade = calm.unmade;
   tables = calm.tables;
 } where
   alike_with : (above : List Ancestor) → AreAlike above (o ∷ os) →
@@ -231,6 +232,9 @@ module _ (frames : Frames) (level : ℕ) {above : List Ancestor} {h : Head} {kid
     -- the element around it stays open, and the form is afterwards what it was
     stays : is_removed o.space ≡ false
     stays = never_removed above (record o { children = c }) os (there.calm c t m order).alike
+
+    made : p.unmade ≡ []
+    made = (there.calm c t m order).unmade
 
     alone : FormIsAlone above h p o os c t m
     alone e outside =
@@ -374,7 +378,8 @@ module _ (frames : Frames) (level : ℕ) {above : List Ancestor} {h : Head} {kid
         in
         let ends : token_read (Start (written_tag h)) (on p o os c t (later starts.start m))
         ≡ after = begins ∙ (ap (λ b. one_of b page_there) e ∙ (sym (closed_plain x page_there plain)
-        ∙ closes above h p o os c t at_start (stays at_start order_there) none [] first
+        ∙ closes above h p o os c t at_start (made at_start order_there)
+        (stays at_start order_there) none [] first
         (form_back above h p o os c t at_start first (modes_deeper x at_start.templates)
         (alone at_start order_there)))) in
         record {
@@ -399,7 +404,8 @@ module _ (frames : Frames) (level : ℕ) {above : List Ancestor} {h : Head} {kid
     whole : AreLed frames kids → ends_at_once h ≡ false → inside_faults frames h kids ≡ [] →
         AreGathered before (start_tag_text h ++ filling frames level h kids) false p o os c t
         (node (element_node h kids) none)
-    whole led e g = element_closed above h p o os c t at_start (stays at_start order_there)
+    whole led e g = element_closed above h p o os c t at_start (made at_start order_there)
+        (stays at_start order_there)
         (returns at_start order_there) before
         (behind (Start (written_tag h)) starts.place page_there) (filling frames level h kids)
         kids (starts.is page_there (begins ∙ ap (λ b. one_of b page_there) e))

@@ -7,7 +7,7 @@ use Rattle.html_page_nesting.specs.declared.reading.Space.TheVariants as nest
 use Rattle.typst_html_encode.specs.Reader.{drops_feed}
 use Rattle.html_page_names.specs.{ForeignNames.{lowered}, PageNames.{kind_names, of}, declared.kind.Kind.{Kind}}
 use Rattle.html_page_names.specs.declared.kind.Kind.TheVariants as kind
-use Rattle.html_page_stack.specs.{OpenElements.{OpenElement, html_mode, mode, named_mode}, Pages.{Page, StartTag, Start, opened, Taken}}
+use Rattle.html_page_stack.specs.{OpenElements.{OpenElement, html_mode, mode, mode_inside, named_mode}, Pages.{Page, StartTag, Start, opened, Taken}}
 use Rattle.html_page_stack.specs.declared.modes.Space.TheVariants as spaces
 use Rattle.html_page_tree.specs.PageBodies.{before as before_element}
 use Rattle.typst_html_nesting_laws.proofs.KindFacts.{AllFail, agree_in, agree_of, names}
@@ -64,5 +64,5 @@ begins_named name tag p e =
 
 pub mode_of : (name : List ℕ) (o : OpenElement) (os : List OpenElement) → o.head.name ≡ name →
     o.space ≡ spaces.Html → mode (o ∷ os) ≡ unwrap_or (named_mode name os)
-    (if length os == 0 then html_mode o.children else mode os)
+    (if length os == 0 then html_mode o.children else mode_inside (mode os))
 mode_of name o os n e = rw (e, n) refl

@@ -27,7 +27,7 @@ use Rattle.html_page_stack.specs.declared.modes.TableRule.TheVariants as rule
 use Rattle.html_page_tree.specs.PageTrees.{behind_token, by_mode, text_ended, token_read}
 use Rattle.html_page_read.specs.{DocumentTypes.{table_rule}, PageReading.{PageResult, answered, first_reader, page_result, root_made, run}}
 use Rattle.html_page_read.specs.PageTokens.{PageReader, finished}
-use Rattle.typst_html_nesting_laws.proofs.{Branches.{either_way, else_none, skip}, Closed.{calm_begun}, EndTags.{end_emits}, InnerTexts.{no_return}}
+use Rattle.typst_html_nesting_laws.proofs.{Branches.{either_way, else_none}, Closed.{calm_begun}, EndTags.{end_emits}, InnerTexts.{no_return}}
 use Rattle.typst_html_nesting_laws.proofs.Fillings.{around, behind_data, element_closed, form_back, inside_faults, nodes_filled, opened as opened_element, opened_moment, opened_page}
 use Rattle.typst_html_nesting_laws.proofs.Forms.{AreGathered, AreOrdered, IsFilled, Moment, filled_normal, later, normal_is, on, put_last, put_nodes, put_texted, texted_children, with_text_is}
 use Rattle.typst_html_nesting_laws.proofs.{KeptTags.{begun_plain, opened_back}, KindFacts.{names}, Rules.{found_none, tag_fits}, Texts.{text_leads}}
@@ -35,7 +35,7 @@ use Rattle.typst_html_nesting_laws.proofs.ListedFormats.{order_opened}
 use Rattle.typst_html_nesting_laws.proofs.Nodes.{ElementFits, IsInside, NodesFit, calm_on, element_fits, element_starts, kids_gathered, nodes_lead, rest, rest_fits, text_fits}
 use Rattle.typst_html_nesting_laws.proofs.Readers.{Emits, Takes, data_at, lowered_attrs, run_on, started, written_tag}
 use Rattle.typst_html_nesting_laws.proofs.RootParts.{IsPart, begins_named, mode_of, name_of, part_names, part_of}
-use Rattle.typst_html_nesting_laws.{proofs.{Tables.{is_table_mode, outside_texts, text_kept}, Templates.{closed_plain, has_with_text, hold_modes, is_template, modes_opened, modes_there, reads_body, reads_inside}, Turns.{html_token, is_told, mode_taken, read_mode}}, specs.TreesStay.{NodeIsReadable, TreesStay, no_notes}}
+use Rattle.typst_html_nesting_laws.{proofs.{Tables.{is_table_mode, outside_texts, text_kept}, Templates.{closed_plain, has_with_text, hold_modes, is_template, modes_opened, modes_there, reads_body, reads_inside}, Turns.{IsWhole, end_whole, finish_whole, html_token, is_told, mode_taken, read_mode}}, specs.TreesStay.{NodeIsReadable, TreesStay, no_notes}}
 use Rattle.typst_html_nesting_laws.proofs.Ways.{IsCalm, begun, begun_element, ends_at_once, is_body_mode, is_page_place, open_space}
 
 -- one of the three elements, where it breaks no rule and is without a fault
@@ -163,12 +163,13 @@ nothing_behind frames pre_span due level (node n ns) h k = absurd (both_ways _ (
 module _ {above : List Ancestor} {p : Page} {o : OpenElement} (inner : InRoot above p o) where
   -- tokens within `html`, whose mode is by whether it has the head
   root_taken : (token : Token) (c : NodesView) (t : List ℕ) (m : Moment) (b : Bool) (r : Page) →
-      has_elements c ≡ b → by_mode (if b then AfterHead else BeforeHead) token (on p o [] c t m)
-      ≡ Taken r → token_read token (on p o [] c t m) ≡ behind_token token r
-  root_taken token c t m b r has h =
+      IsWhole token (on p o [] c t m) → has_elements c ≡ b →
+      by_mode (if b then AfterHead else BeforeHead) token (on p o [] c t m) ≡ Taken r →
+      token_read token (on p o [] c t m) ≡ behind_token token r
+  root_taken token c t m b r whole has h =
       let it : OpenElement = record o { children = c } in
       mode_taken token (on p o [] c t m) (if b then AfterHead else BeforeHead) r
-      inner.tables inner.framesets (either_way is_told b refl refl)
+      whole inner.tables inner.framesets (either_way is_told b refl refl)
       (html_token token it [] inner.space)
       (unfold names in (mode_of (codes "html") it [] inner.name inner.space)
       ∙ ap (λ x. if x then AfterHead else BeforeHead) has) h
@@ -191,7 +192,7 @@ module _ {above : List Ancestor} {p : Page} {o : OpenElement} (inner : InRoot ab
   white_there : (c : NodesView) (t : List ℕ) (m : Moment) → has_elements c ≡ true →
       Takes is_white_char (on p o [] c t m)
   white_there c t m has x text start passes some = root_taken (Char x) c text (later start m) true
-      (on p o [] c (text ++ x ∷ []) (later start m)) has (rw passes refl)
+      (on p o [] c (text ++ x ∷ []) (later start m)) refl has (rw passes refl)
 
 -- the head or the body in the root, which its start tag opens, and the mode that it brings
 module _ {frames : Frames} {above : List Ancestor} {h : Head} {kids : NodesView} {p : Page}
@@ -249,7 +250,7 @@ module _ {frames : Frames} {above : List Ancestor} {h : Head} {kids : NodesView}
   begun_there = part_begun x level here (on p o [] c t m)
       (omega (arith, inner.limit)) (root_outside inner c)
       (λ start. root_taken inner (Start (written_tag h)) c t (later start m) has
-      (opened (lowered h.name) (lowered_attrs h.attrs) (on p o [] c t (later start m))) elements
+      (opened (lowered h.name) (lowered_attrs h.attrs) (on p o [] c t (later start m))) refl elements
       (opens (on p o [] c t (later start m))))
 
   -- nodes are read in it
@@ -277,10 +278,10 @@ module _ {frames : Frames} {above : List Ancestor} {h : Head} {kids : NodesView}
 
   -- a token in it
   own_taken : (token : Token) (children : NodesView) (words : List ℕ) (n : Moment) (r : Page) →
-      by_mode own token (on page it outer children words n) ≡ Taken r →
+      IsWhole token (on page it outer children words n) → by_mode own token (on page it outer children words n) ≡ Taken r →
       token_read token (on page it outer children words n) ≡ behind_token token r
-  own_taken token children words n r h = mode_taken token
-      (on page it outer children words n) own r calm_page.tables calm_page.framesets told
+  own_taken token children words n r whole h = mode_taken token
+      (on page it outer children words n) own r whole calm_page.tables calm_page.framesets told
       (html_token token (record it { children = children }) outer html_it) (mode_it children) h
 
   -- the head, whose end tag closes it
@@ -288,7 +289,8 @@ module _ {frames : Frames} {above : List Ancestor} {h : Head} {kids : NodesView}
       (g : AreGathered reader (start_tag_text h ++ rest frames level h kids) false p o [] c t
       (node (element_node h kids) none)) × (has_elements g.children ≡ true)
   head_read closes = (
-    element_closed above h p o [] c t at_start (ap is_removed inner.space)
+    element_closed above h p o [] c t at_start (inner.calm c t at_start order).unmade
+        (ap is_removed inner.space)
         (λ n order_in. form_back above h p o [] c t at_start n
         (none_open n order_in ∙ sym (ap (λ b. b || hold_modes m.templates) plain_it
         ∙ (modes_there (o ∷ []) m.templates order.1 ∙ around_it)))
@@ -297,6 +299,7 @@ module _ {frames : Frames} {above : List Ancestor} {h : Head} {kids : NodesView}
         (rest frames level h kids) kids begun_there filled
         (λ children words n order_in. own_taken (End (lowered h.name)) children words n
         (closed true (on page it outer children words n))
+        (end_whole (lowered h.name) (on page it outer children words n) refl)
         (closes (on page it outer children words n))
         ∙ sym (closed_plain it (on page it outer children words n) plain_it)),
     element_counts (texted_children o.head.span c t) it.head
@@ -306,7 +309,7 @@ module _ {frames : Frames} {above : List Ancestor} {h : Head} {kids : NodesView}
   -- the body, whose end tag and that of the root do nothing
   body_read : is_table_mode own ≡ false → ((n : List ℕ) → of kind.Root n ≡ true → (q : Page) →
       by_mode own (End n) q ≡ Taken q) →
-      ((q : Page) → hold_modes q.templates ≡ false → by_mode own Finish q ≡ Taken q) →
+      ((q : Page) → by_mode own Finish q ≡ Taken q) →
       of kind.Root (lowered h.name) ≡ true → (root : List ℕ) → of kind.Root (lowered root) ≡ true →
       ((fresh : Bool) (place : ℕ) (q : Page) →
       Emits (data_at fresh place q) (end_tag_text root) (End (lowered root)) q) → RootIsRead
@@ -326,15 +329,16 @@ module _ {frames : Frames} {above : List Ancestor} {h : Head} {kids : NodesView}
       (ap is_table_mode (mode_it children) ∙ outside)) in
       let ended : (n : List ℕ) (start : ℕ) → of kind.Root n ≡ true → token_read (End n) (last start)
       ≡ last start = λ n start k. own_taken (End n) children words (later start filled.moment)
-      (last start) (stays n k (last start)) ∙ goes_on start in
+      (last start) (end_whole n (last start) refl) (stays n k (last start)) ∙ goes_on start in
       let whole =
       run_on reader _ _ (start_tag_text h ++ rest frames level h kids) (end_tag_text root)
       (run_on reader _ _ (start_tag_text h) (rest frames level h kids) begun_there
       (filled.is (last first) (ended (lowered h.name) first is_own)))
       (e.is (last e.start) (ended (lowered root) e.start is_root)) in
       let over = own_taken Finish children words (later (e.place + 1) filled.moment)
-      (last (e.place + 1)) (finishes (last (e.place + 1))
-      (none_open filled.moment filled.ordered)) ∙ goes_on (e.place + 1) in
+      (last (e.place + 1)) (finish_whole (last (e.place + 1))
+      (none_open filled.moment filled.ordered)) (finishes (last (e.place + 1)))
+      ∙ goes_on (e.place + 1) in
       let end : Page = settled (last (e.place + 1)) in
       record {
         root = root_at z w;
@@ -399,7 +403,7 @@ module _ (frames : Frames) (pre_span : Bool) (level : ℕ) {above : List Ancesto
         (λ q. rw (no_html, is_body) refl) InBody refl
         (λ it os e html. mode_of (codes "body") it os (e ∙ name) html) places.Body
         (place_part (codes "body") x name) refl (λ e. refl) refl root_stays
-        (λ q e. skip _ e refl)
+        (λ q. refl)
         (ap (of kind.Root) low) root is_root ends
 
     head_first : h.name ≡ codes "head" → has_elements c ≡ false →
@@ -528,6 +532,7 @@ module _ (frames : Frames) (limit : ℕ) (h : Head) (kids : NodesView) (deep : 5
       form = refl;
       moved = refl;
       framesets = refl;
+      unmade = refl;
       tables = refl;
     };
     tables = refl;
@@ -552,7 +557,7 @@ module _ (frames : Frames) (limit : ℕ) (h : Head) (kids : NodesView) (deep : 5
       ≡ text_ended (opened (lowered h.name) (lowered_attrs h.attrs) (started s (typed limit))) =
       λ s. mode_taken (Start (written_tag h)) (started s (typed limit)) BeforeHtml
       (opened (lowered h.name) (lowered_attrs h.attrs) (started s (typed limit))) refl
-      refl refl refl refl
+      refl refl refl refl refl
       (begins_named (codes "html") (written_tag h) (started s (typed limit)) low) in
       root_on (first_reader limit 0) (data_at false 15 (typed limit)) (codes "<!DOCTYPE html>")
       ((start_tag_text h ++ rest frames 0 h kids) ++ []) (type_read limit)

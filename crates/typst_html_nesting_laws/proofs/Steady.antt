@@ -9,12 +9,16 @@ use Rattle.html_page_nesting.specs.Ancestors as nest
 use Rattle.html_page_nesting.specs.declared.reading.Place.TheVariants as place
 use Rattle.html_page_names.specs.{PageNames.{kind_names, of}, declared.kind.Kind.{Kind}}
 use Rattle.html_page_names.specs.declared.kind.Kind.TheVariants as kind
-use Rattle.html_page_stack.specs.{OpenElements.{OpenElement, is_at, is_html, mode, named_mode}, declared.modes.Mode.{Mode}}
-use Rattle.html_page_stack.specs.declared.modes.Mode.TheVariants.{InHead, InHeadNoscript, InText, InTable, InCaption, InColumns, InSection, InRow, InCell}
+use Rattle.html_page_stack.specs.{OpenElements.{OpenElement, is_at, is_html, mode, mode_inside, named_mode}, declared.modes.Mode.{Mode}}
+use Rattle.html_page_stack.specs.declared.modes.Mode.TheVariants.{BeforeHead, InHead, InHeadNoscript, InText, InTable, InCaption, InColumns, InSection, InRow, InCell}
 use Rattle.typst_html_nesting_laws.proofs.{Alike.{at_is, space_html}, Branches.{decide, either, of_two, second_false, skip}}
 use Rattle.typst_html_nesting_laws.proofs.{Stands.{Stands, html_stands}, KindFacts.{agree_of, names, none_of}}
 use Rattle.typst_html_nesting_laws.proofs.{Modes.{brings, mode_around, own_mode, template_mode}, Rules.{begins_foreign, has, named_kept}}
 use Rattle.typst_html_nesting_laws.proofs.{Turns.{read_mode}, Ways.{AreAlike, IsAlike, IsSteady, ends_at_once, is_body_mode, is_page_place}}
+
+body_inside : (m : Mode) → is_body_mode (read_mode (mode_inside m)) ≡ is_body_mode (read_mode m)
+body_inside BeforeHead = refl
+body_inside _ = refl
 
 -- an element that brings no mode stands in that of the elements around it
 pub around_steady : (above : List Ancestor) (os : List OpenElement) → AreAlike above os →
@@ -24,7 +28,8 @@ pub around_steady : (above : List Ancestor) (os : List OpenElement) → AreAlike
 around_steady [] os alike steady body o none = absurd (cc)
 around_steady (a ∷ above) [] alike steady body o none = absurd alike
 around_steady (a ∷ above) (q ∷ qs) alike steady body o none =
-    ap (λ m. is_body_mode (read_mode m)) (mode_around o q qs none) ∙ steady body
+    ap (λ m. is_body_mode (read_mode m)) (mode_around o q qs none)
+    ∙ (body_inside (mode (q ∷ qs)) ∙ steady body)
 
 -- the place in an element of a kind
 placed_by : (n : List ℕ) (os : List OpenElement) (k : Kind) (p : Place) →

@@ -48,7 +48,7 @@ all_taken : (above : List Ancestor) (p : Page) → IsCalm above p →
     is_text_mode (mode p.stack) ≡ true → Takes (λ c. true) p
 all_taken above p calm h c text start passes some =
     let q : Page = texted text start p in
-    turn_taken (Char c) q (with_char c q) calm.tables
+    turn_taken (Char c) q (with_char c q) refl calm.tables
     (turn_text c q some calm.framesets (none_closed p.stack p.formats calm.ordered)
     (mode_passes is_text_mode refl refl q calm.framesets calm.modes h))
 
@@ -112,7 +112,7 @@ pub white_takes : (above : List Ancestor) (p : Page) → IsCalm above p → is_p
 white_takes above p calm page body c text start passes some =
     let w = white_place (place_of above) page body in
     let q : Page = texted text start p in
-    mode_taken (Char c) q w.mode (with_char c q) calm.tables calm.framesets
+    mode_taken (Char c) q w.mode (with_char c q) refl calm.tables calm.framesets
     (told_in (place_of above) w.mode w.is) (white_html w.mode above p.stack calm.alike w.is c)
     (mode_is w.mode above p.stack calm.alike w.is) (w.read c q passes some
     (at_place (place_of above) above p.stack calm.alike refl))

@@ -5,11 +5,12 @@ use Rattle.std.specs.Prelude.{if◌then◌else◌, Option, Some, None, unwrap_or
 use Rattle.html_dom_tree.specs.Tree.{NodesView}
 use Rattle.html_page_names.specs.PageNames.{of}
 use Rattle.html_page_names.specs.declared.kind.Kind.TheVariants as kind
-use Rattle.html_page_stack.specs.OpenElements.{OpenElement, has, has_elements, html_mode, is_at, is_html, is_of, mode, named_mode, with_last_text, with_text}
+use Rattle.html_page_stack.specs.OpenElements.{OpenElement, has, has_elements, html_mode, is_at, is_html, is_of, mode, mode_inside, named_mode, with_last_text, with_text}
 use Rattle.html_page_stack.specs.Pages.{Page, closed}
 use Rattle.html_page_stack.specs.declared.modes.FramesetRule.TheVariants as frameset
-use Rattle.html_page_stack.specs.declared.modes.Mode.{Mode, TheVariants.{AfterHead, InBody, InFrameset, InTemplate}}
-use Rattle.html_page_tree.specs.PageTrees.{mode_within, page_mode}
+use Rattle.html_page_stack.specs.declared.modes.{Mode.{Mode, TheVariants.{AfterHead, BeforeHead, InBody, InFrameset, InTemplate}}, TemplateMode.{TemplateMode}}
+use Rattle.html_page_stack.specs.declared.modes.TemplateMode.TheVariants as modes
+use Rattle.html_page_tree.specs.PageTrees.{mode_of, mode_within, page_mode}
 use Rattle.typst_html_nesting_laws.proofs.{Branches.{decide, either_way, second_false}, Modes.{tells, template_mode}, Turns.{is_told, read_mode}}
 
 abbrev pub is_template : OpenElement → Bool
@@ -17,7 +18,7 @@ is_template = is_of (of kind.Template)
 
 -- the modes of the open templates, innermost first
 abbrev pub TemplateModes : Type 0
-TemplateModes = List Mode
+TemplateModes = List TemplateMode
 
 -- the modes of a `template` in which no part of a table stands: nothing but content of the head is
 -- begun in it, or it is read as a body
@@ -28,12 +29,12 @@ is_template_mode m = false
 
 abbrev begin_well : TemplateModes → Bool
 begin_well [] = false
-begin_well (m ∷ ms) = is_template_mode m
+begin_well (m ∷ ms) = is_template_mode (mode_of m)
 
 -- whether the innermost `template` is read as a body, if one is open
 abbrev pub reads_body : TemplateModes → Bool
 reads_body [] = true
-reads_body (InBody ∷ ms) = true
+reads_body (modes.Body ∷ ms) = true
 reads_body ms = false
 
 -- whether these are the modes of the templates among the open elements, of which each that holds an
@@ -55,7 +56,7 @@ hold_modes ms = not (length ms == 0)
 -- the modes once an element is opened, and once it is closed
 
 abbrev pub modes_if : (template : Bool) → TemplateModes → TemplateModes
-modes_if template ms = if template then InTemplate ∷ ms else ms
+modes_if template ms = if template then modes.Unset ∷ ms else ms
 
 abbrev pub modes_in : OpenElement → TemplateModes → TemplateModes
 modes_in o ms = modes_if (is_template o) ms
@@ -65,7 +66,7 @@ modes_behind o ms = if is_template o then drop 1 ms else ms
 
 -- the modes once the innermost `template` is read as a body
 abbrev pub read_modes : TemplateModes → TemplateModes
-read_modes ms = InBody ∷ drop 1 ms
+read_modes ms = modes.Body ∷ drop 1 ms
 
 -- the page once the current node is closed by its own end tag
 abbrev pub closed_own : OpenElement → Page → Page
@@ -222,6 +223,10 @@ or_told (Some n) m t e = absurd (false≢true (sym (ap is_told e) ∙ t))
 html_told : (children : NodesView) → is_told (html_mode children) ≡ true
 html_told children = either_way is_told (has_elements children) refl refl
 
+inside_template : (m : Mode) → mode_inside m ≡ InTemplate → m ≡ InTemplate
+inside_template BeforeHead e = absurd (cc)
+inside_template _ e = e
+
 mode_holds : (os : List OpenElement) → mode os ≡ InTemplate → has (of kind.Template) os ≡ true
 mode_holds [] e = absurd (cc)
 mode_holds (o ∷ []) e = decide (is_template o) (or_left (is_template o) _)
@@ -229,14 +234,16 @@ mode_holds (o ∷ []) e = decide (is_template o) (or_left (is_template o) _)
     (own_told o [] t) e)) ∙ html_told o.children)))
 mode_holds (o ∷ q ∷ qs) e = decide (is_template o) (or_left (is_template o) _)
     (λ t. or_right (is_template o) _ (mode_holds (q ∷ qs)
-    (or_told _ (mode (q ∷ qs)) (own_told o (q ∷ qs) t)
+    (inside_template (mode (q ∷ qs)) (or_told _ (mode_inside (mode (q ∷ qs)))
+    (own_told o (q ∷ qs) t)
     (sym (ap (λ b. unwrap_or (if is_html o.space then named_mode o.head.name (q ∷ qs) else None)
-    (if b then html_mode o.children else mode (q ∷ qs))) (eqb-suc-zero (length qs))) ∙ e))))
+    (if b then html_mode o.children else mode_inside (mode (q ∷ qs)))) (eqb-suc-zero (length qs)))
+    ∙ e)))))
 
 within_body : (m : Mode) (ms : TemplateModes) → (m ≡ InTemplate → hold_modes ms ≡ true) →
     reads_body ms ≡ true → mode_within m ms frameset.Ignored ≡ read_mode m
 within_body InTemplate [] there reads = absurd (false≢true (there refl))
-within_body InTemplate (InBody ∷ ms) there reads = refl
+within_body InTemplate (modes.Body ∷ ms) there reads = refl
 within_body InTemplate (m ∷ ms) there reads = absurd (false≢true reads)
 within_body AfterHead ms there reads = refl
 within_body _ ms there reads = refl
@@ -252,8 +259,8 @@ body_mode p barred modes reads = ap (mode_within (mode p.stack) p.templates) bar
 within_template : (ms : TemplateModes) → begin_well ms ≡ true → reads_body ms ≡ false →
     mode_within InTemplate ms frameset.Ignored ≡ InTemplate
 within_template [] h reads = absurd (false≢true h)
-within_template (InTemplate ∷ ms) h reads = refl
-within_template (InBody ∷ ms) h reads = absurd (false≢true (sym reads))
+within_template (modes.Unset ∷ ms) h reads = refl
+within_template (modes.Body ∷ ms) h reads = absurd (false≢true (sym reads))
 within_template (m ∷ ms) h reads = absurd (false≢true h)
 
 at_template : (os : List OpenElement) → is_at (of kind.Template) os ≡ true → mode os ≡ InTemplate
@@ -276,24 +283,24 @@ head_mode p barred at modes reads = ap (mode_within (mode p.stack) p.templates) 
 
 -- there is no other mode in a `template`
 
-first_by : (template raw : Bool) (os : List OpenElement) (m : Mode) (ms : TemplateModes) →
-    (are_modes os (m ∷ ms) ≡ true → is_template_mode m ≡ true) →
-    modes_by template raw os (m ∷ ms) ≡ true → is_template_mode m ≡ true
+first_by : (template raw : Bool) (os : List OpenElement) (m : TemplateMode)
+    (ms : TemplateModes) → (are_modes os (m ∷ ms) ≡ true → is_template_mode (mode_of m) ≡ true) →
+    modes_by template raw os (m ∷ ms) ≡ true → is_template_mode (mode_of m) ≡ true
 first_by true raw os m ms rest h = (and_parts _ _ h).0
 first_by false raw os m ms rest h = rest (and_parts _ _ h).1
 
-first_mode : (os : List OpenElement) (m : Mode) (ms : TemplateModes) →
-    are_modes os (m ∷ ms) ≡ true → is_template_mode m ≡ true
+first_mode : (os : List OpenElement) (m : TemplateMode) (ms : TemplateModes) →
+    are_modes os (m ∷ ms) ≡ true → is_template_mode (mode_of m) ≡ true
 first_mode [] m ms h = absurd (false≢true h)
 first_mode (o ∷ os) m ms h =
     first_by (is_template o) (is_of (of kind.Raw) o) os m ms (first_mode os m ms) h
 
 -- what holds of the mode that the open elements tell, and of those of templates, holds of a page's
 within_any : (test : Mode → Bool) → test InTemplate ≡ true → test InBody ≡ true → (m : Mode)
-    (ms : TemplateModes) → ((n : Mode) (ns : TemplateModes) → ms ≡ n ∷ ns →
-    is_template_mode n ≡ true) → test m ≡ true → test (mode_within m ms frameset.Ignored) ≡ true
+    (ms : TemplateModes) → ((n : TemplateMode) (ns : TemplateModes) → ms ≡ n ∷ ns →
+    is_template_mode (mode_of n) ≡ true) → test m ≡ true → test (mode_within m ms frameset.Ignored) ≡ true
 within_any test a b InTemplate [] first h = h
-within_any test a b InTemplate (m ∷ ms) first h = by_first m (first m ms refl) where
+within_any test a b InTemplate (m ∷ ms) first h = by_first (mode_of m) (first m ms refl) where
   by_first : (m : Mode) → is_template_mode m ≡ true → test m ≡ true
   by_first InTemplate e = a
   by_first InBody e = b

@@ -56,6 +56,7 @@ pub record IsCalm (above : List Ancestor) (p : Page) : Type 0 where
   pub form : p.form ≡ form_of p.stack
   pub moved : p.moved ≡ false
   pub framesets : p.framesets ≡ frameset.Ignored
+  pub unmade : p.unmade ≡ []
   pub tables : p.tables ≡ rule.ClosesP
 
 -- the modes in which elements and texts of a body stand

@@ -1,0 +1,9 @@
+pub mod Bodies
+pub mod Branches
+pub mod Heads
+pub mod Lengths
+pub mod Modes
+pub mod Roots
+pub mod Tables
+pub mod TokensTaken
+pub mod Turns
