@@ -7,7 +7,7 @@ use Rattle.html_page_names.specs.declared.kind.Kind.TheVariants as kind
 use Rattle.html_page_stack.specs.OpenElements.{OpenElement, has_elements, html_mode, is_at, is_html, mode, mode_inside, named_mode}
 use Rattle.html_page_stack.specs.declared.modes.{Mode.{Mode}, FramesetRule.{FramesetRule}, Space.{Space}, TemplateMode.{TemplateMode}}
 use Rattle.html_page_stack.specs.declared.modes.FramesetRule.TheVariants as frameset
-use Rattle.html_page_stack.specs.declared.modes.Mode.TheVariants.{BeforeHtml, BeforeHead, AfterHead, InTemplate}
+use Rattle.html_page_stack.specs.declared.modes.Mode.TheVariants.{BeforeHtml, BeforeHead, AfterHead, InTemplate, AfterFrameset}
 use Rattle.html_page_stack.specs.declared.modes.TemplateMode.TheVariants as modes
 use Rattle.html_page_tree.specs.PageTrees.{mode_of, mode_within}
 use Rattle.html_page_tree_laws.proofs.Branches.{either_way}
@@ -97,31 +97,32 @@ mode_headed o p ps = either_mode is_headed (own o.space o.head.name (p ∷ ps)) 
     (own_brought o.space o.head.name (p ∷ ps))
     (rw (eqb-suc-zero (length ps)) (inside_headed (mode (p ∷ ps))))
 
+-- and so of the mode of a page, if it holds of those of templates and behind a frameset
+within : (test : Mode → Bool) → ((m : TemplateMode) → test (mode_of m) ≡ true) →
+    test AfterFrameset ≡ true → (m : Mode) (ms : List TemplateMode) (r : FramesetRule) →
+    test m ≡ true → test (mode_within m ms r) ≡ true
+within test set behind InTemplate [] r h = h
+within test set behind InTemplate (m ∷ ms) r h = set m
+within test set behind AfterHead ms frameset.Behind h = behind
+within test set behind AfterHead ms frameset.BehindHtml h = behind
+within test set behind AfterHead ms _ h = h
+within test set behind _ ms r h = h
+
 within_begun : (m : Mode) (ms : List TemplateMode) (r : FramesetRule) → is_begun m ≡ true →
     is_begun (mode_within m ms r) ≡ true
 unfolding is_begun
-within_begun InTemplate [] r h = refl
-within_begun InTemplate (m ∷ ms) r h = in_template m where
+within_begun = within is_begun in_template refl where
   in_template : (m : TemplateMode) → is_begun (mode_of m) ≡ true
   in_template modes.Unset = refl
   in_template _ = refl
-within_begun AfterHead ms frameset.Behind h = refl
-within_begun AfterHead ms frameset.BehindHtml h = refl
-within_begun AfterHead ms _ h = refl
-within_begun _ ms r h = h
 
 within_headed : (m : Mode) (ms : List TemplateMode) (r : FramesetRule) → is_headed m ≡ true →
     is_headed (mode_within m ms r) ≡ true
 unfolding is_headed
-within_headed InTemplate [] r h = refl
-within_headed InTemplate (m ∷ ms) r h = in_template m where
+within_headed = within is_headed in_template refl where
   in_template : (m : TemplateMode) → is_headed (mode_of m) ≡ true
   in_template modes.Unset = refl
   in_template _ = refl
-within_headed AfterHead ms frameset.Behind h = refl
-within_headed AfterHead ms frameset.BehindHtml h = refl
-within_headed AfterHead ms _ h = refl
-within_headed _ ms r h = h
 
 -- before `html` no element is open
 pub none_open : (os : List OpenElement) (ms : List TemplateMode) (r : FramesetRule) →
