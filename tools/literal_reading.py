@@ -1,7 +1,7 @@
 """A literal reading of tree construction (HTML Standard 13.2.6), for the pages of tools/random_pages: each insertion
 mode is a method, with the standard's rules in its words, and changes the tree step by step, one character at a time.
 It shares no idea with the definitions of `crates/html_page_tree`, which is its worth: whoever changes it should look
-at the standard alone. It was written from memory of the standard's text. tools/literal_body.py has the rules for a
+at the standard alone. It was not compared with the standard's text word by word. tools/literal_body.py has the rules for a
 body, tools/literal_tree.py what all modes share. It is a module, not a command.
 """
 
