@@ -1,5 +1,6 @@
 pub mod Prefixes
 pub mod Replaced
+pub mod SchemeTests
 pub mod Srcsets
 pub mod Urls
 pub mod Words
