@@ -12,3 +12,4 @@ pub mod MisnestedViews
 pub mod MisnestingTexts
 pub mod Walks
 pub mod Passing
+pub mod Kept

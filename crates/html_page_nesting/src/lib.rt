@@ -10,6 +10,7 @@ mod content;
 mod element;
 mod finding;
 mod inside;
+mod kept;
 mod misnested_sink;
 mod misnesting;
 pub mod page;

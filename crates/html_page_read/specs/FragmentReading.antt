@@ -1,11 +1,13 @@
 -- Reading a fragment as a browser does in a `body` (HTML Standard 13.4), except that the fragment is
--- refused where a page would be.
-use Rattle.std.specs.Prelude.{◌≡◌, ℕ, ◌+◌, ◌==◌, List, [], ◌∷◌, if◌then◌else◌, Result, Ok, IfOk, IfErr, Vec}
+-- refused where a page would be, or only for too many copies.
+use Rattle.std.specs.Prelude.{◌≡◌, ℕ, ◌+◌, Bool, true, false, ◌==◌, List, [], ◌∷◌, if◌then◌else◌, Option, Some, None, Result, Ok, IfOk, IfErr, Vec}
 use Rattle.std.specs.declared.alloc.Global.{Global}
 use Rattle.html_dom_tree.specs.Tree.{NodeView, tag_node, text_node, element_node, frame_node, NodesView, none, node, ElementView}
 use Rattle.html_dom_tree.specs.{Views.{nodes_view}, declared.node.HtmlNode.{HtmlNode}}
 use Rattle.html_page_stack.specs.Pages as pages
-use Rattle.html_page_stack.specs.Pages.{first_page}
+use Rattle.html_page_stack.specs.Pages.{Page, first_page}
+use Rattle.html_page_stack.specs.declared.fault.PageRefusal.{PageRefusal}
+use Rattle.html_page_stack.specs.declared.fault.PageRefusal.TheVariants as refusal
 use Rattle.html_page_tree.specs.FragmentPages.{fragment_begun}
 use Rattle.html_page_read.specs.{PageAnswers.{ArePlaced, IsFault}, PageReading.{PageResult, page_result, reader_at, run}}
 use Rattle.html_page_read.specs.PageTokens.{PageReader, finished}
@@ -25,6 +27,26 @@ fragment_passed limit (c ∷ cs) = if c == 0xfeff then run (fragment_reader limi
 -- what the page of a fragment is read as
 abbrev pub fragment_read : (limit : ℕ) → List ℕ → PageResult
 fragment_read limit text = page_result (finished (fragment_passed limit text)).page
+
+-- whether a reader can go on at such a limit: of an element that is too deep only the tags are passed
+-- over, and of too many attributes the last ones
+abbrev pub is_passed : PageRefusal → Bool
+is_passed refusal.TooDeep = true
+is_passed refusal.TooManyAttributes = true
+is_passed refusal.TooManyCopies = false
+
+abbrev pub unless_passed : Option (PageRefusal × ℕ) → Option (PageRefusal × ℕ)
+unless_passed None = None
+unless_passed (Some refused) = if is_passed refused.0 then None else Some refused
+
+-- the page, which is not refused for such a limit
+abbrev pub passed_limits : Page → Page
+passed_limits p = record p { refusal = unless_passed p.refusal }
+
+-- what the page of a fragment is read as by a reader that goes on there
+abbrev pub any_fragment_read : (limit : ℕ) → List ℕ → PageResult
+any_fragment_read limit text =
+    page_result (passed_limits (finished (fragment_passed limit text)).page)
 
 abbrev pub node_children : NodeView → NodesView
 node_children (tag_node t) = none

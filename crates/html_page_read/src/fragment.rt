@@ -12,7 +12,7 @@ use crate::read::{BYTE_ORDER_MARK, answer, run};
 use crate::reader::Reader;
 use html_dom_tree::text::split_first;
 use html_dom_tree::{HtmlElement, HtmlNode};
-use html_page_stack::Page;
+use html_page_stack::{Page, PageRefusal};
 use html_page_tree::begin_fragment;
 use std::alloc::{AllocError, Global};
 
@@ -65,6 +65,61 @@ pub fn read_fragment(
     let mut reader = reader_behind(alloc, text, limit)?;
     reader.finish()?;
     nodes_answer(alloc, text, reader.reading.page)
+}
+
+/// Reads a fragment like [`read_fragment`], but goes on at the limits of elements: of an element
+/// that is deeper than `limit` only the tags are passed over, and what stands in it goes to the
+/// deepest element around it; of the attributes of a tag those behind the first 256 are left out.
+///
+/// # Errors
+///
+/// [`PageFault::Refused`] with
+/// [`PageRefusal::TooManyCopies`](html_page_stack::PageRefusal::TooManyCopies) and its place, if none
+/// of these limits was passed before it.
+///
+/// ```
+/// use html_page::{HtmlNode, read_any_fragment};
+///
+/// let alloc = rt.alloc();
+/// let (nodes, _) = read_any_fragment(alloc, "<p>low <b>tide</b>", 1)?;
+/// let Some(HtmlNode::Element(paragraph)) = nodes.first() else {
+///     panic!(rt; "a paragraph");
+/// };
+/// assert_eq!(rt; paragraph.children.len(), 1); // the text `low tide`
+/// ```
+pub fn read_any_fragment(
+    alloc: Global,
+    text: &str,
+    limit: usize,
+) -> Result<(Vec<HtmlNode>, PageNotes), PageFault>
+    requires some_limit { 1 ≤ limit }
+    requires low_limit { limit ≤ 10000 }
+    ensures { GivesNodes result (chars text.now)
+        (fragments.any_fragment_read limit (chars text.now)) }
+{
+    let mut reader = reader_behind(alloc, text, limit)?;
+    reader.finish()?;
+    let mut page = reader.reading.page;
+    pass_limits(&mut page);
+    nodes_answer(alloc, text, page)
+}
+
+/// Takes the refusal of a page back, if the reader can go on at its limit.
+fn pass_limits(page: &mut Page)
+    ensures { page_of page.new ≡ fragments.passed_limits (page_of page.old) }
+{
+    if let Some((refusal, _)) = page.refusal
+        && is_passed(refusal)
+    {
+        page.refusal = None;
+    }
+}
+
+/// Returns whether a reader can go on at such a limit.
+fn is_passed(refusal: PageRefusal) -> bool
+    ensures { result ≡ fragments.is_passed refusal }
+{
+    !matches!(refusal, PageRefusal::TooManyCopies)
 }
 
 /// Returns the children of a node, if it is an element.

@@ -30,6 +30,6 @@ mod values;
 
 pub use bytes::decode_page_bytes;
 pub use fault::{PageFault, PageNote, PageNotes};
-pub use fragment::read_fragment;
+pub use fragment::{read_any_fragment, read_fragment};
 pub use place::Places;
 pub use read::{read_page, read_page_bytes};
