@@ -1,0 +1,97 @@
+//! A policy, and what it lets stay.
+
+ghost use Rattle.std.specs.Prelude.{◌≡◌};
+ghost use Rattle.html_names_core.specs.Names.{stands_in};
+ghost use Rattle.html_clean_policy.specs.{Policies.{allows, is_dropped, is_never_kept}, PolicyViews.{policy_view}};
+
+use html_names_core::{HtmlAttr, HtmlTag};
+use html_page_names::{Kind, is_one_of, keeps_case, kinds_of};
+
+/// What may stay of foreign HTML.
+#[derive(Drop)]
+pub struct Policy {
+    elements: Vec<HtmlTag>,
+    attrs: Vec<HtmlAttr>,
+    own_attrs: Vec<(HtmlTag, HtmlAttr)>,
+    data_attrs: bool,
+    schemes: Vec<String>,
+    relative: bool,
+    properties: Vec<String>,
+    prefix: String,
+    rel: Option<String>,
+}
+
+/// Returns whether an element goes with all that is in it, whatever the policy.
+#[tactic(auto, unfolding(crate::specs::Policies::is_dropped))]
+pub fn is_dropped(tag: &HtmlTag) -> bool
+    ensures { result ≡ is_dropped tag.now }
+{
+    let name = tag.resolve();
+    let kinds = kinds_of(name);
+    kinds.has(Kind::Raw)
+        || kinds.has(Kind::Template)
+        || kinds.has(Kind::Svg)
+        || kinds.has(Kind::Math)
+        || is_one_of(
+            &[
+                "applet",
+                "base",
+                "embed",
+                "frameset",
+                "link",
+                "meta",
+                "noscript",
+                "object",
+                "plaintext",
+            ],
+            name,
+        )
+}
+
+/// Returns whether an element gives place to its children, whatever the policy.
+#[tactic(auto, unfolding(crate::specs::Policies::is_never_kept))]
+pub fn is_never_kept(tag: &HtmlTag) -> bool
+    ensures { result ≡ is_never_kept tag.now }
+{
+    let name = tag.resolve();
+    !keeps_case(name)
+        || is_one_of(
+            &[
+                "basefont",
+                "bgsound",
+                "body",
+                "frame",
+                "head",
+                "html",
+                "image",
+                "keygen",
+                "listing",
+                "mprescripts",
+                "mspace",
+                "param",
+                "selectedcontent",
+            ],
+            name,
+        )
+}
+
+fn holds(names: &[HtmlTag], tag: &HtmlTag) -> bool
+    ensures { result ≡ stands_in names.now tag.now }
+{
+    for name in names {
+        if *name == *tag {
+            return true;
+        }
+    }
+    false
+}
+
+impl Policy {
+    /// Returns whether an element with that name stays.
+    #[tactic(auto, unfolding(crate::specs::Policies::allows))]
+    pub fn allows(&self, tag: &HtmlTag) -> bool
+        ensures { result ≡ allows (policy_view self.now) tag.now }
+    {
+        holds(&self.elements, tag) && !is_dropped(tag) && !is_never_kept(tag)
+    }
+}
