@@ -29,10 +29,16 @@ pub record PolicyView : Type 0 where
 abbrev pub dropped_names : List (List ℕ)
 dropped_names = listed_names (codes "applet base embed frameset link meta noscript object plaintext")
 
+unfoldable pub has_dropped_kind : (name : List ℕ) → Bool
+has_dropped_kind name =
+    of kind.Raw name || of kind.Template name || of kind.Svg name || of kind.Math name
+
+unfoldable pub has_dropped_name : (name : List ℕ) → Bool
+has_dropped_name name = stands_in dropped_names name
+
 -- whether an element of that name goes with all that is in it, whatever the policy
 unfoldable pub is_dropped : (name : List ℕ) → Bool
-is_dropped name = of kind.Raw name || of kind.Template name || of kind.Svg name
-    || of kind.Math name || stands_in dropped_names name
+is_dropped name = has_dropped_kind name || has_dropped_name name
 
 -- elements that a body can't contain as they are written: a parser ignores or renames their start
 -- tags (HTML Standard 13.2.6.4.7), reads an end tag where none is written or none where one is, or
