@@ -1,0 +1,15 @@
+-- The words of a text, which ASCII white space separates (Infra Standard 4.7, "split on ASCII
+-- whitespace").
+use Rattle.std.specs.{Char.{is_ascii_whitespace}, List.{filter, join_with_byte, slice_split}}
+use Rattle.std.specs.Prelude.{ℕ, Bool, true, false, List, [], ◌∷◌}
+
+abbrev pub is_some_word : List ℕ → Bool
+is_some_word [] = false
+is_some_word (c ∷ cs) = true
+
+unfoldable pub words : List ℕ → List (List ℕ)
+words text = filter is_some_word (slice_split is_ascii_whitespace text)
+
+-- the words with one space between each two
+unfoldable pub joined : List (List ℕ) → List ℕ
+joined = join_with_byte 32
