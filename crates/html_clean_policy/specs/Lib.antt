@@ -1,2 +1,5 @@
+pub mod AttrNames
+pub mod AttrUses
+pub mod LinkRels
 pub mod Policies
 pub mod PolicyViews

@@ -10,15 +10,15 @@ use html_page_names::{Kind, is_one_of, keeps_case, kinds_of};
 /// What may stay of foreign HTML.
 #[derive(Drop)]
 pub struct Policy {
-    elements: Vec<HtmlTag>,
-    attrs: Vec<HtmlAttr>,
-    own_attrs: Vec<(HtmlTag, HtmlAttr)>,
-    data_attrs: bool,
-    schemes: Vec<String>,
-    relative: bool,
-    properties: Vec<String>,
-    prefix: String,
-    rel: Option<String>,
+    pub(crate) elements: Vec<HtmlTag>,
+    pub(crate) attrs: Vec<HtmlAttr>,
+    pub(crate) own_attrs: Vec<(HtmlTag, HtmlAttr)>,
+    pub(crate) data_attrs: bool,
+    pub(crate) schemes: Vec<String>,
+    pub(crate) relative: bool,
+    pub(crate) properties: Vec<String>,
+    pub(crate) prefix: String,
+    pub(crate) rel: Option<String>,
 }
 
 /// Elements that go with all that is in them, beside those of whole kinds.
