@@ -1,1 +1,2 @@
 mod DataNames
+mod FirstKept

@@ -1,7 +1,8 @@
 -- Which elements a policy lets stay.
 use Rattle.std.specs.Prelude.{◌≡◌, ℕ, Bool, true, not, ◌&&◌, ◌||◌, ◌==◌, List, [], ◌++◌, codes, Option}
-use Rattle.html_names_core.specs.{Characters.{all, is_lower, is_capital, is_digit, is_hyphen, is_text_char}, Names.{listed_names, stands_in}}
+use Rattle.html_names_core.specs.Names.{listed_names, stands_in}
 use Rattle.html_page_names.specs.{ForeignNames.{keeps_case}, PageNames.{of}}
+use Rattle.html_clean_policy.specs.Sound.{are_sound}
 use Rattle.html_page_names.specs.declared.kind.Kind.TheVariants as kind
 
 pub record PolicyView : Type 0 where
@@ -57,6 +58,6 @@ is_never_kept name = not (keeps_case [] name) || stands_in unkept_names name
 unfoldable pub allows : PolicyView → (name : List ℕ) → Bool
 allows p name = stands_in p.elements name && not (is_dropped name) && not (is_never_kept name)
 
--- a letter, a digit, `-` or `_`
-abbrev pub is_prefix_char : ℕ → Bool
-is_prefix_char c = is_lower c || is_capital c || is_digit c || is_hyphen c || (c == 95)
+-- what each policy ensures of its texts
+abbrev pub IsSound : PolicyView → Type 0
+IsSound p = are_sound p.properties p.prefix p.rel ≡ true

@@ -1,9 +1,13 @@
 //! What may stay of foreign HTML: a policy says which elements, attributes, URLs and css stay.
 #![tactic(auto)]
 
+mod allows;
 mod attr_use;
+mod elements;
+mod kept;
 mod link;
 mod names;
 mod policy;
 
-pub use policy::{Policy, is_dropped, is_never_kept};
+pub use elements::{is_dropped, is_never_kept};
+pub use policy::Policy;
