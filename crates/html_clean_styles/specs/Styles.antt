@@ -1,8 +1,8 @@
 -- What stays of the value of a `style` attribute: declarations of listed properties whose values
 -- can neither load nor run anything, in one form. The text is cut at each `;`, also in a string or a
 -- block, where CSS (CSS Syntax 5.5) would not cut: what stays holds neither quotes nor blocks.
-use Rattle.std.specs.{Char.{to_ascii_lowercase}, List.{AllByRecursion, list_any, slice_split}}
-use Rattle.std.specs.Prelude.{ℕ, suc, ◌-◌, Bool, true, false, not, ◌&&◌, ◌||◌, ◌==◌, nat_le, List, [], ◌∷◌, ◌++◌, Option, Some, None, codes, map, option_map, if◌then◌else◌}
+use Rattle.std.specs.{Char.{to_ascii_lowercase}, List.{AllByRecursion, slice_split}}
+use Rattle.std.specs.Prelude.{ℕ, ◌+◌, ◌-◌, Bool, true, false, ◌&&◌, ◌||◌, ◌==◌, nat_lt, nat_le, List, [], ◌∷◌, ◌++◌, Option, Some, None, codes, map, option_map, if◌then◌else◌}
 use Rattle.html_names_core.specs.Characters.{IsOf, is_hyphen, is_lower, is_tag_char}
 use Rattle.html_names_core.specs.{Names.{stands_in}, Texts.{TextPair}}
 
@@ -10,13 +10,16 @@ use Rattle.html_names_core.specs.{Names.{stands_in}, Texts.{TextPair}}
 unfoldable pub is_space : ℕ → Bool
 is_space c = (c == 9) || (c == 10) || (c == 12) || (c == 13) || (c == 32)
 
--- the text without white space around it, each run inside one space; `begun` tells if there is text
--- before, and `gap` if white space stands between the two
+-- a character, behind a space if there is a gap before it
+unfoldable pub spaced : (gap : Bool) → ℕ → List ℕ
+spaced gap c = if gap then 32 ∷ c ∷ [] else c ∷ []
+
+-- the text without white space around it, and each run inside as one space; `begun` tells if there
+-- is text before this, and `gap` if white space stands between the two
 unfoldable pub squeezed_from : (begun gap : Bool) (text : List ℕ) → List ℕ
 squeezed_from begun gap [] = []
-squeezed_from begun gap (c ∷ cs) =
-    if is_space c then squeezed_from begun begun cs
-    else (if gap then 32 ∷ c ∷ squeezed_from true false cs else c ∷ squeezed_from true false cs)
+squeezed_from begun gap (c ∷ cs) = if is_space c then squeezed_from begun begun cs
+    else spaced gap c ++ squeezed_from true false cs
 
 abbrev pub squeezed : List ℕ → List ℕ
 squeezed = squeezed_from false false
@@ -32,35 +35,50 @@ unfoldable pub begins_call : List ℕ → Bool
 begins_call text = begins (codes "rgb(") text || begins (codes "rgba(") text
     || begins (codes "hsl(") text || begins (codes "hsla(") text || begins (codes "calc(") text
 
--- what a value may have besides letters, digits, `-` and calls: `#`, `%`, `.`, `,`, space
-unfoldable pub is_mark : ℕ → Bool
-is_mark c = (c == 35) || (c == 37) || (c == 46) || (c == 44) || (c == 32)
+-- a letter, a digit or `-`
+unfoldable pub is_word_char : ℕ → Bool
+is_word_char c = is_tag_char c
 
--- whether a value has only these, and its parentheses are those of calls and balanced. `word` is the
--- text from the last letters, digits and `-` on, `depth` the number of calls around the text
+-- what a value may have besides these and calls: space, `#`, `%`, `,`, `.`
+unfoldable pub is_mark : ℕ → Bool
+is_mark c = (c == 32) || (c == 35) || (c == 37) || (c == 44) || (c == 46)
+
+-- the number of calls that are open behind a character that is in no word, if it may stand there;
+-- `word` is the text from the word before it on
+unfoldable pub depth_behind : (c : ℕ) (word : List ℕ) (depth : ℕ) → Option ℕ
+depth_behind c word depth = if is_mark c then Some depth
+    else (if (c == 40) && begins_call word then Some (depth + 1)
+    else (if (c == 41) && nat_lt 0 depth then Some (depth - 1) else None))
+
+-- there is a number, and it passes the test
+abbrev pub holds_in : (ℕ → Bool) → Option ℕ → Bool
+holds_in p None = false
+holds_in p (Some n) = p n
+
+-- whether each character of a text may stand in a value, and the parentheses are those of calls and
+-- balanced, with that many calls open before the text
 unfoldable pub is_plain_from : (word : List ℕ) (depth : ℕ) (text : List ℕ) → Bool
 is_plain_from word depth [] = depth == 0
-is_plain_from word depth (c ∷ cs) =
-    if c == 40 then begins_call word && is_plain_from cs (suc depth) cs
-    else (if c == 41 then not (depth == 0) && is_plain_from cs (depth - 1) cs
-    else (if is_tag_char c then is_plain_from word depth cs
-    else is_mark c && is_plain_from cs depth cs))
+is_plain_from word depth (c ∷ cs) = if is_word_char c then is_plain_from word depth cs
+    else holds_in (λ d. is_plain_from cs d cs) (depth_behind c word depth)
 
 -- whether a value stays
 unfoldable pub is_plain : (value : List ℕ) → Bool
 is_plain [] = false
 is_plain (c ∷ cs) = is_plain_from (c ∷ cs) 0 (c ∷ cs)
 
--- the text before its first `:` and the text behind it, if there is a `:`
+-- the text before the first `:` and the text behind it, if there is a `:`
 unfoldable pub cut_colon : List ℕ → Option TextPair
 cut_colon [] = None
-cut_colon (c ∷ cs) = if c == 58 then Some ([], cs) else option_map (λ x. (c ∷ x.0, x.1)) (cut_colon cs)
+cut_colon (c ∷ cs) = if c == 58 then Some ([], cs)
+    else option_map (λ x. (c ∷ x.0, x.1)) (cut_colon cs)
 
--- a declaration in its one form, if it stays, and else nothing
+-- a declaration in its one form if it stays, and else nothing
 unfoldable pub written : (properties : List (List ℕ)) (name value : List ℕ) → List ℕ
 written properties name value =
     if stands_in properties name && is_plain value then name ++ (codes ": " ++ value) else []
 
+-- the same from the text before its `:` and behind it
 unfoldable pub declared : (properties : List (List ℕ)) → Option TextPair → List ℕ
 declared properties None = []
 declared properties (Some x) =
@@ -80,9 +98,13 @@ unfoldable pub declarations : (properties pieces : List (List ℕ)) → List ℕ
 declarations properties [] = []
 declarations properties (p ∷ ps) = joined (declaration properties p) (declarations properties ps)
 
+-- the texts between the `;` of a text
+unfoldable pub pieces : List ℕ → List (List ℕ)
+pieces text = slice_split (λ c. c == 59) text
+
 -- what stays of the value of a `style` attribute
 unfoldable pub clean_style : (properties : List (List ℕ)) (style : List ℕ) → List ℕ
-clean_style properties style = declarations properties (slice_split (λ c. c == 59) style)
+clean_style properties style = declarations properties (pieces style)
 
 -- a small letter or `-`
 abbrev pub is_property_char : ℕ → Bool

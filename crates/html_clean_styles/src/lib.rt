@@ -1,12 +1,11 @@
 //! What stays of the value of a `style` attribute of foreign HTML.
 #![tactic(auto)]
 
-ghost use Rattle.std.specs.Prelude.{◌≡◌};
-ghost use Rattle.html_clean_styles.specs.Styles.{is_space};
+mod cut;
+mod declaration;
+pub mod laws;
+mod space;
+mod style;
+mod value;
 
-#[tactic(auto, unfolding(crate::specs::Styles::is_space))]
-fn is_space(c: char) -> bool
-    ensures { result ≡ is_space c }
-{
-    matches!(c, '\t' | '\n' | '\u{c}' | '\r' | ' ')
-}
+pub use style::clean_style;
