@@ -1,0 +1,2 @@
+mod DataNames
+mod FirstKept

@@ -1,0 +1,9 @@
+pub mod AttrNames
+pub mod AttrUses
+pub mod Building
+pub mod KeptAttrs
+pub mod LinkRels
+pub mod Policies
+pub mod PolicyFaults
+pub mod PolicyViews
+pub mod Sound

@@ -1,0 +1,16 @@
+//! What may stay of foreign HTML: a policy says which elements, attributes, URLs and css stay.
+#![tactic(auto)]
+
+mod allows;
+mod attr_use;
+mod build;
+mod elements;
+mod fault;
+mod kept;
+mod link;
+mod names;
+mod policy;
+
+pub use elements::{is_dropped, is_never_kept};
+pub use fault::{PolicyFault, PolicyRefused};
+pub use policy::Policy;

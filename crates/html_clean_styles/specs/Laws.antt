@@ -1,0 +1,14 @@
+-- Laws of what stays of the value of a `style` attribute.
+use Rattle.std.specs.Prelude.{◌≡◌, ℕ, true, List}
+use Rattle.html_names_core.specs.Characters.{all}
+use Rattle.html_clean_styles.specs.Styles.{ArePropertyNames, clean_style, is_printable}
+
+-- what stays of a style stays as it is
+abbrev pub CleanStylesStay : Type 0
+CleanStylesStay = (properties : List (List ℕ)) (style : List ℕ) → ArePropertyNames properties →
+    clean_style properties (clean_style properties style) ≡ clean_style properties style
+
+-- its characters are printable ASCII
+abbrev pub CleanStylesArePrintable : Type 0
+CleanStylesArePrintable = (properties : List (List ℕ)) (style : List ℕ) →
+    ArePropertyNames properties → all is_printable (clean_style properties style) ≡ true
