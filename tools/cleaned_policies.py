@@ -1,5 +1,5 @@
-"""The four policies of the cleaner, for `cleaned`: what each allows. Written by hand, from what they promise, and not
-from their code."""
+"""The policies of the cleaner, for `cleaned`: what each allows. Written by hand, from what they promise, and not from their
+code. `wide` is none of the cleaner's own: it allows all that one can allow, also what browsers move most."""
 
 from typing import NamedTuple
 
@@ -43,6 +43,10 @@ ARTICLE = INLINE | words(
     header hgroup hr img li main nav ol p picture pre section source summary table tbody td tfoot th thead tr ul"""
 )
 MAIL = ARTICLE | words("acronym big center dir font nobr strike tt")
+WIDE = MAIL | words(
+    """area audio button datalist dialog fieldset form input label legend map marquee menu meter optgroup option output progress
+    search select track video my-element"""
+)
 SCHEMES = words("http https mailto tel")
 LINK = {"a": words("href"), "del": words("cite datetime"), "ins": words("cite datetime"), "q": words("cite"),
         "time": words("datetime"), "data": words("value")}
@@ -62,4 +66,9 @@ POLICIES = {
     "article": Policy(ARTICLE, words("dir lang title id class"), BLOCK, SCHEMES, True, frozenset(), "nofollow noopener noreferrer"),
     "mail": Policy(MAIL, words("dir lang title style align valign bgcolor width height border cellpadding cellspacing"),
                    BLOCK, SCHEMES | {"cid"}, False, PROPERTIES, "nofollow noopener noreferrer"),
+    "wide": Policy(WIDE, words("""dir lang title style align color face id class name for headers aria-labelledby usemap href src
+                               srcset action formaction background poster cite ping type hidden open value checked autofocus
+                               is slot target popovertarget colspan start width size"""),
+                   BLOCK, SCHEMES, True, PROPERTIES, "nofollow noopener noreferrer"),
 }
+OWN = ("text", "inline", "article", "mail")
