@@ -3,4 +3,5 @@ pub mod Replaced
 pub mod SchemeTests
 pub mod Srcsets
 pub mod Urls
+pub mod ValueLaws
 pub mod Words

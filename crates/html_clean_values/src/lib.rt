@@ -2,6 +2,7 @@
 //! allowed by their schemes, and prefixes of ids and names.
 #![tactic(auto)]
 
+pub mod laws;
 mod prefixes;
 mod schemes;
 mod srcset;
