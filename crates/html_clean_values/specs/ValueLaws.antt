@@ -16,7 +16,8 @@ abbrev pub ReplacedOnce : Type 0
 ReplacedOnce = (text : List ℕ) → replaced (replaced text) ≡ replaced text
 
 abbrev pub PrefixedOnce : Type 0
-PrefixedOnce = (prefix text : List ℕ) → prefixed prefix (prefixed prefix text) ≡ prefixed prefix text
+PrefixedOnce = (prefix text : List ℕ) →
+    prefixed prefix (prefixed prefix text) ≡ prefixed prefix text
 
 abbrev pub PrefixedNameOnce : Type 0
 PrefixedNameOnce = (prefix name : List ℕ) →
