@@ -24,14 +24,6 @@ pub more : (c : ℕ) (cs : List ℕ) → eqb c 58 ≡ false → is_scheme_char c
     scheme_rest (c ∷ cs) ≡ with_letter c (scheme_rest cs)
 more c cs is good = rw (is, good) refl
 
-some_more : (c : ℕ) (o : Option (List ℕ)) → is_some (option_map (λ s. c ∷ s) o) ≡ is_some o
-some_more c None = refl
-some_more c (Some s) = refl
-
-pub is_some_more : (c : ℕ) (cs : List ℕ) → eqb c 58 ≡ false → is_scheme_char c ≡ true →
-    is_some (scheme_rest (c ∷ cs)) ≡ is_some (scheme_rest cs)
-is_some_more c cs is good = ap is_some (more c cs is good) ∙ some_more _ (scheme_rest cs)
-
 -- the test of one scheme
 
 abbrev is_that : Option (List ℕ) → List ℕ → Bool
