@@ -58,7 +58,8 @@ letter x c low is =
 
 colon_by : (c : ℕ) (a b : Bool) → ltb c 65 ≡ a → ltb c 91 ≡ b → to_ascii_lowercase c ≡ 58 → c ≡ 58
 colon_by c true b e f is = sym (first_lowered c e) ∙ is
-colon_by c false true e f is = absurd (omega (arith, sym (middle_lowered c e f) ∙ is, ltb-false c 65 e))
+colon_by c false true e f is =
+    absurd (omega (arith, sym (middle_lowered c e f) ∙ is, ltb-false c 65 e))
 colon_by c false false e f is = sym (last_lowered c e f) ∙ is
 
 colon_is : (c : ℕ) → eqb (to_ascii_lowercase c) 58 ≡ true → eqb c 58 ≡ true
@@ -94,7 +95,8 @@ scheme_of x xs (c ∷ cs) are h =
 
 refused : (schemes : List (List ℕ)) (relative : Bool) (url : List ℕ) (x : ℕ) (xs : List ℕ) →
     all is_lower (x ∷ xs) ≡ true → stands_in schemes (x ∷ xs) ≡ false →
-    begins ((x ∷ xs) ++ 58 ∷ []) (url_begin url) ≡ true → url_is_allowed schemes relative url ≡ false
+    begins ((x ∷ xs) ++ 58 ∷ []) (url_begin url) ≡ true →
+    url_is_allowed schemes relative url ≡ false
 unfolding url_is_allowed url_scheme
 refused schemes relative url x xs are none h =
     ap (scheme_is_allowed schemes relative) (scheme_of x xs (url_begin url) are h) ∙ none

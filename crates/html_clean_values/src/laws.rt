@@ -37,8 +37,8 @@ pub fn prefixed_href_is_allowed()
     ensures { PrefixedHrefIsAllowed }
 {}
 
-/// If `javascript`, `data` and `vbscript` are none of the schemes, no URL that is allowed is a script
-/// ([`href_is_script`](html_links::href_is_script)).
+/// If `javascript`, `data` and `vbscript` are none of the schemes, no URL that is allowed is a
+/// script ([`href_is_script`](html_links::href_is_script)).
 #[tactic(auto, using(crate::proofs::ScriptSchemes::scripts_are_refused))]
 pub fn scripts_are_refused()
     ensures { ScriptsAreRefused }

@@ -100,9 +100,9 @@ pub fn prefixed_words(alloc: Global, prefix: &str, text: &str) -> Result<String,
     Ok(made.into_string())
 }
 
-/// Returns an `href` with a prefix after its `#`, if it leads to a place of its own page: if it begins
-/// with `#` and has more characters. Any other `href` stays as it is. Fails only if an allocation
-/// fails.
+/// Returns an `href` with a prefix after its `#`, if it leads to a place of its own page: if it
+/// begins with `#` and has more characters. Any other `href` stays as it is. Fails only if an
+/// allocation fails.
 ///
 /// ```
 /// use html_clean_values::prefixed_href;
