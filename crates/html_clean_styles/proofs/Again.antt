@@ -1,5 +1,5 @@
 -- What stays of a style is cleaned once more, and stays as it is.
-use Rattle.std.proofs.Common.{◌≡◌, ℕ, ◌==◌, Bool, true, false, not, ◌&&◌, Option, Some, None, List, [], ◌∷◌, ◌++◌, map, refl, sym, ap, ◌∙◌, inl, inr}
+use Rattle.std.proofs.Common.{◌≡◌, ℕ, ◌==◌, Bool, true, false, not, ◌&&◌, Option, Some, None, List, [], ◌∷◌, ◌++◌, map, refl, ap, ◌∙◌, inl, inr}
 use Rattle.std.proofs.lemmas.Bool.{and_parts, cases_Bool}
 use Rattle.std.specs.{Char.{to_ascii_lowercase}, List.{list_all, onto_first}, Prelude.{codes, option_map}, Str.{NonePass}}
 use Rattle.html_names_core.specs.{Characters.{is_text_char}, Names.{stands_in}, Texts.{TextPair}}

@@ -1,5 +1,5 @@
 -- The characters of what stays: printable ASCII, and no `;` within a declaration.
-use Rattle.std.proofs.Common.{◌≡◌, ℕ, ◌==◌, Bool, true, false, not, ◌&&◌, Option, Some, None, List, [], ◌∷◌, ◌++◌, bytes_eq, map, refl, sym, ap, ◌∙◌, subst, inl, inr, arith}
+use Rattle.std.proofs.Common.{◌≡◌, ℕ, ◌==◌, Bool, true, false, not, ◌&&◌, Option, Some, None, List, [], ◌∷◌, ◌++◌, bytes_eq, map, refl, sym, subst, inl, inr, arith}
 use Rattle.std.proofs.lemmas.{Bool.{and_from, and_parts, cases_Bool, eqb-true, false≢true, or_cases}, Bool.Decides.{nat_tests}}
 use Rattle.std.specs.{Char.{to_ascii_lowercase}, List.{list_all}, Prelude.{codes}, Str.{NonePass}}
 use Rattle.html_names_core.{proofs.Basics.{bytes_eq-same}, specs.Characters.{is_text_char}, specs.Names.{stands_in}, specs.Texts.{TextPair}}

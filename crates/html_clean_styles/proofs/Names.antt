@@ -1,5 +1,5 @@
 -- Texts, names and declarations.
-use Rattle.std.proofs.Common.{◌≡◌, ℕ, Bool, true, false, ◌&&◌, Some, List, [], ◌∷◌, ◌++◌, String, Global, string_bytes, bytes_eq, map, refl, sym, ap, ◌∙◌, append_assoc}
+use Rattle.std.proofs.Common.{◌≡◌, ℕ, Bool, true, false, ◌&&◌, Some, List, [], ◌++◌, String, Global, string_bytes, bytes_eq, map, refl, sym, ap, ◌∙◌, append_assoc}
 use Rattle.std.proofs.lemmas.Str.{IsUtf8-string_bytes}
 use Rattle.std.specs.{Char.{to_ascii_lowercase}, Prelude.{codes}}
 use Rattle.html_names_core.proofs.Lists.{bytes_eq-chars}

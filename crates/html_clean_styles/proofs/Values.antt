@@ -1,9 +1,8 @@
 -- The values of declarations, character by character.
-use Rattle.std.proofs.Common.{◌≡◌, ℕ, ◌+◌, ◌-◌, ◌<◌, ◌≤◌, Bool, true, false, ◌&&◌, ◌==◌, List, [], ◌∷◌, ◌++◌, Option, Some, None, length, chars, IsUtf8, refl, sym, ap, ◌∙◌, length-append, inl, inr, arith}
-use Rattle.std.proofs.lemmas.{Bool.{cases_Bool, false≢true}, Bool.Decides.{nat_tests}}
+use Rattle.std.proofs.Common.{◌≡◌, ℕ, ◌+◌, ◌≤◌, true, false, ◌==◌, List, [], ◌∷◌, Some, None, length, chars, IsUtf8, refl, sym, ap, ◌∙◌, length-append, arith}
 use Rattle.std.proofs.lemmas.Str.{encodes-chars, length-encode, len_utf8_bounds}
 use lib.Utf8.{encode, encodes}
-use Rattle.html_clean_styles.specs.Styles.{begins_call, depth_behind, holds_in, is_mark, is_plain_from, is_word_char}
+use Rattle.html_clean_styles.specs.Styles.{depth_behind, holds_in, is_plain_from, is_word_char}
 
 few_encoded : (cs : List ℕ) → length cs ≤ length (encodes cs)
 few_encoded [] = omega arith

@@ -57,11 +57,7 @@ fn join(made: &mut TextWriter, more: &str) -> Result<(), AllocError>
 /// let style = "COLOR :  RGB(1, 2,  3);; color: url(a); position: fixed";
 /// assert_eq!(rt; clean_style(alloc, &properties, style)?.as_str(), "color: RGB(1, 2, 3)");
 /// ```
-pub fn clean_style(
-    alloc: Global,
-    properties: &[String],
-    style: &str,
-) -> Result<String, AllocError>
+pub fn clean_style(alloc: Global, properties: &[String], style: &str) -> Result<String, AllocError>
     ensures { IfOk result (λ made.
         text_view made ≡ clean_style (texts_view properties.now) (chars style.now)) }
 {
