@@ -16,7 +16,8 @@ squeezed_name begun (c ∷ cs) h =
     let both = and_parts (is_property_char c) (list_all is_property_char cs) h in
     rw (property_shown c both.0) (ap (λ l. c ∷ l) (squeezed_name true cs both.1))
 
-small_name : (name : List ℕ) → list_all is_property_char name ≡ true → map to_ascii_lowercase name ≡ name
+small_name : (name : List ℕ) → list_all is_property_char name ≡ true →
+    map to_ascii_lowercase name ≡ name
 small_name [] h = refl
 small_name (c ∷ cs) h =
     let both = and_parts (is_property_char c) (list_all is_property_char cs) h in
@@ -31,7 +32,8 @@ module _ (properties : List (List ℕ)) where
   read_again name value are same =
       ap (declared properties) (colon_within name (32 ∷ value)
       (none_pass is_property_char (λ c. c == 58) property_no_colon name are))
-      ∙ (ap (λ n. written properties (map to_ascii_lowercase n) (squeezed value)) (squeezed_name false name are)
+      ∙ (ap (λ n. written properties (map to_ascii_lowercase n) (squeezed value))
+      (squeezed_name false name are)
       ∙ (ap (λ n. written properties n (squeezed value)) (small_name name are)
       ∙ ap (written properties name) same))
 

@@ -112,7 +112,8 @@ listed [] name ok h = absurd (false≢true h)
 listed (p ∷ ps) name ok h =
     let both = and_parts (is_property_name p) (list_all is_property_name ps) ok in
     elim (or_cases (bytes_eq p name) (stands_in ps name) h) [
-      | inl e ↦ subst (λ n. list_all is_property_char n ≡ true) (bytes_eq-same p name e) (name_chars p both.0)
+      | inl e ↦ subst (λ n. list_all is_property_char n ≡ true) (bytes_eq-same p name e)
+          (name_chars p both.0)
       | inr e ↦ listed ps name both.1 e
     ]
 

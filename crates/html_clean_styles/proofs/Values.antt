@@ -7,7 +7,8 @@ use Rattle.html_clean_styles.specs.Styles.{depth_behind, holds_in, is_plain_from
 few_encoded : (cs : List ℕ) → length cs ≤ length (encodes cs)
 few_encoded [] = omega arith
 few_encoded (c ∷ cs) =
-    omega (arith, few_encoded cs, length-append (encode c) (encodes cs), length-encode c, (len_utf8_bounds c).0)
+    let long = length-append (encode c) (encodes cs) in
+    omega (arith, few_encoded cs, long, length-encode c, (len_utf8_bounds c).0)
 
 -- a text has no more characters than bytes
 pub few_chars : (bs : List ℕ) → IsUtf8 bs → length (chars bs) ≤ length bs
@@ -19,7 +20,8 @@ unfolding is_plain_from
 at_word word depth c cs h = rw h refl
 
 pub at_other : (word : List ℕ) (depth c : ℕ) (cs : List ℕ) → is_word_char c ≡ false →
-    is_plain_from word depth (c ∷ cs) ≡ holds_in (λ d. is_plain_from cs d cs) (depth_behind c word depth)
+    is_plain_from word depth (c ∷ cs)
+    ≡ holds_in (λ d. is_plain_from cs d cs) (depth_behind c word depth)
 unfolding is_plain_from
 at_other word depth c cs h = rw h refl
 

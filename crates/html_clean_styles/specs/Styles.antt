@@ -1,6 +1,6 @@
 -- What stays of the value of a `style` attribute: declarations of listed properties whose values
--- can neither load nor run anything, in one form. The text is cut at each `;`, also in a string or a
--- block, where CSS (CSS Syntax 5.5) would not cut: what stays holds neither quotes nor blocks.
+-- can neither load nor run anything, in one form. The text is cut at each `;`, also in a string or
+-- a block, where CSS (CSS Syntax 5.5) would not cut: what stays holds neither quotes nor blocks.
 use Rattle.std.specs.{Char.{to_ascii_lowercase}, List.{list_all, slice_split}}
 use Rattle.std.specs.Prelude.{◌≡◌, ℕ, ◌+◌, ◌-◌, Bool, true, false, ◌&&◌, ◌||◌, ◌==◌, nat_lt, nat_le, List, [], ◌∷◌, ◌++◌, Option, Some, None, codes, map, option_map, if◌then◌else◌}
 use Rattle.html_names_core.specs.Characters.{is_hyphen, is_lower, is_tag_char}
