@@ -1,2 +1,4 @@
 mod DataNames
 mod FirstKept
+pub mod Pairs
+pub mod Rels
