@@ -1,4 +1,5 @@
 mod DataNames
 mod FirstKept
+pub mod KeptTexts
 pub mod Pairs
 pub mod Rels

@@ -2,6 +2,7 @@ pub mod AttrNames
 pub mod AttrUses
 pub mod Building
 pub mod KeptAttrs
+pub mod Laws
 pub mod LinkRels
 pub mod Policies
 pub mod PolicyFaults
