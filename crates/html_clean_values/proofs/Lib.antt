@@ -1,0 +1,9 @@
+pub mod Cuts
+pub mod EndCommas
+pub mod JoinedWords
+pub mod PrefixLaws
+pub mod Prefixing
+pub mod Replacing
+pub mod SchemeSteps
+pub mod SrcsetSteps
+pub mod WordSteps
