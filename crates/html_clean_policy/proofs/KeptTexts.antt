@@ -1,20 +1,20 @@
 -- A value that stays, cleaned once more.
-use Rattle.std.proofs.Common.{◌≡◌, ℕ, Bool, true, false, not, ◌&&◌, List, [], ◌∷◌, ◌⊎◌, inl, inr, Option, Some, None, ap, refl, rules, subst, sym, ◌∙◌}
-use Rattle.std.proofs.lemmas.Bool.{and_parts}
-use Rattle.std.specs.{List.{list_all}, Prelude.{◌==◌, codes, if◌then◌else◌, option_map}}
-use Rattle.html_names_core.specs.{Characters.{is_text_char}, Names.{stands_in}, Texts.{TextPair}}
-use Rattle.html_clean_values.specs.{Prefixes.{prefixed_href, prefixed_name, prefixed_words}, Replaced.{replaced, replaced_char}}
-use Rattle.html_clean_values.specs.Urls.{url_is_allowed, url_scheme}
+use Rattle.std.proofs.Common.{◌≡◌, ℕ, Bool, true, false, List, [], ◌∷◌, ◌⊎◌, inl, inr, Option, Some, None, ap, refl, subst, sym, ◌∙◌}
+use Rattle.std.specs.Prelude.{codes, if◌then◌else◌, option_map}
+use Rattle.html_names_core.specs.{Characters.{all}, Names.{stands_in}, Texts.{TextPair}}
+use Rattle.html_clean_values.specs.{Prefixes.{prefixed_href, prefixed_name, prefixed_words}, Replaced.{is_plain_char, replaced}}
+use Rattle.html_clean_values.specs.Urls.{url_is_allowed}
+use Rattle.html_clean_values.proofs.{PrefixLaws.{prefixed_href_is_allowed}, Replacing.{plain_stays, replaced_is_plain}}
 use Rattle.html_clean_styles.specs.Styles.{clean_style}
 use Rattle.html_clean_policy.specs.AttrUses.{holds_link, holds_name, holds_names, holds_srcset, holds_style, holds_url, holds_urls, use_of}
 use Rattle.html_clean_policy.specs.AttrNames.{may_stay}
 use Rattle.html_clean_policy.specs.KeptAttrs.{adapted, kept_pair, kept_text, kept_value, unless_empty, unless_gone, urls_stay}
-use Rattle.html_clean_policy.specs.{Policies.{PolicyView}, Sound.{is_written_char}}
+use Rattle.html_clean_policy.specs.Policies.{PolicyView}
 use Rattle.html_clean_policy.specs.declared.attr_use.AttrUse.{AttrUse}
 use Rattle.html_clean_policy.specs.declared.attr_use.AttrUse.TheVariants as as_
 
 abbrev pub is_written : List ℕ → Bool
-is_written = list_all is_written_char
+is_written = all is_plain_char
 
 -- what is known of the texts that a policy makes
 pub record TextLaws (p : PolicyView) : Type 0 where
@@ -34,42 +34,6 @@ pub record TextLaws (p : PolicyView) : Type 0 where
   pub words_written : (t : List ℕ) → is_written t ≡ true →
       is_written (prefixed_words p.prefix t) ≡ true
 
--- characters that can be written
-
-kept_char : (c : ℕ) (is_text is_return : Bool) → (is_text && not is_return) ≡ true →
-    (if is_return then 10 else (if is_text then c else 0xfffd)) ≡ c
-kept_char c true true is = cc
-kept_char c true false is = refl
-kept_char c false true is = cc
-kept_char c false false is = cc
-
-char_same : (c : ℕ) → is_written_char c ≡ true → replaced_char c ≡ c
-unfolding replaced_char
-char_same c is = kept_char c (is_text_char c) (c == 13) is
-
-pub replaced_same : (t : List ℕ) → is_written t ≡ true → replaced t ≡ t
-replaced_same [] is = refl
-replaced_same (c ∷ cs) is =
-    let both = and_parts (is_written_char c) (is_written cs) is in
-    ap (λ d. d ∷ replaced cs) (char_same c both.0) ∙ ap (λ ds. c ∷ ds) (replaced_same cs both.1)
-
-written_char : (c : ℕ) (is_text is_return : Bool) → is_text_char c ≡ is_text →
-    (c == 13) ≡ is_return →
-    is_written_char (if is_return then 10 else (if is_text then c else 0xfffd)) ≡ true
-written_char c is_text true t r = refl
-written_char c true false t r =
-    ap (λ b. b && not (c == 13)) t ∙ ap not r
-written_char c false false t r = refl
-
-replaced_char_written : (c : ℕ) → is_written_char (replaced_char c) ≡ true
-unfolding replaced_char
-replaced_char_written c = written_char c (is_text_char c) (c == 13) refl refl
-
-pub replaced_written : (t : List ℕ) → is_written (replaced t) ≡ true
-replaced_written [] = refl
-replaced_written (c ∷ cs) =
-    ap (λ b. b && is_written (replaced cs)) (replaced_char_written c) ∙ replaced_written cs
-
 -- choices
 
 if_parts : {A : Type 0} (b : Bool) (x w : A) → (if b then Some x else None) ≡ Some w →
@@ -88,29 +52,6 @@ unless_is : (x w : List ℕ) → unless_empty x ≡ Some w → x ≡ w
 unless_is [] w e = cc
 unless_is (c ∷ cs) w e = cc
 
--- a fragment has no scheme, with the prefix as without
-
-fragment_allowed : (schemes : List (List ℕ)) (relative : Bool) (cs : List ℕ) →
-    url_is_allowed schemes relative (35 ∷ cs) ≡ relative
-unfolding url_is_allowed url_scheme
-fragment_allowed schemes relative cs = refl
-
-href_allowed : (schemes : List (List ℕ)) (relative : Bool) (prefix t : List ℕ) →
-    url_is_allowed schemes relative (prefixed_href prefix t) ≡ url_is_allowed schemes relative t
-href_allowed schemes relative prefix [] = refl
-href_allowed schemes relative prefix (c ∷ cs) = by (c == 35) refl
-  where
-    by : (b : Bool) → (c == 35) ≡ b →
-        url_is_allowed schemes relative (if b then c ∷ prefixed_name prefix cs else c ∷ cs)
-        ≡ url_is_allowed schemes relative (c ∷ cs)
-    by true e =
-        let is : c ≡ 35 = search rules in
-        ap (λ d. url_is_allowed schemes relative (d ∷ prefixed_name prefix cs)) is
-        ∙ (fragment_allowed schemes relative (prefixed_name prefix cs)
-        ∙ (sym (fragment_allowed schemes relative cs)
-        ∙ ap (λ d. url_is_allowed schemes relative (d ∷ cs)) (sym is)))
-    by false e = refl
-
 -- values
 
 text_again : (p : PolicyView) → TextLaws p → (of : AttrUse) (t w : List ℕ) →
@@ -126,7 +67,7 @@ text_again p laws as_.Link t w e =
     let both = if_parts (url_is_allowed p.schemes p.relative t) (prefixed_href p.prefix t) w e in
     if_from _ _ w
     (ap (url_is_allowed p.schemes p.relative) (sym both.1)
-    ∙ (href_allowed p.schemes p.relative p.prefix t ∙ both.0))
+    ∙ (prefixed_href_is_allowed p.schemes p.relative p.prefix t ∙ both.0))
     (ap (prefixed_href p.prefix) (sym both.1) ∙ (laws.href_again t ∙ both.1))
 text_again p laws as_.Url t w e =
     subst (λ x. kept_text p as_.Url x ≡ Some w) (if_parts _ t w e).1 e
@@ -167,7 +108,7 @@ text_allowed p as_.Style t w e = refl
 text_allowed p as_.Link t w e =
     let both = if_parts (url_is_allowed p.schemes p.relative t) (prefixed_href p.prefix t) w e in
     ap (url_is_allowed p.schemes p.relative) (sym both.1)
-    ∙ (href_allowed p.schemes p.relative p.prefix t ∙ both.0)
+    ∙ (prefixed_href_is_allowed p.schemes p.relative p.prefix t ∙ both.0)
 text_allowed p as_.Url t w e =
     let both = if_parts _ t w e in subst (λ x. urls_stay p as_.Url x ≡ true) both.1 both.0
 text_allowed p as_.Urls t w e =
@@ -219,7 +160,7 @@ module _ (p : PolicyView) (laws : TextLaws p) (element : List ℕ) where
       is_written kept.1 ≡ true
   kept_written pair kept e =
       text_written p laws (use_of pair.0) (replaced pair.1) kept.1
-      (kept_parts p element pair kept e).text (replaced_written pair.1)
+      (kept_parts p element pair kept e).text (replaced_is_plain pair.1)
 
   pub kept_again : (pair kept : TextPair) → kept_pair p element pair ≡ Some kept →
       kept_pair p element kept ≡ Some kept
@@ -227,7 +168,7 @@ module _ (p : PolicyView) (laws : TextLaws p) (element : List ℕ) where
       let parts = kept_parts p element pair kept e in
       let again : kept_text p (use_of pair.0) kept.1 ≡ Some kept.1 =
       text_again p laws (use_of pair.0) (replaced pair.1) kept.1 parts.text in
-      let same : replaced kept.1 ≡ kept.1 = replaced_same kept.1 (kept_written pair kept e) in
+      let same : replaced kept.1 ≡ kept.1 = plain_stays kept.1 (kept_written pair kept e) in
       kept_from p element kept.0 kept.1 kept.1
       (ap (may_stay p element) parts.name ∙ parts.may)
       (ap (λ n. kept_text p (use_of n) (replaced kept.1)) parts.name
@@ -250,6 +191,17 @@ kept_as_it_is : (p : PolicyView) (text : List ℕ) → kept_text p as_.Text text
 unfolding kept_text urls_stay adapted unless_gone
 kept_as_it_is p text = refl
 
+text_stays : (p : PolicyView) (text : List ℕ) → urls_stay p as_.Text text ≡ true
+unfolding urls_stay
+text_stays p text = refl
+
+pub rel_allowed : (p : PolicyView) (rel : List ℕ) →
+    urls_stay p (use_of (codes "rel")) rel ≡ true
+rel_allowed p rel = ap (λ u. urls_stay p u rel) rel_use ∙ text_stays p rel
+
+abbrev with_rel_name : List ℕ → TextPair
+with_rel_name value = (codes "rel", value)
+
 pub rel_stays : (p : PolicyView) (element rel : List ℕ) → is_written rel ≡ true →
     (kept_pair p element (codes "rel", rel) ≡ None)
     ⊎ (kept_pair p element (codes "rel", rel) ≡ Some (codes "rel", rel))
@@ -257,11 +209,10 @@ unfolding kept_value
 rel_stays p element rel is =
     by (may_stay p element (codes "rel")) (kept_text p (use_of (codes "rel")) (replaced rel))
     (ap (λ u. kept_text p u (replaced rel)) rel_use
-    ∙ (kept_as_it_is p (replaced rel) ∙ ap Some (replaced_same rel is)))
+    ∙ (kept_as_it_is p (replaced rel) ∙ ap Some (plain_stays rel is)))
   where
     by : (b : Bool) (o : Option (List ℕ)) → o ≡ Some rel →
-        (option_map (λ (v : List ℕ). (codes "rel", v)) (if b then o else None) ≡ None)
-        ⊎ (option_map (λ (v : List ℕ). (codes "rel", v)) (if b then o else None)
-        ≡ Some (codes "rel", rel))
-    by true o e = inr (ap (option_map (λ (v : List ℕ). (codes "rel", v))) e)
+        (option_map with_rel_name (if b then o else None) ≡ None)
+        ⊎ (option_map with_rel_name (if b then o else None) ≡ Some (with_rel_name rel))
+    by true o e = inr (ap (option_map with_rel_name) e)
     by false o e = inl refl

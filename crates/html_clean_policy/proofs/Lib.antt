@@ -1,5 +1,6 @@
 mod DataNames
 mod FirstKept
+pub mod KeptAttrs
 pub mod KeptTexts
 pub mod Pairs
 pub mod Rels

@@ -1,8 +1,9 @@
 -- Laws of the attributes that stay.
 use Rattle.std.specs.{List.{list_all}, Prelude.{◌≡◌, ℕ, ◌≤◌, Bool, true, not, List, codes, length}}
-use Rattle.html_names_core.specs.Texts.{TextPair}
+use Rattle.html_names_core.specs.{Characters.{all}, Texts.{TextPair}}
+use Rattle.html_clean_values.specs.Replaced.{is_plain_char}
 use Rattle.html_clean_policy.specs.{AttrNames.{is_barred}, AttrUses.{use_of}, KeptAttrs.{attrs_kept, urls_stay}}
-use Rattle.html_clean_policy.specs.{Policies.{IsSound, PolicyView}, Sound.{is_written_char}}
+use Rattle.html_clean_policy.specs.Policies.{IsSound, PolicyView}
 
 -- what stays of attributes stays as it is
 abbrev pub KeptAttrsStay : Type 0
@@ -17,7 +18,7 @@ FewAttrsAreKept = (p : PolicyView) (element : List ℕ) (pairs : List TextPair) 
 -- each value has text characters alone, and no carriage return
 abbrev pub KeptValuesAreWritten : Type 0
 KeptValuesAreWritten = (p : PolicyView) (element : List ℕ) (pairs : List TextPair) → IsSound p →
-    list_all (λ pair. list_all is_written_char pair.1) (attrs_kept p element pairs) ≡ true
+    list_all (λ pair. all is_plain_char pair.1) (attrs_kept p element pairs) ≡ true
 
 -- each URL is allowed
 abbrev pub KeptUrlsAreAllowed : Type 0

@@ -7,6 +7,7 @@ mod build;
 mod elements;
 mod fault;
 mod kept;
+pub mod laws;
 mod link;
 mod names;
 mod policy;
