@@ -3,4 +3,6 @@ mod FirstKept
 pub mod KeptAttrs
 pub mod KeptTexts
 pub mod Pairs
+pub mod ReadySound
 pub mod Rels
+pub mod TableNames

@@ -7,4 +7,6 @@ pub mod LinkRels
 pub mod Policies
 pub mod PolicyFaults
 pub mod PolicyViews
+pub mod Ready
 pub mod Sound
+pub mod Tables

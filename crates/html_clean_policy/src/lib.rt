@@ -9,8 +9,11 @@ mod fault;
 mod kept;
 pub mod laws;
 mod link;
+mod lists;
 mod names;
 mod policy;
+mod ready;
+mod tables;
 
 pub use elements::{is_dropped, is_never_kept};
 pub use fault::{PolicyFault, PolicyRefused};
