@@ -122,10 +122,10 @@ module _ (P : TextPair → Type 0) where
       all_cut element (pairs_kept p element pairs)
       (all_mapped (kept_pair p element) R P each pairs all) p.rel last
 
-abbrev Any : TextPair → Type 0
+abbrev pub Any : TextPair → Type 0
 Any pair = Unit {0}
 
-any : (pairs : List TextPair) → AllByRecursion Any pairs
+pub any : (pairs : List TextPair) → AllByRecursion Any pairs
 any = all_are (λ pair. tt)
 
 -- the laws

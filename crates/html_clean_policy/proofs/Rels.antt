@@ -10,7 +10,7 @@ use Rattle.html_clean_policy.specs.LinkRels.{is_rel, is_target, leads, with_rel,
 abbrev rel_pair : List ℕ → TextPair
 rel_pair rel = (codes "rel", rel)
 
-rel_is : is_rel (codes "rel") ≡ true
+pub rel_is : is_rel (codes "rel") ≡ true
 unfolding is_rel stands_in
 rel_is = refl
 
@@ -29,7 +29,7 @@ rel_only name is = by (bytes_eq (codes "rel") name) refl is
 rel_no_target : (name : List ℕ) → is_rel name ≡ true → is_target name ≡ false
 rel_no_target name is = subst (λ n. is_target n ≡ false) (rel_only name is) no_target
 
-without_again : (pairs : List TextPair) → without_rel (without_rel pairs) ≡ without_rel pairs
+pub without_again : (pairs : List TextPair) → without_rel (without_rel pairs) ≡ without_rel pairs
 without_again [] = refl
 without_again (x ∷ xs) = by (is_rel x.0) refl (without_again xs)
   where

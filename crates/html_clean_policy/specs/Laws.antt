@@ -1,8 +1,9 @@
 -- Laws of the attributes that stay.
-use Rattle.std.specs.{List.{list_all}, Prelude.{◌≡◌, ℕ, ◌≤◌, Bool, true, not, List, codes, length}}
+use Rattle.std.specs.{List.{list_all}, Prelude.{◌≡◌, ℕ, ◌≤◌, Bool, true, not, ◌||◌, List, [], ◌∷◌, ◌++◌, Some, codes, length}}
 use Rattle.html_names_core.specs.{Characters.{all}, Texts.{TextPair}}
 use Rattle.html_clean_values.specs.Replaced.{is_plain_char}
-use Rattle.html_clean_policy.specs.{AttrNames.{is_barred}, AttrUses.{use_of}, KeptAttrs.{attrs_kept, urls_stay}}
+use Rattle.html_clean_policy.specs.{AttrNames.{is_barred, is_listed}, AttrUses.{use_of}, KeptAttrs.{attrs_kept, urls_stay}}
+use Rattle.html_clean_policy.specs.LinkRels.{is_link, is_rel, leads, without_rel}
 use Rattle.html_clean_policy.specs.Policies.{IsSound, PolicyView}
 
 -- what stays of attributes stays as it is
@@ -36,3 +37,16 @@ KeptNamesAreThere = (is_name : List ℕ → Bool) (p : PolicyView) (element : Li
     (pairs : List TextPair) → is_name (codes "rel") ≡ true →
     list_all (λ pair. is_name pair.0) pairs ≡ true →
     list_all (λ pair. is_name pair.0) (attrs_kept p element pairs) ≡ true
+
+-- each name is `rel` or one that the policy lists for the element
+abbrev pub KeptAttrsAreListed : Type 0
+KeptAttrsAreListed = (p : PolicyView) (element : List ℕ) (pairs : List TextPair) →
+    list_all (λ pair. is_listed p element pair.0 || is_rel pair.0) (attrs_kept p element pairs) ≡ true
+
+-- where the policy has a `rel`, each link that keeps a target has it, as its last attribute, and no
+-- other
+abbrev pub LinksHaveRel : Type 0
+LinksHaveRel = (p : PolicyView) (element : List ℕ) (pairs : List TextPair) (rel : List ℕ) →
+    p.rel ≡ Some rel → is_link element ≡ true → leads (attrs_kept p element pairs) ≡ true →
+    (front : List TextPair) × (attrs_kept p element pairs ≡ front ++ (codes "rel", rel) ∷ [])
+    × (without_rel front ≡ front)

@@ -273,4 +273,20 @@ impl Policy {
         self.rel = Some(text);
         Ok(self)
     }
+
+    /// Lets links keep their own `rel`, if it is an attribute that stays.
+    pub fn without_rel(mut self) -> Policy
+        ensures { policy_view result ≡ made.without_rel (policy_view self) }
+    {
+        self.rel = None;
+        self
+    }
+
+    /// Lets URLs without a scheme stay no more.
+    pub fn without_relative(mut self) -> Policy
+        ensures { policy_view result ≡ made.without_relative (policy_view self) }
+    {
+        self.relative = false;
+        self
+    }
 }

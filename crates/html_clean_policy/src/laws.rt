@@ -1,7 +1,7 @@
 //! Laws of the attributes that stay. The contract of each function is a law; the functions do
 //! nothing.
 
-ghost use Rattle.html_clean_policy.specs.Laws.{FewAttrsAreKept, KeptAttrsStay, KeptNamesAreThere, KeptUrlsAreAllowed, KeptValuesAreWritten, NoBarredAttrIsKept};
+ghost use Rattle.html_clean_policy.specs.Laws.{FewAttrsAreKept, KeptAttrsAreListed, KeptAttrsStay, KeptNamesAreThere, KeptUrlsAreAllowed, KeptValuesAreWritten, LinksHaveRel, NoBarredAttrIsKept};
 
 /// What stays of attributes stays as it is when it is cleaned once more.
 #[tactic(auto, using(crate::proofs::KeptAttrs::kept_attrs_stay))]
@@ -38,4 +38,17 @@ pub fn no_barred_attr_is_kept()
 #[tactic(auto, using(crate::proofs::KeptAttrs::kept_names_are_there))]
 pub fn kept_names_are_there()
     ensures { KeptNamesAreThere }
+{}
+
+/// Each attribute that stays is one that the policy lists for the element, or a `rel`.
+#[tactic(auto, using(crate::proofs::LinkLaws::kept_attrs_are_listed))]
+pub fn kept_attrs_are_listed()
+    ensures { KeptAttrsAreListed }
+{}
+
+/// Where the policy has a `rel`, each `a`, `area` and `form` that leads elsewhere has it as its last
+/// attribute, and no other `rel`.
+#[tactic(auto, using(crate::proofs::LinkLaws::links_have_rel))]
+pub fn links_have_rel()
+    ensures { LinksHaveRel }
 {}
