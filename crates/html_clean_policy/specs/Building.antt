@@ -57,3 +57,9 @@ with_data_attrs p = record p { data_attrs = true }
 
 abbrev pub with_relative : PolicyView → PolicyView
 with_relative p = record p { relative = true }
+
+abbrev pub without_rel : PolicyView → PolicyView
+without_rel p = record p { rel = None }
+
+abbrev pub without_relative : PolicyView → PolicyView
+without_relative p = record p { relative = false }

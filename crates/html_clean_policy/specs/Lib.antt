@@ -2,8 +2,11 @@ pub mod AttrNames
 pub mod AttrUses
 pub mod Building
 pub mod KeptAttrs
+pub mod Laws
 pub mod LinkRels
 pub mod Policies
 pub mod PolicyFaults
 pub mod PolicyViews
+pub mod Ready
 pub mod Sound
+pub mod Tables

@@ -2,13 +2,14 @@
 
 ghost use Rattle.std.specs.List.{list_all};
 ghost use Rattle.std.specs.Prelude.{◌≡◌, ◌&&◌, not, chars, if◌then◌else◌};
+ghost use Rattle.html_clean_values.specs.Replaced.{is_plain_char};
 ghost use Rattle.html_clean_styles.specs.Styles.{is_property_char};
 ghost use Rattle.html_clean_policy.specs.AttrNames.{is_barred};
 ghost use Rattle.html_clean_policy.specs.Building as made;
 ghost use Rattle.html_clean_policy.specs.Building.{can_keep, is_scheme, is_scheme_char, nothing};
 ghost use Rattle.html_clean_policy.specs.PolicyFaults.{Extends};
 ghost use Rattle.html_clean_policy.specs.PolicyViews.{policy_view};
-ghost use Rattle.html_clean_policy.specs.Sound.{is_prefix_char, is_property, is_written_char};
+ghost use Rattle.html_clean_policy.specs.Sound.{is_prefix_char, is_property};
 
 use crate::elements::{is_dropped, is_never_kept};
 use crate::fault::{PolicyFault, PolicyRefused};
@@ -64,7 +65,7 @@ fn is_prefix(text: &str) -> bool
 }
 
 fn is_written(text: &str) -> bool
-    ensures { result ≡ list_all is_written_char (chars text.now) }
+    ensures { result ≡ list_all is_plain_char (chars text.now) }
 {
     text.chars().all(|c| is_w3c_text_char(c) && c != '\r')
 }
@@ -255,7 +256,7 @@ impl Policy {
     pub fn with_rel(mut self, rel: &str) -> Result<Policy, PolicyRefused>
         ensures { let text = chars rel.now in
             Extends result (policy_view self) (made.with_rel text (policy_view self))
-            6 text (list_all is_written_char text) }
+            6 text (list_all is_plain_char text) }
     {
         let Ok(text) = String::from_str(*self.elements.allocator(), rel) else {
             return Err(PolicyRefused {
@@ -271,5 +272,21 @@ impl Policy {
         }
         self.rel = Some(text);
         Ok(self)
+    }
+
+    /// Lets links keep their own `rel`, if it is an attribute that stays.
+    pub fn without_rel(mut self) -> Policy
+        ensures { policy_view result ≡ made.without_rel (policy_view self) }
+    {
+        self.rel = None;
+        self
+    }
+
+    /// Lets URLs without a scheme stay no more.
+    pub fn without_relative(mut self) -> Policy
+        ensures { policy_view result ≡ made.without_relative (policy_view self) }
+    {
+        self.relative = false;
+        self
     }
 }

@@ -7,9 +7,13 @@ mod build;
 mod elements;
 mod fault;
 mod kept;
+pub mod laws;
 mod link;
+mod lists;
 mod names;
 mod policy;
+mod ready;
+mod tables;
 
 pub use elements::{is_dropped, is_never_kept};
 pub use fault::{PolicyFault, PolicyRefused};
