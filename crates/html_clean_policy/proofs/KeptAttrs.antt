@@ -1,9 +1,9 @@
 -- The attributes that stay of an element.
 use Rattle.std.proofs.Common.{◌≡◌, ◌≤◌, ◌⊎◌, ℕ, Bool, true, false, not, ◌&&◌, cond, List, [], ◌∷◌, ◌++◌, Option, Some, None, ap, arith, length, refl, subst, sym, ◌∙◌, take}
-use Rattle.std.proofs.lemmas.{Bool.{and_parts}, Bool.Decides.{nat_tests}, List.{length-append, length-take, take-take, take_all}}
+use Rattle.std.proofs.lemmas.{Bool.{and_parts}, Bool.Decides.{nat_tests}, List.{length-append, length-take, take-take}}
 use Rattle.std.specs.{Char.{is_ascii_whitespace}, List.{AllByRecursion, filter_map, list_all}, Prelude.{codes}}
 use Rattle.html_names_core.specs.{Characters.{IsOf, all}, Names.{stands_in}, Texts.{TextPair}}
-use Rattle.html_clean_values.specs.Replaced.{is_plain_char, replaced}
+use Rattle.html_clean_values.specs.Replaced.{is_plain_char}
 use Rattle.html_clean_values.proofs.JoinedWords.{prefixed_words_once, prefixed_words_passes}
 use Rattle.html_clean_values.proofs.PrefixLaws.{prefixed_href_once, prefixed_href_passes, prefixed_name_once, prefixed_name_passes}
 use Rattle.html_clean_styles.specs.Styles.{ArePropertyNames, clean_style, is_printable, is_property_char}

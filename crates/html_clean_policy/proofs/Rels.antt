@@ -1,10 +1,10 @@
 -- The `rel` of a link that is given once more.
 use Rattle.std.proofs.Common.{◌≡◌, ◌≤◌, ◌⊎◌, inl, inr, ℕ, Bool, true, false, not, cond, ◌||◌, List, [], ◌∷◌, ◌++◌, Option, Some, None, ap, arith, bytes_eq, length, refl, subst, sym, ◌∙◌, take}
-use Rattle.std.proofs.lemmas.List.{append-nil, length-take, take-take, take_all}
+use Rattle.std.proofs.lemmas.List.{append-nil, take_all}
 use Rattle.std.specs.{List.{AllByRecursion, cons_option, filter_map}, Prelude.{codes}}
 use Rattle.html_names_core.specs.{Names.{stands_in}, Texts.{TextPair}}
 use Rattle.html_names_core.proofs.Basics.{bytes_eq-same}
-use Rattle.html_clean_policy.proofs.Pairs.{Stays, all_filtered, all_taken, length_filtered, mapped_stay, mapped_with_last, take_with_last}
+use Rattle.html_clean_policy.proofs.Pairs.{Stays, all_filtered, length_filtered, mapped_stay, mapped_with_last, take_with_last}
 use Rattle.html_clean_policy.specs.LinkRels.{is_rel, is_target, leads, with_rel, without_rel}
 
 abbrev rel_pair : List ℕ → TextPair

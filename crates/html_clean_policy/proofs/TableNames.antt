@@ -1,5 +1,5 @@
 -- Names of tables, one after the other.
-use Rattle.std.proofs.Common.{◌≡◌, ℕ, ◌<◌, zero, suc, Bool, true, ◌&&◌, List, [], ◌∷◌, ap, arith, get_or, length, map, refl, subst, sym, ◌∙◌}
+use Rattle.std.proofs.Common.{◌≡◌, ℕ, ◌<◌, zero, suc, Bool, true, ◌&&◌, List, [], ◌∷◌, arith, get_or, length, map}
 use Rattle.std.proofs.lemmas.Bool.{and_parts}
 use Rattle.std.specs.{Borrow.{Bor}, List.{list_all}}
 use Rattle.html_names_core.specs.Characters.{IsOf, all, is_attr_char, is_tag_char}

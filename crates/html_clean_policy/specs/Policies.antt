@@ -1,5 +1,5 @@
 -- Which elements a policy lets stay.
-use Rattle.std.specs.Prelude.{◌≡◌, ℕ, Bool, true, not, ◌&&◌, ◌||◌, ◌==◌, List, [], ◌++◌, codes, Option}
+use Rattle.std.specs.Prelude.{◌≡◌, ℕ, Bool, true, not, ◌&&◌, ◌||◌, List, [], ◌++◌, codes, Option}
 use Rattle.html_names_core.specs.Names.{listed_names, stands_in}
 use Rattle.html_page_names.specs.{ForeignNames.{keeps_case}, PageNames.{of}}
 use Rattle.html_clean_policy.specs.Sound.{are_sound}

@@ -30,8 +30,9 @@ fn can_keep(tag: &HtmlTag) -> bool
 fn are_scheme_chars(text: &str) -> bool
     ensures { result ≡ list_all is_scheme_char (chars text.now) }
 {
-    text.chars()
-        .all(|c| c.is_ascii_lowercase() || c.is_ascii_digit() || matches!(c, '+' | '-' | '.'))
+    text.chars().all(|c| c.is_ascii_lowercase()
+        || c.is_ascii_digit()
+        || matches!(c, '+' | '-' | '.'))
 }
 
 fn is_scheme(text: &str) -> bool
@@ -71,7 +72,16 @@ fn is_written(text: &str) -> bool
 }
 
 impl Policy {
-    /// Creates the policy that lets only text stay: no element, no attribute.
+    /// Creates the policy that lets only text stay: no element, no attribute, no URL.
+    ///
+    /// ```
+    /// use html_clean::Policy;
+    /// use html_names::tag;
+    ///
+    /// let policy = Policy::text(rt.alloc()).with_element(tag::em)?;
+    /// assert!(rt; policy.allows(&tag::em));
+    /// assert!(rt; !policy.allows(&tag::strong));
+    /// ```
     #[tactic(auto, using(std::proofs::StrCases::chars_of_empty))]
     pub fn text(alloc: Global) -> Policy
         ensures { policy_view result ≡ nothing }
@@ -89,7 +99,17 @@ impl Policy {
         }
     }
 
-    /// Lets the elements with that name stay.
+    /// Lets elements with that name stay. Fails if no policy keeps them
+    /// ([`is_dropped`](crate::is_dropped), [`is_never_kept`](crate::is_never_kept)).
+    ///
+    /// ```
+    /// use html_clean::{Policy, PolicyFault};
+    /// use html_names::tag;
+    ///
+    /// let policy = Policy::text(rt.alloc());
+    /// let refused = policy.with_element(tag::script).err().expect(&rt, "a fault");
+    /// assert!(rt; refused.fault == PolicyFault::NeverKeptTag(tag::script));
+    /// ```
     pub fn with_element(mut self, tag: HtmlTag) -> Result<Policy, PolicyRefused>
         ensures { Extends result (policy_view self) (made.with_element tag (policy_view self))
             1 tag (can_keep tag) }
@@ -109,7 +129,7 @@ impl Policy {
         }
     }
 
-    /// Lets the attribute stay on each element.
+    /// Lets the attribute stay on each element. Fails if it is an event handler or `srcdoc`.
     pub fn with_attr(mut self, attr: HtmlAttr) -> Result<Policy, PolicyRefused>
         ensures { Extends result (policy_view self) (made.with_attr attr (policy_view self))
             2 attr (not (is_barred attr)) }
@@ -129,7 +149,8 @@ impl Policy {
         }
     }
 
-    /// Lets the attribute stay on elements with that name.
+    /// Lets the attribute stay on elements with that name, if these stay. Fails as
+    /// [`with_element`](Policy::with_element) and [`with_attr`](Policy::with_attr) do.
     pub fn with_own_attr(mut self, tag: HtmlTag, attr: HtmlAttr) -> Result<Policy, PolicyRefused>
         ensures { Extends result (policy_view self) (made.with_own_attr tag attr (policy_view self))
             (if can_keep tag then 2 else 1) (if can_keep tag then attr else tag)

@@ -1,4 +1,4 @@
-use Rattle.std.proofs.{Common.{◌≡◌, ◌<◌, arith, length}, lemmas.List.{length-map}}
+use Rattle.std.proofs.{Common.{◌<◌, arith, length}, lemmas.List.{length-map}}
 use Rattle.html_dom_tree.specs.Views.{attrs_view, pair_view}
 use Rattle.html_clean_policy.proofs.FirstKept.{one_kept, still_within}
 use Rattle.html_clean_policy.specs.{KeptAttrs.{kept_pair}, PolicyViews.{policy_view}}
