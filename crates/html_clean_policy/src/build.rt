@@ -130,6 +130,19 @@ impl Policy {
     }
 
     /// Lets the attribute stay on each element. Fails if it is an event handler or `srcdoc`.
+    ///
+    /// ```
+    /// use html_clean::Policy;
+    /// use html_dom::HtmlAttrs;
+    /// use html_names::{attr, tag};
+    ///
+    /// let alloc = rt.alloc();
+    /// let policy = Policy::text(alloc).with_attr(attr::title)?;
+    /// let mut attrs = HtmlAttrs::new(alloc);
+    /// attrs.push(attr::title, String::from_str(alloc, "Salt")?)?;
+    /// attrs.push(attr::id, String::from_str(alloc, "salt")?)?;
+    /// assert_eq!(rt; policy.kept_attrs(&tag::p, &attrs)?.0.len(), 1);
+    /// ```
     pub fn with_attr(mut self, attr: HtmlAttr) -> Result<Policy, PolicyRefused>
         ensures { Extends result (policy_view self) (made.with_attr attr (policy_view self))
             2 attr (not (is_barred attr)) }
@@ -151,6 +164,19 @@ impl Policy {
 
     /// Lets the attribute stay on elements with that name, if these stay. Fails as
     /// [`with_element`](Policy::with_element) and [`with_attr`](Policy::with_attr) do.
+    ///
+    /// ```
+    /// use html_clean::Policy;
+    /// use html_dom::HtmlAttrs;
+    /// use html_names::{attr, tag};
+    ///
+    /// let alloc = rt.alloc();
+    /// let policy = Policy::text(alloc).with_own_attr(tag::ol, attr::start)?;
+    /// let mut attrs = HtmlAttrs::new(alloc);
+    /// attrs.push(attr::start, String::from_str(alloc, "3")?)?;
+    /// assert_eq!(rt; policy.kept_attrs(&tag::ol, &attrs)?.0.len(), 1);
+    /// assert_eq!(rt; policy.kept_attrs(&tag::ul, &attrs)?.0.len(), 0);
+    /// ```
     pub fn with_own_attr(mut self, tag: HtmlTag, attr: HtmlAttr) -> Result<Policy, PolicyRefused>
         ensures { Extends result (policy_view self) (made.with_own_attr tag attr (policy_view self))
             (if can_keep tag then 2 else 1) (if can_keep tag then attr else tag)
@@ -194,6 +220,13 @@ impl Policy {
     }
 
     /// Lets URLs with that scheme stay, such as `https`. Fails if it is no scheme in small letters.
+    ///
+    /// ```
+    /// use html_clean::Policy;
+    ///
+    /// let policy = Policy::text(rt.alloc()).with_scheme("mailto")?;
+    /// assert!(rt; policy.with_scheme("mailto:").is_err());
+    /// ```
     pub fn with_scheme(mut self, scheme: &str) -> Result<Policy, PolicyRefused>
         ensures { let text = chars scheme.now in
             Extends result (policy_view self) (made.with_scheme text (policy_view self))
@@ -222,6 +255,20 @@ impl Policy {
 
     /// Lets declarations of that css property stay in `style`, such as `color`. Fails if the text is
     /// empty or has other characters than small letters and `-`.
+    ///
+    /// ```
+    /// use html_clean::Policy;
+    /// use html_dom::HtmlAttrs;
+    /// use html_names::{attr, tag};
+    ///
+    /// let alloc = rt.alloc();
+    /// let policy = Policy::text(alloc).with_attr(attr::style)?.with_property("color")?;
+    /// let mut attrs = HtmlAttrs::new(alloc);
+    /// attrs.push(attr::style, String::from_str(alloc, "color: red; position: fixed")?)?;
+    /// let kept = policy.kept_attrs(&tag::p, &attrs)?;
+    /// let style = kept.get(&attr::style).expect(&rt, "a style");
+    /// assert_eq!(rt; style.as_str(), "color: red");
+    /// ```
     pub fn with_property(mut self, property: &str) -> Result<Policy, PolicyRefused>
         ensures { let text = chars property.now in
             Extends result (policy_view self) (made.with_property text (policy_view self))
@@ -251,6 +298,13 @@ impl Policy {
     /// Puts that text before each id and each name of a place, and before what refers to them,
     /// unless it stands there already. Fails if it has other characters than ASCII letters, digits,
     /// `-` and `_`.
+    ///
+    /// ```
+    /// use html_clean::Policy;
+    ///
+    /// let policy = Policy::inline(rt.alloc())?.with_prefix("comment-")?;
+    /// assert!(rt; policy.with_prefix("a b").is_err());
+    /// ```
     pub fn with_prefix(mut self, prefix: &str) -> Result<Policy, PolicyRefused>
         ensures { let text = chars prefix.now in
             Extends result (policy_view self) (made.with_prefix text (policy_view self))
@@ -274,6 +328,13 @@ impl Policy {
 
     /// Gives each `a`, `area` and `form` that leads elsewhere this `rel` in place of its own. Fails
     /// if the text has a character that is not read as it is written.
+    ///
+    /// ```
+    /// use html_clean::Policy;
+    ///
+    /// let policy = Policy::article(rt.alloc())?.with_rel("nofollow ugc")?;
+    /// assert!(rt; policy.with_rel("\0").is_err());
+    /// ```
     pub fn with_rel(mut self, rel: &str) -> Result<Policy, PolicyRefused>
         ensures { let text = chars rel.now in
             Extends result (policy_view self) (made.with_rel text (policy_view self))

@@ -1,10 +1,11 @@
 -- Commas at the end of a text, by bytes and by characters.
-use Rattle.std.proofs.Common.{◌≡◌, ℕ, ◌+◌, ◌-◌, lit<, get_or, Bool, true, false, List, [], ◌∷◌, ◌++◌, chars, length, length-append, take, refl, sym, ap, ◌∙◌, arith}
+use Rattle.std.proofs.Common.{◌≡◌, ℕ, ◌+◌, ◌-◌, lit<, get_or, Bool, true, List, [], ◌∷◌, ◌++◌, chars, length, length-append, take, refl, sym, ap, ◌∙◌, arith}
 use Rattle.std.proofs.lemmas.Bool.{eqb-true, false≢true}
 use Rattle.std.proofs.lemmas.Str.{IsCharBoundary-before_ascii, IsUtf8-take, chars-append, chars-IsAscii, encodes-append, encodes-chars, encodes-IsAscii}
 use Rattle.std.proofs.lemmas.Str.Ascii.{IsAscii-cons, IsAscii-nil}
 use Rattle.std.proofs.lemmas.List.{get_or_at}
 use Rattle.std.specs.Str.{IsAscii, IsUtf8}
+use Rattle.html_clean_values.proofs.Prefixing.{same_tests}
 use Rattle.html_clean_values.specs.Srcsets.{ends_in_comma}
 use lib.Utf8.{encodes}
 
@@ -27,20 +28,17 @@ front_of (c ∷ d ∷ cs) is =
 comma_ascii : IsAscii (44 ∷ [])
 comma_ascii = IsAscii-cons 44 [] (lit< tt) IsAscii-nil
 
-same_tests : (a b : Bool) → (a ≡ true → b ≡ true) → (b ≡ true → a ≡ true) → a ≡ b
-same_tests true b f g = sym (f refl)
-same_tests false true f g = g refl
-same_tests false false f g = refl
-
 module _ (bs : List ℕ) (u : IsUtf8 bs) where
   by_chars : bs ≡ take (length bs - 1) bs ++ 44 ∷ [] → ends_in_comma (chars bs) ≡ true
   by_chars is =
       let front = take (length bs - 1) bs in
       let long : length bs ≡ length front + 1 = ap length is ∙ length-append front (44 ∷ []) in
       let byte : get_or bs (length bs - 1) 0 ≡ 44 =
-      ap (λ l. get_or l (length bs - 1) 0) is ∙ get_or_at front 44 [] 0 (length bs - 1) (omega (arith, long)) in
+      ap (λ l. get_or l (length bs - 1) 0) is
+      ∙ get_or_at front 44 [] 0 (length bs - 1) (omega (arith, long)) in
       let v = IsUtf8-take bs (length bs - 1) u
-      (IsCharBoundary-before_ascii bs (length bs - 1) (omega (arith, long)) (omega (arith, byte))) in
+      (IsCharBoundary-before_ascii bs (length bs - 1) (omega (arith, long))
+      (omega (arith, byte))) in
       ap ends_in_comma (ap chars is ∙ (chars-append front (44 ∷ []) v
       ∙ ap (λ l. chars front ++ l) (chars-IsAscii (44 ∷ []) comma_ascii))) ∙ comma_end (chars front)
 

@@ -14,10 +14,12 @@ is_word_char c = not (is_ascii_whitespace c)
 
 onto_first_passes : (is : ℕ → Bool) (c : ℕ) (parts : List (List ℕ)) → is c ≡ true →
     list_all (all is) parts ≡ true → list_all (all is) (onto_first c parts) ≡ true
-onto_first_passes is c [] first h = and_from (all is (c ∷ [])) true (and_from (is c) true first refl) refl
+onto_first_passes is c [] first h =
+    and_from (all is (c ∷ [])) true (and_from (is c) true first refl) refl
 onto_first_passes is c (p ∷ ps) first h =
     let both = and_parts (all is p) (list_all (all is) ps) h in
-    and_from (all is (c ∷ p)) (list_all (all is) ps) (and_from (is c) (all is p) first both.0) both.1
+    and_from (all is (c ∷ p)) (list_all (all is) ps)
+    (and_from (is c) (all is p) first both.0) both.1
 
 abbrev parts : List ℕ → List (List ℕ)
 parts = slice_split is_ascii_whitespace

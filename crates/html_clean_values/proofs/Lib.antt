@@ -5,5 +5,6 @@ pub mod PrefixLaws
 pub mod Prefixing
 pub mod Replacing
 pub mod SchemeSteps
+pub mod ScriptSchemes
 pub mod SrcsetSteps
 pub mod WordSteps

@@ -6,7 +6,7 @@ use Rattle.std.specs.{List.{starts_with}, Str.{IsUtf8}}
 use Rattle.html_clean_values.specs.Words.{joined}
 use lib.Utf8.{encodes}
 
-same_tests : (a b : Bool) → (a ≡ true → b ≡ true) → (b ≡ true → a ≡ true) → a ≡ b
+pub same_tests : (a b : Bool) → (a ≡ true → b ≡ true) → (b ≡ true → a ≡ true) → a ≡ b
 same_tests true b f g = sym (f refl)
 same_tests false true f g = g refl
 same_tests false false f g = refl
@@ -16,7 +16,8 @@ pub starts_chars : (s p : List ℕ) → IsUtf8 s → IsUtf8 p →
     starts_with eqb s p ≡ starts_with eqb (chars s) (chars p)
 starts_chars s p u v =
     let by_bytes = starts_is Decides-eqb s p (starts_with eqb s p) refl in
-    let by_chars = starts_is Decides-eqb (chars s) (chars p) (starts_with eqb (chars s) (chars p)) refl in
+    let by_chars = starts_is Decides-eqb (chars s) (chars p)
+    (starts_with eqb (chars s) (chars p)) refl in
     same_tests (starts_with eqb s p) (starts_with eqb (chars s) (chars p))
     (λ h. by_chars.1 (chars (drop (length p) s))
     (ap chars (by_bytes.0 h) ∙ chars-append p (drop (length p) s) v))

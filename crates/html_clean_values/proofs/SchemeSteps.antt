@@ -5,9 +5,13 @@ use Rattle.std.specs.Char.{is_ascii_alphabetic, to_ascii_lowercase}
 use Rattle.html_names_core.specs.{Characters.{all}, Names.{stands_in}}
 use Rattle.html_links.specs.{Indicated.{is_control_or_space, is_kept}, Scripts.{past_blanks, url_begin}}
 use Rattle.html_clean_values.specs.{SchemeTests.{begins_with, is_colon, is_letter_of, one_is_scheme, scheme_rest_is}, Srcsets.{is_comma, without_commas}}
-use Rattle.html_clean_values.specs.Urls.{is_scheme_char, scheme_at, scheme_is_allowed, scheme_rest, url_is_allowed, url_scheme}
+use Rattle.html_clean_values.specs.Urls.{is_scheme_char, scheme_at, scheme_is_allowed, scheme_rest, url_is_allowed, url_scheme, with_letter}
 
 -- step by step
+
+abbrev rest_before : ℕ → Option (List ℕ) → Option (List ℕ)
+rest_before c o =
+    if eqb c 58 then Some [] else (if is_scheme_char c then with_letter c o else None)
 
 pub colon : (c : ℕ) (cs : List ℕ) → eqb c 58 ≡ true → scheme_rest (c ∷ cs) ≡ Some []
 colon c cs is = rw is refl
@@ -17,16 +21,8 @@ pub no_scheme : (c : ℕ) (cs : List ℕ) → eqb c 58 ≡ false → is_scheme_c
 no_scheme c cs is bad = rw (is, bad) refl
 
 pub more : (c : ℕ) (cs : List ℕ) → eqb c 58 ≡ false → is_scheme_char c ≡ true →
-    scheme_rest (c ∷ cs) ≡ option_map (λ s. to_ascii_lowercase c ∷ s) (scheme_rest cs)
+    scheme_rest (c ∷ cs) ≡ with_letter c (scheme_rest cs)
 more c cs is good = rw (is, good) refl
-
-some_more : (c : ℕ) (o : Option (List ℕ)) → is_some (option_map (λ s. c ∷ s) o) ≡ is_some o
-some_more c None = refl
-some_more c (Some s) = refl
-
-pub is_some_more : (c : ℕ) (cs : List ℕ) → eqb c 58 ≡ false → is_scheme_char c ≡ true →
-    is_some (scheme_rest (c ∷ cs)) ≡ is_some (scheme_rest cs)
-is_some_more c cs is good = ap is_some (more c cs is good) ∙ some_more _ (scheme_rest cs)
 
 -- the test of one scheme
 
@@ -62,7 +58,8 @@ rest_tested [] (c ∷ cs) = by (eqb c 58) (is_scheme_char c) refl refl where
 rest_tested (x ∷ xs) [] = refl
 rest_tested (x ∷ xs) (c ∷ cs) =
     by (rest_tested xs cs) (eqb c 58) (is_scheme_char c) refl refl where
-      by : scheme_rest_is xs cs ≡ is_that (scheme_rest cs) xs → (a b : Bool) → eqb c 58 ≡ a → is_scheme_char c ≡ b →
+      by : scheme_rest_is xs cs ≡ is_that (scheme_rest cs) xs → (a b : Bool) →
+          eqb c 58 ≡ a → is_scheme_char c ≡ b →
           scheme_rest_is (x ∷ xs) (c ∷ cs) ≡ is_that (scheme_rest (c ∷ cs)) (x ∷ xs)
       by held true b is good =
           ap (λ b. (b && eqb x (to_ascii_lowercase c)) && scheme_rest_is xs cs) (no_colon c is)
@@ -115,7 +112,8 @@ one_tested (s ∷ ss) cs scheme is =
 
 -- whether a URL is allowed
 
-allowed_by : (schemes : List (List ℕ)) (relative : Bool) (c : ℕ) (cs : List ℕ) (a : Bool) (o : Option (List ℕ)) →
+allowed_by : (schemes : List (List ℕ)) (relative : Bool) (c : ℕ) (cs : List ℕ) (a : Bool)
+    (o : Option (List ℕ)) →
     is_ascii_alphabetic c ≡ a → scheme_rest (c ∷ cs) ≡ o →
     scheme_is_allowed schemes relative (scheme_at (c ∷ cs))
     ≡ (if is_some (scheme_at (c ∷ cs)) then one_is_scheme schemes (c ∷ cs) else relative)
@@ -133,7 +131,8 @@ allowed_at schemes relative (c ∷ cs) =
 
 pub allowed_is : (schemes : List (List ℕ)) (relative : Bool) (url : List ℕ) →
     url_is_allowed schemes relative url
-    ≡ (if is_some (scheme_at (url_begin url)) then one_is_scheme schemes (url_begin url) else relative)
+    ≡ (if is_some (scheme_at (url_begin url)) then one_is_scheme schemes (url_begin url)
+    else relative)
 unfolding url_is_allowed url_scheme
 allowed_is schemes relative url = allowed_at schemes relative (url_begin url)
 
@@ -160,7 +159,7 @@ rest_without (c ∷ cs) = by (rest_without cs) (all is_comma (c ∷ cs)) (is_kep
       let is = (and_parts (is_comma c) (all is_comma cs) are).0 in
       rw (are, comma_kept c is) (sym (comma_rest c (filter is_kept cs) is))
   by held false true are kept =
-      rw (are, kept) (ap (λ o. if eqb c 58 then Some [] else (if is_scheme_char c then option_map (λ s. to_ascii_lowercase c ∷ s) o else None)) held)
+      rw (are, kept) (ap (rest_before c) held)
   by held false false are kept = rw (are, kept) held
 
 visible_kept : (c : ℕ) → is_control_or_space c ≡ false → is_kept c ≡ true
@@ -171,14 +170,15 @@ at_without : (cs : List ℕ) →
 at_without [] = refl
 at_without (c ∷ cs) =
     by (at_without cs) (all is_comma (c ∷ cs)) (is_control_or_space c) refl refl where
-      by : scheme_at (url_begin (without_commas cs)) ≡ scheme_at (url_begin cs) → (a b : Bool) → all is_comma (c ∷ cs) ≡ a → is_control_or_space c ≡ b →
+      by : scheme_at (url_begin (without_commas cs)) ≡ scheme_at (url_begin cs) → (a b : Bool) →
+          all is_comma (c ∷ cs) ≡ a → is_control_or_space c ≡ b →
           scheme_at (url_begin (without_commas (c ∷ cs))) ≡ scheme_at (url_begin (c ∷ cs))
       by held true b are blank =
           rw are (sym (comma_at c cs (and_parts (is_comma c) (all is_comma cs) are).0))
       by held false true are blank = rw (are, blank) held
       by held false false are blank =
           rw (are, blank, visible_kept c blank)
-          (ap (λ o. if is_ascii_alphabetic c then (if eqb c 58 then Some [] else (if is_scheme_char c then option_map (λ s. to_ascii_lowercase c ∷ s) o else None)) else None) (rest_without cs))
+          (ap (λ o. if is_ascii_alphabetic c then rest_before c o else None) (rest_without cs))
 
 pub allowed_without : (schemes : List (List ℕ)) (relative : Bool) (url : List ℕ) →
     url_is_allowed schemes relative (without_commas url) ≡ url_is_allowed schemes relative url

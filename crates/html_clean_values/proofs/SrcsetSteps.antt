@@ -91,8 +91,15 @@ takes_url srcset left c cs url rest same long begins is first last =
     let front = first ∙ ap (before_first is_ascii_whitespace) begins in
     let back = last ∙ ap (after_first is_ascii_whitespace) begins in
     record {
-      urls = sym same ∙ (ap (urls_from Between) begins ∙ (url_taken c cs is ∙ rw (front, back) refl));
-      shorter = omega (arith, after_shorter is_ascii_whitespace c cs, ap length back, ap length begins, long);
+      urls = sym same ∙ (ap (urls_from Between) begins
+          ∙ (url_taken c cs is ∙ rw (front, back) refl));
+      shorter = omega (
+        arith,
+        after_shorter is_ascii_whitespace c cs,
+        ap length back,
+        ap length begins,
+        long,
+      );
     }
 
 -- descriptors

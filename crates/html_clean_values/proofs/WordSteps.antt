@@ -60,5 +60,11 @@ takes_word text left c cs word rest same long begins is first last =
     let back = last ∙ ap (after_first is_ascii_whitespace) begins in
     record {
       words = sym same ∙ (ap words begins ∙ (words_word c cs is ∙ rw (front, back) refl));
-      shorter = omega (arith, after_shorter is_ascii_whitespace c cs, ap length back, ap length begins, long);
+      shorter = omega (
+        arith,
+        after_shorter is_ascii_whitespace c cs,
+        ap length back,
+        ap length begins,
+        long,
+      );
     }

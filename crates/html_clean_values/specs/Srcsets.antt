@@ -1,4 +1,5 @@
--- The URLs of the image candidates of a `srcset` (HTML Standard 4.8.4.3, "parse a srcset attribute").
+-- The URLs of the image candidates of a `srcset` (HTML Standard 4.8.4.3, "parse a srcset
+-- attribute").
 use Rattle.std.specs.Char.{is_ascii_whitespace}
 use Rattle.std.specs.Prelude.{◌≡◌, ℕ, ◌<◌, length, Bool, true, false, not, ◌||◌, ◌&&◌, ◌==◌, List, [], ◌∷◌, ◌++◌, if◌then◌else◌}
 use Rattle.html_names_core.specs.Characters.{all}
@@ -54,8 +55,8 @@ urls_from Parentheses (c ∷ cs) =
 abbrev pub srcset_urls : (srcset : List ℕ) → List (List ℕ)
 srcset_urls = urls_from Between
 
--- the first candidate's URL is that one without the commas at its end, and the others are those of the
--- rest
+-- the first candidate's URL is that one without the commas at its end, and the others are those of
+-- the rest
 pub record TakesUrl (srcset url rest : List ℕ) : Type 0 where
   pub urls : urls_from Between srcset ≡ without_commas url ∷ urls_from (behind_url url) rest
   pub shorter : length rest < length srcset

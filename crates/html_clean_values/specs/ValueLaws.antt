@@ -1,6 +1,7 @@
 -- Laws of values.
-use Rattle.std.specs.{Char.{is_ascii_whitespace}, Prelude.{◌≡◌, ℕ, Bool, true, not, List}}
-use Rattle.html_names_core.specs.Characters.{all}
+use Rattle.std.specs.{Char.{is_ascii_whitespace}, Prelude.{◌≡◌, ℕ, Bool, true, false, not, List, codes}}
+use Rattle.html_names_core.specs.{Characters.{all}, Names.{stands_in}}
+use Rattle.html_links.specs.Scripts.{href_is_script}
 use Rattle.html_clean_values.specs.Prefixes.{prefixed, prefixed_href, prefixed_name, prefixed_words}
 use Rattle.html_clean_values.specs.{Replaced.{is_plain_char, replaced}, Urls.{url_is_allowed}}
 
@@ -16,7 +17,8 @@ abbrev pub ReplacedOnce : Type 0
 ReplacedOnce = (text : List ℕ) → replaced (replaced text) ≡ replaced text
 
 abbrev pub PrefixedOnce : Type 0
-PrefixedOnce = (prefix text : List ℕ) → prefixed prefix (prefixed prefix text) ≡ prefixed prefix text
+PrefixedOnce = (prefix text : List ℕ) →
+    prefixed prefix (prefixed prefix text) ≡ prefixed prefix text
 
 abbrev pub PrefixedNameOnce : Type 0
 PrefixedNameOnce = (prefix name : List ℕ) →
@@ -55,3 +57,10 @@ PrefixedHrefIsAllowed =
     (schemes : List (List ℕ)) (relative : Bool) (prefix href : List ℕ) →
     url_is_allowed schemes relative (prefixed_href prefix href)
     ≡ url_is_allowed schemes relative href
+
+-- where no scheme of scripts is allowed, no URL that is allowed is a script
+abbrev pub ScriptsAreRefused : Type 0
+ScriptsAreRefused = (schemes : List (List ℕ)) (relative : Bool) (url : List ℕ) →
+    stands_in schemes (codes "javascript") ≡ false → stands_in schemes (codes "data") ≡ false →
+    stands_in schemes (codes "vbscript") ≡ false → url_is_allowed schemes relative url ≡ true →
+    href_is_script url ≡ false

@@ -1,6 +1,6 @@
 //! Laws of values. The contract of each function is a law; the functions do nothing.
 
-ghost use Rattle.html_clean_values.specs.ValueLaws.{PlainStays, PrefixedHrefIsAllowed, PrefixedHrefOnce, PrefixedHrefPasses, PrefixedNameOnce, PrefixedNamePasses, PrefixedOnce, PrefixedPasses, PrefixedWordsOnce, PrefixedWordsPasses, ReplacedIsPlain, ReplacedOnce};
+ghost use Rattle.html_clean_values.specs.ValueLaws.{PlainStays, PrefixedHrefIsAllowed, PrefixedHrefOnce, PrefixedHrefPasses, PrefixedNameOnce, PrefixedNamePasses, PrefixedOnce, PrefixedPasses, PrefixedWordsOnce, PrefixedWordsPasses, ReplacedIsPlain, ReplacedOnce, ScriptsAreRefused};
 
 /// A text that [`replaced`](crate::replaced) returns holds text characters alone and no carriage
 /// return, and in such a text nothing is replaced.
@@ -35,4 +35,11 @@ pub fn prefixed_passes()
 #[tactic(auto, using(crate::proofs::PrefixLaws::prefixed_href_is_allowed))]
 pub fn prefixed_href_is_allowed()
     ensures { PrefixedHrefIsAllowed }
+{}
+
+/// If `javascript`, `data` and `vbscript` are none of the schemes, no URL that is allowed is a
+/// script ([`href_is_script`](html_links::href_is_script)).
+#[tactic(auto, using(crate::proofs::ScriptSchemes::scripts_are_refused))]
+pub fn scripts_are_refused()
+    ensures { ScriptsAreRefused }
 {}

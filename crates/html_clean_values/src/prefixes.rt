@@ -17,7 +17,8 @@ fn begins(text: &str, prefix: &str) -> bool
 
 #[tactic(auto, unfolding(crate::specs::Prefixes::prefixed))]
 fn push_prefixed(made: &mut TextWriter, prefix: &str, text: &str) -> Result<(), AllocError>
-    ensures { OnOk result (made.new ≡ made.old ++ names.prefixed (chars prefix.now) (chars text.now)) }
+    ensures { OnOk result (made.new
+        ≡ made.old ++ names.prefixed (chars prefix.now) (chars text.now)) }
 {
     if !begins(text, prefix) {
         made.push_str(prefix)?;
@@ -25,8 +26,8 @@ fn push_prefixed(made: &mut TextWriter, prefix: &str, text: &str) -> Result<(), 
     made.push_str(text)
 }
 
-/// Returns a text with a prefix, or the text as it is if it begins with the prefix. Fails only if an
-/// allocation fails.
+/// Returns a text with a prefix, or the text as it is if it begins with the prefix. Fails only if
+/// an allocation fails.
 ///
 /// ```
 /// use html_clean_values::prefixed;
@@ -99,8 +100,9 @@ pub fn prefixed_words(alloc: Global, prefix: &str, text: &str) -> Result<String,
     Ok(made.into_string())
 }
 
-/// Returns an `href` to a place of its own page with a prefix after its `#`: one that begins with `#`
-/// and has more characters. Any other `href` stays as it is. Fails only if an allocation fails.
+/// Returns an `href` with a prefix after its `#`, if it leads to a place of its own page: if it
+/// begins with `#` and has more characters. Any other `href` stays as it is. Fails only if an
+/// allocation fails.
 ///
 /// ```
 /// use html_clean_values::prefixed_href;

@@ -84,7 +84,8 @@ fn past_candidate<'a>(url: &str, rest: &'a str) -> &'a str
 }
 
 /// Returns whether the URL of each image candidate of a `srcset` is allowed, as
-/// [`url_is_allowed`](crate::url_is_allowed) says (HTML Standard 4.8.4.3, "parse a srcset attribute").
+/// [`url_is_allowed`](crate::url_is_allowed) says (HTML Standard 4.8.4.3, "parse a srcset
+/// attribute"). Descriptors, such as `2x`, may be anything.
 ///
 /// ```
 /// use html_clean_values::srcset_is_allowed;
@@ -100,7 +101,7 @@ pub fn srcset_is_allowed(schemes: &[String], relative: bool, srcset: &str) -> bo
 {
     let mut left = srcset;
     while let Some((url, rest)) = next_url(left) {
-        // (commas at its end, which are no part of it, change nothing of its scheme)
+        // The commas at its end, which are no part of it, change nothing of its scheme.
         if !url_is_allowed(schemes, relative, url) {
             return false;
         }

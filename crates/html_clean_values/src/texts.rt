@@ -22,9 +22,10 @@ fn replaced_char(c: char) -> char
     }
 }
 
-/// Returns a text with the characters alone that can be written: a carriage return becomes a line
-/// feed, as in the input stream of a page (HTML Standard 13.2.3.5), and a character that is no text
-/// character (a control, say, or a noncharacter) U+FFFD. Fails only if an allocation fails.
+/// Returns a text that a browser reads as it is written: each carriage return becomes a line feed,
+/// as in the input stream of a page (HTML Standard 13.2.3.5), and each character that is no text
+/// character, such as a control or a noncharacter, becomes U+FFFD. The others stay. Fails only if
+/// an allocation fails.
 ///
 /// ```
 /// use html_clean_values::replaced;

@@ -24,7 +24,7 @@ fn has_one_of(schemes: &[String], url: &str) -> bool
 /// Returns whether a URL has one of these schemes, which are in small letters, or has no scheme and
 /// `relative` is true. The scheme is what a browser takes for it (URL Standard 4.4): in any ASCII
 /// case, behind controls and spaces, and with tabs, line feeds and carriage returns in it, which a
-/// browser drops.
+/// browser drops. A URL such as `//a.example/` has none: it takes the scheme of its page.
 ///
 /// ```
 /// use html_clean_values::url_is_allowed;

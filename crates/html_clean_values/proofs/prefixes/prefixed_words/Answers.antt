@@ -33,7 +33,8 @@ loop-word-preserved c =
       is_separator = IsUtf8-from_ascii (32 ∷ []) space;
       same = ap (λ l. l ++ continued (chars (32 ∷ [])) others)
           (c.in_ok-push_prefixed.ensures ∙ ap (λ m. m ++ word) c.in_ok-push_str.ensures.added)
-          ∙ (ap (λ s. ((made ++ before) ++ word) ++ continued s others) (chars-IsAscii (32 ∷ []) space)
+          ∙ (ap (λ s. ((made ++ before) ++ word) ++ continued s others)
+          (chars-IsAscii (32 ∷ []) space)
           ∙ (sym (one_continued made before word others)
           ∙ (ap (λ ws. made ++ continued before (map p ws)) (sym c.in-Some.ensures.words)
           ∙ held.same)));

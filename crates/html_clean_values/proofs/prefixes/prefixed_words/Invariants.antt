@@ -9,7 +9,8 @@ abbrev pub invariant-loop-word : goal.invariant-loop-word
 invariant-loop-word l = record {
   is_text : shadow (Utf8 l.left);
   is_separator : shadow (Utf8 l.separator);
-  same : l.made ++ continued (chars l.separator) (map (prefixed (chars l.prefix)) (words (chars l.left)))
+  same : l.made
+      ++ continued (chars l.separator) (map (prefixed (chars l.prefix)) (words (chars l.left)))
       ≡ prefixed_words (chars l.prefix) (chars l.text);
 }
 

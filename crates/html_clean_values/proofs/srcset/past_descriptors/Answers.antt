@@ -16,7 +16,8 @@ loop-c-preserved c =
     let b = c.loop-c.in_parentheses in
     record {
       is_text = search rules;
-      same = ap (λ d. urls_from (in_descriptors d) (chars c.in-Some.rest.now)) c.behind_char-in_parentheses.ensures
+      same = ap (λ d. urls_from (in_descriptors d) (chars c.in-Some.rest.now))
+          c.behind_char-in_parentheses.ensures
           ∙ (sym (candidate_goes_on b c.in-Some.c (chars c.in-Some.rest.now)
           (sym c.ends_candidate.ensures ∙ c.if-ends_candidate.false))
           ∙ (ap (urls_from (in_descriptors b)) (sym c.in-Some.ensures) ∙ held.same));

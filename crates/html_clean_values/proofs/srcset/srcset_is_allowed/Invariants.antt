@@ -7,11 +7,13 @@ use denote.Text.{Utf8}
 use Rattle.html_clean_values.proofs.srcset.srcset_is_allowed.Given as goal
 
 abbrev pub invariant-loop-url : goal.invariant-loop-url
-invariant-loop-url l = record {
-  is_text : shadow (Utf8 l.left);
-  same : list_all (url_is_allowed (texts_view l.schemes) l.relative) (urls_from Between (chars l.left))
-      ≡ list_all (url_is_allowed (texts_view l.schemes) l.relative) (urls_from Between (chars l.srcset));
-}
+invariant-loop-url l =
+    let is_allowed = url_is_allowed (texts_view l.schemes) l.relative in
+    record {
+      is_text : shadow (Utf8 l.left);
+      same : list_all is_allowed (urls_from Between (chars l.left))
+          ≡ list_all is_allowed (urls_from Between (chars l.srcset));
+    }
 
 abbrev pub decreases-loop-url : goal.decreases-loop-url
 decreases-loop-url l = length (chars l.left)

@@ -6,7 +6,8 @@ use Rattle.html_clean_values.proofs.words.next_word.Goals as goal
 pub returns-then-not-is_ascii_whitespace : goal.returns-then-not-is_ascii_whitespace
 returns-then-not-is_ascii_whitespace c =
     let held = c.loop-c.invariant in
-    takes_word (chars c.args.text.now) (chars c.loop-c.left.now) c.in-Some.c (chars c.in-Some.rest.now)
+    takes_word (chars c.args.text.now) (chars c.loop-c.left.now) c.in-Some.c
+    (chars c.in-Some.rest.now)
     (chars c.cut_word.result.0.now) (chars c.cut_word.result.1.now) held.same held.long
     c.in-Some.ensures (search rules) c.cut_word.ensures.word c.cut_word.ensures.rest
 
