@@ -1,37 +1,39 @@
 -- What stays of a style is cleaned once more, and stays as it is.
-use Rattle.std.proofs.Common.{◌≡◌, ℕ, ◌==◌, Bool, true, false, ◌&&◌, Option, Some, None, List, [], ◌∷◌, ◌++◌, map, refl, sym, ap, ◌∙◌, inl, inr}
+use Rattle.std.proofs.Common.{◌≡◌, ℕ, ◌==◌, Bool, true, false, not, ◌&&◌, Option, Some, None, List, [], ◌∷◌, ◌++◌, map, refl, ap, ◌∙◌, inl, inr}
 use Rattle.std.proofs.lemmas.Bool.{and_parts, cases_Bool}
-use Rattle.std.specs.{Char.{to_ascii_lowercase}, List.{onto_first}, Prelude.{codes, option_map}, Str.{NonePass}}
-use Rattle.html_names_core.specs.{Characters.{all}, Names.{stands_in}, Texts.{TextPair}}
-use Rattle.html_clean_styles.proofs.Characters.{declarations_printable, declared_style, is_style_char, listed, none_pass, property_no_colon, property_shown, property_small, style_no_end}
+use Rattle.std.specs.{Char.{to_ascii_lowercase}, List.{list_all, onto_first}, Prelude.{codes, option_map}, Str.{NonePass}}
+use Rattle.html_names_core.specs.{Characters.{is_text_char}, Names.{stands_in}, Texts.{TextPair}}
+use Rattle.html_clean_styles.proofs.Characters.{all_are, declarations_printable, declared_style, is_style_char, listed, none_pass, printable_text, property_no_colon, property_shown, property_small, style_no_end}
 use Rattle.html_clean_styles.proofs.{Cuts.{colon_within, first_piece, last_piece}, Joined.{none_follow}, Spaces.{squeezed_again}}
-use Rattle.html_clean_styles.specs.Laws.{CleanStylesArePrintable, CleanStylesStay}
-use Rattle.html_clean_styles.specs.Styles.{ArePropertyNames, clean_style, cut_colon, declaration, declarations, declared, is_plain, is_property_char, is_space, joined, pieces, spaced, squeezed, squeezed_from, written}
+use Rattle.html_clean_styles.specs.Laws.{CleanStylesArePrintable, CleanStylesAreText, CleanStylesStay}
+use Rattle.html_clean_styles.specs.Styles.{ArePropertyNames, clean_style, cut_colon, declaration, declarations, declared, is_plain, is_printable, is_property_char, is_space, joined, pieces, spaced, squeezed, squeezed_from, written}
 
-squeezed_name : (begun : Bool) (name : List ℕ) → all is_property_char name ≡ true →
+squeezed_name : (begun : Bool) (name : List ℕ) → list_all is_property_char name ≡ true →
     squeezed_from begun false name ≡ name
 unfolding squeezed_from spaced
 squeezed_name begun [] h = refl
 squeezed_name begun (c ∷ cs) h =
-    let both = and_parts (is_property_char c) (all is_property_char cs) h in
+    let both = and_parts (is_property_char c) (list_all is_property_char cs) h in
     rw (property_shown c both.0) (ap (λ l. c ∷ l) (squeezed_name true cs both.1))
 
-small_name : (name : List ℕ) → all is_property_char name ≡ true → map to_ascii_lowercase name ≡ name
+small_name : (name : List ℕ) → list_all is_property_char name ≡ true →
+    map to_ascii_lowercase name ≡ name
 small_name [] h = refl
 small_name (c ∷ cs) h =
-    let both = and_parts (is_property_char c) (all is_property_char cs) h in
+    let both = and_parts (is_property_char c) (list_all is_property_char cs) h in
     ap (λ x. x ∷ map to_ascii_lowercase cs) (property_small c both.0)
     ∙ ap (λ l. c ∷ l) (small_name cs both.1)
 
 module _ (properties : List (List ℕ)) where
   -- a declaration in its one form is read as its name and its value
-  read_again : (name value : List ℕ) → all is_property_char name ≡ true → squeezed value ≡ value →
+  read_again : (name value : List ℕ) → list_all is_property_char name ≡ true → squeezed value ≡ value →
       declaration properties (name ++ (codes ": " ++ value)) ≡ written properties name value
   unfolding declared squeezed_from is_space
   read_again name value are same =
       ap (declared properties) (colon_within name (32 ∷ value)
       (none_pass is_property_char (λ c. c == 58) property_no_colon name are))
-      ∙ (ap (λ n. written properties (map to_ascii_lowercase n) (squeezed value)) (squeezed_name false name are)
+      ∙ (ap (λ n. written properties (map to_ascii_lowercase n) (squeezed value))
+      (squeezed_name false name are)
       ∙ (ap (λ n. written properties n (squeezed value)) (small_name name are)
       ∙ ap (written properties name) same))
 
@@ -109,3 +111,8 @@ clean_styles_stay properties style ok = all_again properties ok (pieces style)
 pub clean_styles_are_printable : CleanStylesArePrintable
 unfolding clean_style
 clean_styles_are_printable properties style ok = declarations_printable properties ok (pieces style)
+
+pub clean_styles_are_text : CleanStylesAreText
+clean_styles_are_text properties style ok =
+    all_are is_printable (λ c. is_text_char c && not (c == 13)) printable_text
+    (clean_style properties style) (clean_styles_are_printable properties style ok)

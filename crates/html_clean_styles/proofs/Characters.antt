@@ -1,9 +1,9 @@
 -- The characters of what stays: printable ASCII, and no `;` within a declaration.
-use Rattle.std.proofs.Common.{◌≡◌, ℕ, ◌==◌, Bool, true, false, not, ◌&&◌, Option, Some, None, List, [], ◌∷◌, ◌++◌, bytes_eq, map, refl, sym, ap, ◌∙◌, subst, inl, inr, arith}
+use Rattle.std.proofs.Common.{◌≡◌, ℕ, ◌==◌, Bool, true, false, not, ◌&&◌, Option, Some, None, List, [], ◌∷◌, ◌++◌, bytes_eq, map, refl, sym, subst, inl, inr, arith}
 use Rattle.std.proofs.lemmas.{Bool.{and_from, and_parts, cases_Bool, eqb-true, false≢true, or_cases}, Bool.Decides.{nat_tests}}
-use Rattle.std.specs.{Char.{to_ascii_lowercase}, Prelude.{codes}, Str.{NonePass}}
-use Rattle.html_names_core.{proofs.Basics.{bytes_eq-same}, specs.Characters.{IsOf, all}, specs.Names.{stands_in}, specs.Texts.{TextPair}}
-use Rattle.html_clean_styles.specs.Styles.{ArePropertyNames, declarations, declared, depth_behind, holds_in, is_mark, is_plain, is_plain_from, is_printable, is_property_char, is_space, is_word_char, joined, squeezed, written, cut_colon}
+use Rattle.std.specs.{Char.{to_ascii_lowercase}, List.{list_all}, Prelude.{codes}, Str.{NonePass}}
+use Rattle.html_names_core.{proofs.Basics.{bytes_eq-same}, specs.Characters.{is_text_char}, specs.Names.{stands_in}, specs.Texts.{TextPair}}
+use Rattle.html_clean_styles.specs.Styles.{ArePropertyNames, declarations, declared, depth_behind, holds_in, is_mark, is_plain, is_plain_from, is_printable, is_property_char, is_property_name, is_space, is_word_char, joined, squeezed, written, cut_colon}
 
 -- what a declaration may have in its one form
 abbrev pub is_style_char : ℕ → Bool
@@ -11,25 +11,25 @@ is_style_char c = is_printable c && not (c == 59)
 
 -- what each character of a text is if it is something else
 pub all_are : (p q : ℕ → Bool) → ((c : ℕ) → p c ≡ true → q c ≡ true) → (cs : List ℕ) →
-    all p cs ≡ true → all q cs ≡ true
+    list_all p cs ≡ true → list_all q cs ≡ true
 all_are p q is [] h = refl
 all_are p q is (c ∷ cs) h =
-    let both = and_parts (p c) (all p cs) h in
-    and_from (q c) (all q cs) (is c both.0) (all_are p q is cs both.1)
+    let both = and_parts (p c) (list_all p cs) h in
+    and_from (q c) (list_all q cs) (is c both.0) (all_are p q is cs both.1)
 
 pub none_pass : (p q : ℕ → Bool) → ((c : ℕ) → p c ≡ true → q c ≡ false) → (cs : List ℕ) →
-    all p cs ≡ true → NonePass q cs
+    list_all p cs ≡ true → NonePass q cs
 none_pass p q is [] h = tt
 none_pass p q is (c ∷ cs) h =
-    let both = and_parts (p c) (all p cs) h in
+    let both = and_parts (p c) (list_all p cs) h in
     (is c both.0, none_pass p q is cs both.1)
 
-pub all-append : (p : ℕ → Bool) (cs ds : List ℕ) → all p cs ≡ true → all p ds ≡ true →
-    all p (cs ++ ds) ≡ true
-all-append p [] ds h k = k
-all-append p (c ∷ cs) ds h k =
-    let both = and_parts (p c) (all p cs) h in
-    and_from (p c) (all p (cs ++ ds)) both.0 (all-append p cs ds both.1 k)
+pub list_all-append : (p : ℕ → Bool) (cs ds : List ℕ) → list_all p cs ≡ true → list_all p ds ≡ true →
+    list_all p (cs ++ ds) ≡ true
+list_all-append p [] ds h k = k
+list_all-append p (c ∷ cs) ds h k =
+    let both = and_parts (p c) (list_all p cs) h in
+    and_from (p c) (list_all p (cs ++ ds)) both.0 (list_all-append p cs ds both.1 k)
 
 pub property_style : (c : ℕ) → is_property_char c ≡ true → is_style_char c ≡ true
 property_style c h = grind (arith, nat_tests)
@@ -49,6 +49,9 @@ style_no_end c h = grind (arith, nat_tests)
 
 pub style_printable : (c : ℕ) → is_style_char c ≡ true → is_printable c ≡ true
 style_printable c h = (and_parts (is_printable c) (not (c == 59)) h).0
+
+pub printable_text : (c : ℕ) → is_printable c ≡ true → (is_text_char c && not (c == 13)) ≡ true
+printable_text c h = grind (arith, nat_tests)
 
 word_style : (c : ℕ) → is_word_char c ≡ true → is_style_char c ≡ true
 unfolding is_word_char
@@ -80,65 +83,68 @@ other_style c word depth behind e = elim (cases_Bool (is_mark c)) [
 ]
 
 plain_from : (word : List ℕ) (depth : ℕ) (cs : List ℕ) → is_plain_from word depth cs ≡ true →
-    all is_style_char cs ≡ true
+    list_all is_style_char cs ≡ true
 unfolding is_plain_from
 plain_from word depth [] h = refl
 plain_from word depth (c ∷ cs) h = elim (cases_Bool (is_word_char c)) [
-  | inl w ↦ and_from (is_style_char c) (all is_style_char cs) (word_style c w)
+  | inl w ↦ and_from (is_style_char c) (list_all is_style_char cs) (word_style c w)
       (plain_from word depth cs (rw w at h))
   | inr o ↦
       let at = held (λ d. is_plain_from cs d cs) (depth_behind c word depth) (rw o at h) in
-      and_from (is_style_char c) (all is_style_char cs) (other_style c word depth at.0 at.1)
+      and_from (is_style_char c) (list_all is_style_char cs) (other_style c word depth at.0 at.1)
       (plain_from cs at.0 cs at.2)
 ]
 
-plain_style : (value : List ℕ) → is_plain value ≡ true → all is_style_char value ≡ true
+plain_style : (value : List ℕ) → is_plain value ≡ true → list_all is_style_char value ≡ true
 unfolding is_plain
 plain_style [] h = absurd (false≢true h)
 plain_style (c ∷ cs) h = plain_from (c ∷ cs) 0 (c ∷ cs) h
 
-all_of : (p : ℕ → Bool) (cs : List ℕ) → IsOf p cs → all p cs ≡ true
-all_of p [] h = absurd h
-all_of p (c ∷ cs) h = and_from (p c) (all p cs) h.0 h.1
+name_chars : (name : List ℕ) → is_property_name name ≡ true → list_all is_property_char name ≡ true
+name_chars [] h = refl
+name_chars (c ∷ cs) h = h
 
 -- a name that is listed has only characters of properties
 pub listed : (properties : List (List ℕ)) (name : List ℕ) → ArePropertyNames properties →
-    stands_in properties name ≡ true → all is_property_char name ≡ true
+    stands_in properties name ≡ true → list_all is_property_char name ≡ true
 unfolding stands_in
 listed [] name ok h = absurd (false≢true h)
-listed (p ∷ ps) name ok h = elim (or_cases (bytes_eq p name) (stands_in ps name) h) [
-  | inl e ↦ subst (λ n. all is_property_char n ≡ true) (bytes_eq-same p name e) (all_of is_property_char p ok.0)
-  | inr e ↦ listed ps name ok.1 e
-]
+listed (p ∷ ps) name ok h =
+    let both = and_parts (is_property_name p) (list_all is_property_name ps) ok in
+    elim (or_cases (bytes_eq p name) (stands_in ps name) h) [
+      | inl e ↦ subst (λ n. list_all is_property_char n ≡ true) (bytes_eq-same p name e)
+          (name_chars p both.0)
+      | inr e ↦ listed ps name both.1 e
+    ]
 
 module _ (properties : List (List ℕ)) (ok : ArePropertyNames properties) where
-  written_style : (name value : List ℕ) → all is_style_char (written properties name value) ≡ true
+  written_style : (name value : List ℕ) → list_all is_style_char (written properties name value) ≡ true
   unfolding written
   written_style name value = elim (cases_Bool (stands_in properties name && is_plain value)) [
     | inl h ↦
         let both = and_parts (stands_in properties name) (is_plain value) h in
-        rw h (all-append is_style_char name (codes ": " ++ value)
+        rw h (list_all-append is_style_char name (codes ": " ++ value)
         (all_are is_property_char is_style_char property_style name (listed properties name ok both.0))
         (plain_style value both.1))
     | inr h ↦ rw h refl
   ]
 
-  pub declared_style : (o : Option TextPair) → all is_style_char (declared properties o) ≡ true
+  pub declared_style : (o : Option TextPair) → list_all is_style_char (declared properties o) ≡ true
   unfolding declared
   declared_style None = refl
   declared_style (Some x) =
       written_style (map to_ascii_lowercase (squeezed x.0)) (squeezed x.1)
 
-  joined_printable : (a b : List ℕ) → all is_printable a ≡ true → all is_printable b ≡ true →
-      all is_printable (joined a b) ≡ true
+  joined_printable : (a b : List ℕ) → list_all is_printable a ≡ true → list_all is_printable b ≡ true →
+      list_all is_printable (joined a b) ≡ true
   unfolding joined
   joined_printable [] b h k = k
   joined_printable (x ∷ xs) [] h k = h
   joined_printable (x ∷ xs) (y ∷ ys) h k =
-      all-append is_printable (x ∷ xs) (codes "; " ++ y ∷ ys) h k
+      list_all-append is_printable (x ∷ xs) (codes "; " ++ y ∷ ys) h k
 
   pub declarations_printable : (ps : List (List ℕ)) →
-      all is_printable (declarations properties ps) ≡ true
+      list_all is_printable (declarations properties ps) ≡ true
   unfolding declarations
   declarations_printable [] = refl
   declarations_printable (p ∷ ps) =

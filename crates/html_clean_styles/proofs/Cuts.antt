@@ -4,7 +4,6 @@ use Rattle.std.proofs.lemmas.{List.{take-append-drop}, Str.Pattern.{IsSplitOnceR
 use Rattle.std.proofs.lemmas.Str.{IsCharBoundary-before_ascii, IsUtf8-take, IsUtf8-drop, chars-append, chars_from_encodes, chars_past_char, len_utf8_bounds}
 use Rattle.std.specs.{Borrow.{Bor}, Str.{NonePass, IsCharBoundary}}
 use lib.Utf8.{encode}
-use Rattle.html_names_core.specs.Texts.{TextPair}
 use Rattle.html_clean_styles.specs.{Cuts.{IsCut, pair_view}, Styles.{cut_colon, pieces}}
 
 -- `split_once` cuts so

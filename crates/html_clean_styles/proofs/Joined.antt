@@ -23,7 +23,8 @@ unfolding joined
 joined_assoc [] b c = refl
 joined_assoc (x ∷ xs) [] c = refl
 joined_assoc (x ∷ xs) (y ∷ ys) [] = refl
-joined_assoc (x ∷ xs) (y ∷ ys) (z ∷ zs) = ap (λ l. x ∷ l) (append_assoc xs (codes "; " ++ y ∷ ys) (codes "; " ++ z ∷ zs))
+joined_assoc (x ∷ xs) (y ∷ ys) (z ∷ zs) =
+    ap (λ l. x ∷ l) (append_assoc xs (codes "; " ++ y ∷ ys) (codes "; " ++ z ∷ zs))
 
 module _ (properties : List (List ℕ)) where
   -- a text that is read up to a place, and what is made of it

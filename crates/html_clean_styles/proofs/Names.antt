@@ -1,5 +1,5 @@
 -- Texts, names and declarations.
-use Rattle.std.proofs.Common.{◌≡◌, ℕ, Bool, true, false, ◌&&◌, Some, List, [], ◌∷◌, ◌++◌, String, Global, string_bytes, bytes_eq, map, refl, sym, ap, ◌∙◌, append_assoc}
+use Rattle.std.proofs.Common.{◌≡◌, ℕ, Bool, true, false, ◌&&◌, Some, List, [], ◌++◌, String, Global, string_bytes, bytes_eq, map, refl, sym, ap, ◌∙◌, append_assoc}
 use Rattle.std.proofs.lemmas.Str.{IsUtf8-string_bytes}
 use Rattle.std.specs.{Char.{to_ascii_lowercase}, Prelude.{codes}}
 use Rattle.html_names_core.proofs.Lists.{bytes_eq-chars}
@@ -22,8 +22,9 @@ pub all_written : (properties : List (List ℕ)) (name value a b c d : List ℕ)
     c ≡ b ++ codes ": " → d ≡ c ++ value → d ≡ written properties name value
 unfolding written
 all_written properties name value a b c d stays is e none one two three =
-    rw (sym is ∙ e) (three ∙ (ap (λ l. l ++ value) (two ∙ ap (λ l. l ++ codes ": ") (one ∙ ap (λ l. l ++ name) none))
-    ∙ append_assoc name (codes ": ") value))
+    let front : c ≡ name ++ codes ": " =
+    two ∙ ap (λ l. l ++ codes ": ") (one ∙ ap (λ l. l ++ name) none) in
+    rw (sym is ∙ e) (three ∙ (ap (λ l. l ++ value) front ∙ append_assoc name (codes ": ") value))
 
 pub declared_is : (properties : List (List ℕ)) (before behind squeezed_name name value : List ℕ) →
     squeezed_name ≡ squeezed before → name ≡ map to_ascii_lowercase squeezed_name →

@@ -46,10 +46,10 @@ unfolding squeezed_from
 stays [] = record { first = refl; behind = refl; behind_gap = refl }
 stays (c ∷ cs) = elim (cases_Bool (is_space c)) [
   | inl h ↦ let s = stays cs in record {
-      first = rw h s.first;
-      behind = rw h s.behind_gap;
-      behind_gap = rw h s.behind_gap;
-    }
+    first = rw h s.first;
+    behind = rw h s.behind_gap;
+    behind_gap = rw h s.behind_gap;
+  }
   | inr h ↦ shown_again c cs h (stays cs)
 ]
 

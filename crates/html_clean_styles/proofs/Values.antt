@@ -1,14 +1,14 @@
 -- The values of declarations, character by character.
-use Rattle.std.proofs.Common.{◌≡◌, ℕ, ◌+◌, ◌-◌, ◌<◌, ◌≤◌, Bool, true, false, ◌&&◌, ◌==◌, List, [], ◌∷◌, ◌++◌, Option, Some, None, length, chars, IsUtf8, refl, sym, ap, ◌∙◌, length-append, inl, inr, arith}
-use Rattle.std.proofs.lemmas.{Bool.{cases_Bool, false≢true}, Bool.Decides.{nat_tests}}
+use Rattle.std.proofs.Common.{◌≡◌, ℕ, ◌+◌, ◌≤◌, true, false, ◌==◌, List, [], ◌∷◌, Some, None, length, chars, IsUtf8, refl, sym, ap, ◌∙◌, length-append, arith}
 use Rattle.std.proofs.lemmas.Str.{encodes-chars, length-encode, len_utf8_bounds}
 use lib.Utf8.{encode, encodes}
-use Rattle.html_clean_styles.specs.Styles.{begins_call, depth_behind, holds_in, is_mark, is_plain_from, is_word_char}
+use Rattle.html_clean_styles.specs.Styles.{depth_behind, holds_in, is_plain_from, is_word_char}
 
 few_encoded : (cs : List ℕ) → length cs ≤ length (encodes cs)
 few_encoded [] = omega arith
 few_encoded (c ∷ cs) =
-    omega (arith, few_encoded cs, length-append (encode c) (encodes cs), length-encode c, (len_utf8_bounds c).0)
+    let long = length-append (encode c) (encodes cs) in
+    omega (arith, few_encoded cs, long, length-encode c, (len_utf8_bounds c).0)
 
 -- a text has no more characters than bytes
 pub few_chars : (bs : List ℕ) → IsUtf8 bs → length (chars bs) ≤ length bs
@@ -20,7 +20,8 @@ unfolding is_plain_from
 at_word word depth c cs h = rw h refl
 
 pub at_other : (word : List ℕ) (depth c : ℕ) (cs : List ℕ) → is_word_char c ≡ false →
-    is_plain_from word depth (c ∷ cs) ≡ holds_in (λ d. is_plain_from cs d cs) (depth_behind c word depth)
+    is_plain_from word depth (c ∷ cs)
+    ≡ holds_in (λ d. is_plain_from cs d cs) (depth_behind c word depth)
 unfolding is_plain_from
 at_other word depth c cs h = rw h refl
 

@@ -1,9 +1,9 @@
 -- What stays of the value of a `style` attribute: declarations of listed properties whose values
--- can neither load nor run anything, in one form. The text is cut at each `;`, also in a string or a
--- block, where CSS (CSS Syntax 5.5) would not cut: what stays holds neither quotes nor blocks.
-use Rattle.std.specs.{Char.{to_ascii_lowercase}, List.{AllByRecursion, slice_split}}
-use Rattle.std.specs.Prelude.{ℕ, ◌+◌, ◌-◌, Bool, true, false, ◌&&◌, ◌||◌, ◌==◌, nat_lt, nat_le, List, [], ◌∷◌, ◌++◌, Option, Some, None, codes, map, option_map, if◌then◌else◌}
-use Rattle.html_names_core.specs.Characters.{IsOf, is_hyphen, is_lower, is_tag_char}
+-- can neither load nor run anything, in one form. The text is cut at each `;`, also in a string or
+-- a block, where CSS (CSS Syntax 5.5) would not cut: what stays holds neither quotes nor blocks.
+use Rattle.std.specs.{Char.{to_ascii_lowercase}, List.{list_all, slice_split}}
+use Rattle.std.specs.Prelude.{◌≡◌, ℕ, ◌+◌, ◌-◌, Bool, true, false, ◌&&◌, ◌||◌, ◌==◌, nat_lt, nat_le, List, [], ◌∷◌, ◌++◌, Option, Some, None, codes, map, option_map, if◌then◌else◌}
+use Rattle.html_names_core.specs.Characters.{is_hyphen, is_lower, is_tag_char}
 use Rattle.html_names_core.specs.{Names.{stands_in}, Texts.{TextPair}}
 
 -- white space of ASCII: tab, LF, FF, CR, space (Infra Standard 4.6)
@@ -110,9 +110,13 @@ clean_style properties style = declarations properties (pieces style)
 abbrev pub is_property_char : ℕ → Bool
 is_property_char c = is_lower c || is_hyphen c
 
--- each is the name of a property: not empty, of small letters and `-`
+-- the name of a property: not empty, of small letters and `-`
+abbrev pub is_property_name : List ℕ → Bool
+is_property_name [] = false
+is_property_name (c ∷ cs) = list_all is_property_char (c ∷ cs)
+
 abbrev pub ArePropertyNames : (properties : List (List ℕ)) → Type 0
-ArePropertyNames = AllByRecursion (IsOf is_property_char)
+ArePropertyNames properties = list_all is_property_name properties ≡ true
 
 -- printable ASCII: a text character, and no white space but the space
 abbrev pub is_printable : ℕ → Bool

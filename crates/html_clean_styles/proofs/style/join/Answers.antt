@@ -1,5 +1,5 @@
 use Rattle.std.proofs.Common.{◌≡◌, [], ◌++◌, chars, sym, ap, ◌∙◌}
-use Rattle.std.{proofs.lemmas.Bool.{true≢false}, specs.Prelude.{codes}}
+use Rattle.std.{proofs.lemmas.Bool.{true≢false}}
 use Rattle.html_clean_styles.proofs.Joined.{both, none_before, none_follow}
 use Rattle.html_clean_styles.proofs.style.join.Goals as goal
 
