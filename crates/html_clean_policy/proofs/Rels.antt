@@ -89,7 +89,8 @@ module _ (f : TextPair → Option TextPair) (rel : List ℕ)
   again_bare = given_to rel rest rest_on ∙ ap (λ xs. xs ++ rel_pair rel ∷ []) (without_again pairs)
 
   again_full : with_rel rel (rest ++ rel_pair rel ∷ []) ≡ rest ++ rel_pair rel ∷ []
-  again_full = given_to rel (rest ++ rel_pair rel ∷ []) (leads_with_last rest (rel_pair rel) rest_on)
+  again_full =
+      given_to rel (rest ++ rel_pair rel ∷ []) (leads_with_last rest (rel_pair rel) rest_on)
       ∙ ap (λ xs. xs ++ rel_pair rel ∷ []) (without_last rest rel ∙ without_again pairs)
 
   again_taken : with_rel rel (take most (rest ++ rel_pair rel ∷ [])) ≡ rest ++ rel_pair rel ∷ []
@@ -121,7 +122,8 @@ pub rel_again : (f : TextPair → Option TextPair) (rel : List ℕ) →
 rel_again f rel rel_stays most pairs all within = by (leads pairs) refl
   where
     by : (b : Bool) → leads pairs ≡ b →
-        with_rel rel (take most (filter_map f (cond b (without_rel pairs ++ rel_pair rel ∷ []) pairs)))
+        with_rel rel
+        (take most (filter_map f (cond b (without_rel pairs ++ rel_pair rel ∷ []) pairs)))
         ≡ cond b (without_rel pairs ++ rel_pair rel ∷ []) pairs
     by true on = again_leading f rel rel_stays most pairs all within on
     by false off =

@@ -30,14 +30,16 @@ pair_named pairs place d all below =
 pub name_of_tag : (name : List ℕ) → is_name name ≡ true → IsOf is_tag_char name
 name_of_tag [] is = cc
 name_of_tag (c ∷ cs) is =
-    let both = and_parts (all is_tag_char (c ∷ cs) && all is_attr_char (c ∷ cs)) (is_ascii (c ∷ cs)) is in
+    let both = and_parts (all is_tag_char (c ∷ cs) && all is_attr_char (c ∷ cs))
+    (is_ascii (c ∷ cs)) is in
     let first = and_parts (all is_tag_char (c ∷ cs)) (all is_attr_char (c ∷ cs)) both.0 in
     and_parts (is_tag_char c) (all is_tag_char cs) first.0
 
 pub name_of_attr : (name : List ℕ) → is_name name ≡ true → IsOf is_attr_char name
 name_of_attr [] is = cc
 name_of_attr (c ∷ cs) is =
-    let both = and_parts (all is_tag_char (c ∷ cs) && all is_attr_char (c ∷ cs)) (is_ascii (c ∷ cs)) is in
+    let both = and_parts (all is_tag_char (c ∷ cs) && all is_attr_char (c ∷ cs))
+    (is_ascii (c ∷ cs)) is in
     let first = and_parts (all is_tag_char (c ∷ cs)) (all is_attr_char (c ∷ cs)) both.0 in
     and_parts (is_attr_char c) (all is_attr_char cs) first.1
 

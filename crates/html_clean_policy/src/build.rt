@@ -3,13 +3,13 @@
 ghost use Rattle.std.specs.List.{list_all};
 ghost use Rattle.std.specs.Prelude.{◌≡◌, ◌&&◌, not, chars, if◌then◌else◌};
 ghost use Rattle.html_clean_values.specs.Replaced.{is_plain_char};
-ghost use Rattle.html_clean_styles.specs.Styles.{is_property_char};
+ghost use Rattle.html_clean_styles.specs.Styles.{is_property_char, is_property_name};
 ghost use Rattle.html_clean_policy.specs.AttrNames.{is_barred};
 ghost use Rattle.html_clean_policy.specs.Building as made;
 ghost use Rattle.html_clean_policy.specs.Building.{can_keep, is_scheme, is_scheme_char, nothing};
 ghost use Rattle.html_clean_policy.specs.PolicyFaults.{Extends};
 ghost use Rattle.html_clean_policy.specs.PolicyViews.{policy_view};
-ghost use Rattle.html_clean_policy.specs.Sound.{is_prefix_char, is_property};
+ghost use Rattle.html_clean_policy.specs.Sound.{is_prefix_char};
 
 use crate::elements::{is_dropped, is_never_kept};
 use crate::fault::{PolicyFault, PolicyRefused};
@@ -51,7 +51,7 @@ fn are_property_chars(text: &str) -> bool
 }
 
 fn is_property(text: &str) -> bool
-    ensures { result ≡ is_property (chars text.now) }
+    ensures { result ≡ is_property_name (chars text.now) }
 {
     match split_first(text) {
         Some(_) => are_property_chars(text),
@@ -253,8 +253,8 @@ impl Policy {
         }
     }
 
-    /// Lets declarations of that css property stay in `style`, such as `color`. Fails if the text is
-    /// empty or has other characters than small letters and `-`.
+    /// Lets declarations of that css property stay in `style`, such as `color`. Fails if the text
+    /// is empty or has other characters than small letters and `-`.
     ///
     /// ```
     /// use html_clean::Policy;
@@ -272,7 +272,7 @@ impl Policy {
     pub fn with_property(mut self, property: &str) -> Result<Policy, PolicyRefused>
         ensures { let text = chars property.now in
             Extends result (policy_view self) (made.with_property text (policy_view self))
-            4 text (is_property text) }
+            4 text (is_property_name text) }
     {
         let Ok(text) = String::from_str(*self.elements.allocator(), property) else {
             return Err(PolicyRefused {
