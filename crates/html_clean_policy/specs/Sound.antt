@@ -1,5 +1,5 @@
 -- What each policy ensures of its texts.
-use Rattle.std.specs.{List.{list_all}, Prelude.{ℕ, Bool, true, false, ◌&&◌, ◌||◌, ◌==◌, List, [], ◌∷◌, Option, Some, None}}
+use Rattle.std.specs.{List.{list_all}, Prelude.{ℕ, Bool, true, ◌&&◌, ◌||◌, ◌==◌, List, Option, Some, None}}
 use Rattle.html_names_core.specs.Characters.{is_capital, is_digit, is_hyphen, is_lower}
 use Rattle.html_clean_values.specs.Replaced.{is_plain_char}
 use Rattle.html_clean_styles.specs.Styles.{is_property_name}
