@@ -11,7 +11,8 @@ pub starts-chars : (word text : List ℕ) → is_ascii word ≡ true → IsUtf8 
     starts_with ◌==◌ text word ≡ starts_with ◌==◌ (chars text) word
 starts-chars word text a u =
     let bytes = starts_is Decides-eqb text word (starts_with ◌==◌ text word) refl in
-    let characters = starts_is Decides-eqb (chars text) word (starts_with ◌==◌ (chars text) word) refl in
+    let characters =
+    starts_is Decides-eqb (chars text) word (starts_with ◌==◌ (chars text) word) refl in
     one_answer (starts_with ◌==◌ text word) (starts_with ◌==◌ (chars text) word) (
       λ h. characters.1 (chars (drop (length word) text))
           (chars_after_word word text (drop (length word) text) a (bytes.0 h)),

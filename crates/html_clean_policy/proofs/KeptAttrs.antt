@@ -1,13 +1,13 @@
 -- The attributes that stay of an element.
 use Rattle.std.proofs.Common.{◌≡◌, ◌≤◌, ◌⊎◌, ℕ, Bool, true, false, not, ◌&&◌, cond, List, [], ◌∷◌, ◌++◌, Option, Some, None, ap, arith, length, refl, subst, sym, ◌∙◌, take}
-use Rattle.std.proofs.lemmas.{Bool.{and_parts}, Bool.Decides.{nat_tests}, List.{length-append, length-take, take-take, take_all}}
+use Rattle.std.proofs.lemmas.{Bool.{and_parts}, Bool.Decides.{nat_tests}, List.{length-append, length-take, take-take}}
 use Rattle.std.specs.{Char.{is_ascii_whitespace}, List.{AllByRecursion, filter_map, list_all}, Prelude.{codes}}
-use Rattle.html_names_core.specs.{Characters.{IsOf, all}, Names.{stands_in}, Texts.{TextPair}}
-use Rattle.html_clean_values.specs.Replaced.{is_plain_char, replaced}
+use Rattle.html_names_core.specs.{Characters.{all}, Names.{stands_in}, Texts.{TextPair}}
+use Rattle.html_clean_values.specs.Replaced.{is_plain_char}
 use Rattle.html_clean_values.proofs.JoinedWords.{prefixed_words_once, prefixed_words_passes}
 use Rattle.html_clean_values.proofs.PrefixLaws.{prefixed_href_once, prefixed_href_passes, prefixed_name_once, prefixed_name_passes}
-use Rattle.html_clean_styles.specs.Styles.{ArePropertyNames, clean_style, is_printable, is_property_char}
-use Rattle.html_clean_styles.proofs.Again.{clean_styles_are_printable, clean_styles_stay}
+use Rattle.html_clean_styles.specs.Styles.{clean_style, is_property_name}
+use Rattle.html_clean_styles.proofs.Again.{clean_styles_are_text, clean_styles_stay}
 use Rattle.html_clean_policy.proofs.KeptTexts.{TextLaws, is_written, kept_again, kept_allowed, kept_parts, kept_written, rel_allowed, rel_stays}
 use Rattle.html_clean_policy.proofs.Pairs.{Stays, all_are, all_filtered, all_mapped, all_taken, all_tested, all_with_last, each_tested, length_filtered, mapped_stay}
 use Rattle.html_clean_policy.proofs.Rels.{rel_again}
@@ -16,7 +16,7 @@ use Rattle.html_clean_policy.specs.AttrUses.{use_of}
 use Rattle.html_clean_policy.specs.KeptAttrs.{attrs_kept, kept_pair, pairs_kept, urls_stay}
 use Rattle.html_clean_policy.specs.Laws.{FewAttrsAreKept, KeptAttrsStay, KeptNamesAreThere, KeptUrlsAreAllowed, KeptValuesAreWritten, NoBarredAttrIsKept}
 use Rattle.html_clean_policy.specs.LinkRels.{cut_pairs, is_link, is_rel, leads, with_rel, without_rel}
-use Rattle.html_clean_policy.specs.{Policies.{IsSound, PolicyView}, Sound.{is_prefix_char, is_property, is_rel_text}}
+use Rattle.html_clean_policy.specs.{Policies.{IsSound, PolicyView}, Sound.{is_prefix_char, is_rel_text}}
 
 -- what is known of a policy's texts
 
@@ -27,56 +27,29 @@ all_from p q each (c ∷ cs) is =
     let both = and_parts (p c) (list_all p cs) is in
     ap (λ b. b && all q cs) (each c both.0) ∙ all_from p q each cs both.1
 
-all_still : (p q : ℕ → Bool) → ((c : ℕ) → p c ≡ true → q c ≡ true) → (cs : List ℕ) →
-    all p cs ≡ true → all q cs ≡ true
-all_still p q each [] is = refl
-all_still p q each (c ∷ cs) is =
-    let both = and_parts (p c) (all p cs) is in
-    ap (λ b. b && all q cs) (each c both.0) ∙ all_still p q each cs both.1
-
-property_named : (name : List ℕ) → is_property name ≡ true → IsOf is_property_char name
-property_named [] is = cc
-property_named (c ∷ cs) is =
-    let both = and_parts (is_property_char c) (list_all is_property_char cs) is in
-    (both.0, all_from is_property_char is_property_char (λ d e. e) cs both.1)
-
-properties_named : (names : List (List ℕ)) → list_all is_property names ≡ true →
-    ArePropertyNames names
-properties_named [] is = tt
-properties_named (n ∷ ns) is =
-    let both = and_parts (is_property n) (list_all is_property ns) is in
-    (property_named n both.0, properties_named ns both.1)
-
-printable_plain : (c : ℕ) → is_printable c ≡ true → is_plain_char c ≡ true
-printable_plain c is = grind (arith, nat_tests)
-
-prefix_printable : (c : ℕ) → is_prefix_char c ≡ true → is_printable c ≡ true
-prefix_printable c is = grind (arith, nat_tests)
-
 prefix_plain : (c : ℕ) → is_prefix_char c ≡ true → is_plain_char c ≡ true
-prefix_plain c is = printable_plain c (prefix_printable c is)
+prefix_plain c is = grind (arith, nat_tests)
 
 prefix_no_space : (c : ℕ) → is_prefix_char c ≡ true → not (is_ascii_whitespace c) ≡ true
 prefix_no_space c is = grind (arith, nat_tests)
 
 pub laws_of : (p : PolicyView) → IsSound p → TextLaws p
 laws_of p sound =
-    let both = and_parts (list_all is_property p.properties && list_all is_prefix_char p.prefix)
+    let both = and_parts (list_all is_property_name p.properties && list_all is_prefix_char p.prefix)
     (is_rel_text p.rel) sound in
-    let first = and_parts (list_all is_property p.properties) (list_all is_prefix_char p.prefix)
+    let first = and_parts (list_all is_property_name p.properties) (list_all is_prefix_char p.prefix)
     both.0 in
-    let named : ArePropertyNames p.properties = properties_named p.properties first.0 in
     let plain : all is_plain_char p.prefix ≡ true =
     all_from is_prefix_char is_plain_char prefix_plain p.prefix first.1 in
     let solid : all (λ c. not (is_ascii_whitespace c)) p.prefix ≡ true =
     all_from is_prefix_char (λ c. not (is_ascii_whitespace c)) prefix_no_space p.prefix first.1 in
     record {
-      style_again = λ t. clean_styles_stay p.properties t named;
+      style_again = λ t. clean_styles_stay p.properties t first.0;
       href_again = λ t. prefixed_href_once p.prefix t;
       name_again = λ t. prefixed_name_once p.prefix t;
       words_again = λ t. prefixed_words_once p.prefix t solid;
-      style_written = λ t. all_still is_printable is_plain_char printable_plain
-          (clean_style p.properties t) (clean_styles_are_printable p.properties t named);
+      style_written = λ t. all_from is_plain_char is_plain_char (λ c e. e)
+          (clean_style p.properties t) (clean_styles_are_text p.properties t first.0);
       href_written = λ t is. prefixed_href_passes is_plain_char p.prefix t plain is;
       name_written = λ t is. prefixed_name_passes is_plain_char p.prefix t plain is;
       words_written = λ t is. prefixed_words_passes is_plain_char p.prefix t refl plain is;
@@ -85,18 +58,19 @@ laws_of p sound =
 rel_written : (p : PolicyView) → IsSound p → (rel : List ℕ) → p.rel ≡ Some rel →
     is_written rel ≡ true
 rel_written p sound rel is =
-    let both = and_parts (list_all is_property p.properties && list_all is_prefix_char p.prefix)
+    let both = and_parts (list_all is_property_name p.properties && list_all is_prefix_char p.prefix)
     (is_rel_text p.rel) sound in
     all_from is_plain_char is_plain_char (λ c e. e) rel (ap is_rel_text (sym is) ∙ both.1)
 
 -- what holds of each attribute that stays and of the `rel` holds of all
 
 module _ (P : TextPair → Type 0) where
-  rel_given : (rel : List ℕ) (pairs : List TextPair) → AllByRecursion P pairs → P (codes "rel", rel) →
-      AllByRecursion P (with_rel rel pairs)
+  rel_given : (rel : List ℕ) (pairs : List TextPair) → AllByRecursion P pairs →
+      P (codes "rel", rel) → AllByRecursion P (with_rel rel pairs)
   rel_given rel pairs all last = by (leads pairs)
     where
-      by : (b : Bool) → AllByRecursion P (cond b (without_rel pairs ++ (codes "rel", rel) ∷ []) pairs)
+      by : (b : Bool) →
+          AllByRecursion P (cond b (without_rel pairs ++ (codes "rel", rel) ∷ []) pairs)
       by true = all_with_last P (without_rel pairs) (codes "rel", rel)
           (all_filtered P (λ pair. not (is_rel pair.0)) pairs all) last
       by false = all
@@ -225,7 +199,8 @@ cut_again f element pairs all (Some text) stays = by (is_link element)
   where
     by : (b : Bool) →
         cond b
-        (with_rel text (take 255 (filter_map f (cond b (with_rel text (take 255 pairs)) (take 256 pairs)))))
+        (with_rel text (take 255
+        (filter_map f (cond b (with_rel text (take 255 pairs)) (take 256 pairs)))))
         (take 256 (filter_map f (cond b (with_rel text (take 255 pairs)) (take 256 pairs))))
         ≡ cond b (with_rel text (take 255 pairs)) (take 256 pairs)
     by true = rel_again f text (stays text refl) 255 (take 255 pairs)

@@ -1,3 +1,4 @@
+pub mod Allowed
 mod DataNames
 mod FirstKept
 pub mod KeptAttrs

@@ -1,6 +1,6 @@
 -- The names of the attributes that stay, and the `rel` of links.
-use Rattle.std.proofs.Common.{◌≡◌, Bool, true, false, not, ◌||◌, ◌&&◌, cond, List, [], ◌∷◌, ◌++◌, Option, Some, ℕ, ap, refl, sym, ◌∙◌, take}
-use Rattle.std.{proofs.lemmas.Bool.{and_parts}, specs.List.{list_all}, specs.Prelude.{codes}}
+use Rattle.std.proofs.Common.{◌≡◌, Bool, true, false, not, ◌||◌, cond, List, [], ◌∷◌, ◌++◌, ℕ, ap, refl, sym, ◌∙◌, take}
+use Rattle.std.{proofs.lemmas.Bool.{and_parts}, specs.Prelude.{codes}}
 use Rattle.html_names_core.specs.Texts.{TextPair}
 use Rattle.html_clean_policy.proofs.{KeptAttrs.{all_kept, any, Any}, KeptTexts.{kept_parts}, Pairs.{all_tested}, Rels.{rel_is, without_again}}
 use Rattle.html_clean_policy.specs.AttrNames.{is_barred, is_listed, may_stay}

@@ -1,10 +1,10 @@
 -- The `rel` of a link that is given once more.
 use Rattle.std.proofs.Common.{◌≡◌, ◌≤◌, ◌⊎◌, inl, inr, ℕ, Bool, true, false, not, cond, ◌||◌, List, [], ◌∷◌, ◌++◌, Option, Some, None, ap, arith, bytes_eq, length, refl, subst, sym, ◌∙◌, take}
-use Rattle.std.proofs.lemmas.List.{append-nil, length-take, take-take, take_all}
+use Rattle.std.proofs.lemmas.List.{append-nil, take_all}
 use Rattle.std.specs.{List.{AllByRecursion, cons_option, filter_map}, Prelude.{codes}}
 use Rattle.html_names_core.specs.{Names.{stands_in}, Texts.{TextPair}}
 use Rattle.html_names_core.proofs.Basics.{bytes_eq-same}
-use Rattle.html_clean_policy.proofs.Pairs.{Stays, all_filtered, all_taken, length_filtered, mapped_stay, mapped_with_last, take_with_last}
+use Rattle.html_clean_policy.proofs.Pairs.{Stays, all_filtered, length_filtered, mapped_stay, mapped_with_last, take_with_last}
 use Rattle.html_clean_policy.specs.LinkRels.{is_rel, is_target, leads, with_rel, without_rel}
 
 abbrev rel_pair : List ℕ → TextPair
@@ -89,7 +89,8 @@ module _ (f : TextPair → Option TextPair) (rel : List ℕ)
   again_bare = given_to rel rest rest_on ∙ ap (λ xs. xs ++ rel_pair rel ∷ []) (without_again pairs)
 
   again_full : with_rel rel (rest ++ rel_pair rel ∷ []) ≡ rest ++ rel_pair rel ∷ []
-  again_full = given_to rel (rest ++ rel_pair rel ∷ []) (leads_with_last rest (rel_pair rel) rest_on)
+  again_full =
+      given_to rel (rest ++ rel_pair rel ∷ []) (leads_with_last rest (rel_pair rel) rest_on)
       ∙ ap (λ xs. xs ++ rel_pair rel ∷ []) (without_last rest rel ∙ without_again pairs)
 
   again_taken : with_rel rel (take most (rest ++ rel_pair rel ∷ [])) ≡ rest ++ rel_pair rel ∷ []
@@ -121,7 +122,8 @@ pub rel_again : (f : TextPair → Option TextPair) (rel : List ℕ) →
 rel_again f rel rel_stays most pairs all within = by (leads pairs) refl
   where
     by : (b : Bool) → leads pairs ≡ b →
-        with_rel rel (take most (filter_map f (cond b (without_rel pairs ++ rel_pair rel ∷ []) pairs)))
+        with_rel rel
+        (take most (filter_map f (cond b (without_rel pairs ++ rel_pair rel ∷ []) pairs)))
         ≡ cond b (without_rel pairs ++ rel_pair rel ∷ []) pairs
     by true on = again_leading f rel rel_stays most pairs all within on
     by false off =

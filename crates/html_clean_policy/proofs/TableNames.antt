@@ -1,5 +1,5 @@
 -- Names of tables, one after the other.
-use Rattle.std.proofs.Common.{◌≡◌, ℕ, ◌<◌, zero, suc, Bool, true, ◌&&◌, List, [], ◌∷◌, ap, arith, get_or, length, map, refl, subst, sym, ◌∙◌}
+use Rattle.std.proofs.Common.{◌≡◌, ℕ, ◌<◌, zero, suc, Bool, true, ◌&&◌, List, [], ◌∷◌, arith, get_or, length, map}
 use Rattle.std.proofs.lemmas.Bool.{and_parts}
 use Rattle.std.specs.{Borrow.{Bor}, List.{list_all}}
 use Rattle.html_names_core.specs.Characters.{IsOf, all, is_attr_char, is_tag_char}
@@ -30,14 +30,16 @@ pair_named pairs place d all below =
 pub name_of_tag : (name : List ℕ) → is_name name ≡ true → IsOf is_tag_char name
 name_of_tag [] is = cc
 name_of_tag (c ∷ cs) is =
-    let both = and_parts (all is_tag_char (c ∷ cs) && all is_attr_char (c ∷ cs)) (is_ascii (c ∷ cs)) is in
+    let both = and_parts (all is_tag_char (c ∷ cs) && all is_attr_char (c ∷ cs))
+    (is_ascii (c ∷ cs)) is in
     let first = and_parts (all is_tag_char (c ∷ cs)) (all is_attr_char (c ∷ cs)) both.0 in
     and_parts (is_tag_char c) (all is_tag_char cs) first.0
 
 pub name_of_attr : (name : List ℕ) → is_name name ≡ true → IsOf is_attr_char name
 name_of_attr [] is = cc
 name_of_attr (c ∷ cs) is =
-    let both = and_parts (all is_tag_char (c ∷ cs) && all is_attr_char (c ∷ cs)) (is_ascii (c ∷ cs)) is in
+    let both = and_parts (all is_tag_char (c ∷ cs) && all is_attr_char (c ∷ cs))
+    (is_ascii (c ∷ cs)) is in
     let first = and_parts (all is_tag_char (c ∷ cs)) (all is_attr_char (c ∷ cs)) both.0 in
     and_parts (is_attr_char c) (all is_attr_char cs) first.1
 

@@ -14,8 +14,8 @@ holds_link name = stands_in (listed_names (codes "href usemap")) name
 
 abbrev pub url_names : List (List ℕ)
 url_names =
-    listed_names (codes "action background cite classid codebase data dynsrc formaction icon longdesc")
-    ++ listed_names (codes "lowsrc manifest poster profile src xlink:href xml:base")
+    listed_names (codes "action background cite classid codebase data dynsrc formaction icon")
+    ++ listed_names (codes "longdesc lowsrc manifest poster profile src xlink:href xml:base")
 
 -- another URL
 unfoldable pub holds_url : (name : List ℕ) → Bool
@@ -30,7 +30,8 @@ unfoldable pub holds_srcset : (name : List ℕ) → Bool
 holds_srcset name = stands_in (listed_names (codes "imagesrcset srcset")) name
 
 abbrev pub name_names : List (List ℕ)
-name_names = listed_names (codes "aria-activedescendant commandfor for form id list name popovertarget")
+name_names =
+    listed_names (codes "aria-activedescendant commandfor for form id list name popovertarget")
 
 -- the name of a place or part of the page
 unfoldable pub holds_name : (name : List ℕ) → Bool

@@ -55,7 +55,8 @@ kept_value p element name value =
     if may_stay p element name then kept_text p (use_of name) (replaced value) else None
 
 abbrev pub kept_pair : PolicyView → (element : List ℕ) → TextPair → Option TextPair
-kept_pair p element pair = option_map (λ value. (pair.0, value)) (kept_value p element pair.0 pair.1)
+kept_pair p element pair =
+    option_map (λ value. (pair.0, value)) (kept_value p element pair.0 pair.1)
 
 abbrev pub pairs_kept : PolicyView → (element : List ℕ) → List TextPair → List TextPair
 pairs_kept p element = filter_map (kept_pair p element)

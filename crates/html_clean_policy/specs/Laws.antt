@@ -41,7 +41,8 @@ KeptNamesAreThere = (is_name : List ℕ → Bool) (p : PolicyView) (element : Li
 -- each name is `rel` or one that the policy lists for the element
 abbrev pub KeptAttrsAreListed : Type 0
 KeptAttrsAreListed = (p : PolicyView) (element : List ℕ) (pairs : List TextPair) →
-    list_all (λ pair. is_listed p element pair.0 || is_rel pair.0) (attrs_kept p element pairs) ≡ true
+    list_all (λ pair. is_listed p element pair.0 || is_rel pair.0) (attrs_kept p element pairs)
+    ≡ true
 
 -- where the policy has a `rel`, each link that keeps a target has it, as its last attribute, and no
 -- other

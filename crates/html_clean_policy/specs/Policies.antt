@@ -1,5 +1,5 @@
 -- Which elements a policy lets stay.
-use Rattle.std.specs.Prelude.{◌≡◌, ℕ, Bool, true, not, ◌&&◌, ◌||◌, ◌==◌, List, [], ◌++◌, codes, Option}
+use Rattle.std.specs.Prelude.{◌≡◌, ℕ, Bool, true, not, ◌&&◌, ◌||◌, List, [], ◌++◌, codes, Option}
 use Rattle.html_names_core.specs.Names.{listed_names, stands_in}
 use Rattle.html_page_names.specs.{ForeignNames.{keeps_case}, PageNames.{of}}
 use Rattle.html_clean_policy.specs.Sound.{are_sound}
@@ -28,7 +28,8 @@ pub record PolicyView : Type 0 where
 -- elements that run code, load or hide what they contain, or change how what follows is read,
 -- beside those of the kinds in `is_dropped`
 abbrev pub dropped_names : List (List ℕ)
-dropped_names = listed_names (codes "applet base embed frameset link meta noscript object plaintext")
+dropped_names =
+    listed_names (codes "applet base embed frameset link meta noscript object plaintext")
 
 unfoldable pub has_dropped_kind : (name : List ℕ) → Bool
 has_dropped_kind name =

@@ -1,5 +1,5 @@
 -- The ready policies.
-use Rattle.std.specs.Prelude.{ℕ, Bool, true, false, List, [], ◌∷◌, ◌++◌, codes, Some}
+use Rattle.std.specs.Prelude.{ℕ, true, false, List, [], ◌∷◌, ◌++◌, codes, Some}
 use Rattle.html_names_core.specs.Names.{listed_names}
 use Rattle.html_clean_policy.specs.Policies.{PolicyView}
 

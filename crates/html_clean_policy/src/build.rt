@@ -3,13 +3,13 @@
 ghost use Rattle.std.specs.List.{list_all};
 ghost use Rattle.std.specs.Prelude.{◌≡◌, ◌&&◌, not, chars, if◌then◌else◌};
 ghost use Rattle.html_clean_values.specs.Replaced.{is_plain_char};
-ghost use Rattle.html_clean_styles.specs.Styles.{is_property_char};
+ghost use Rattle.html_clean_styles.specs.Styles.{is_property_char, is_property_name};
 ghost use Rattle.html_clean_policy.specs.AttrNames.{is_barred};
 ghost use Rattle.html_clean_policy.specs.Building as made;
 ghost use Rattle.html_clean_policy.specs.Building.{can_keep, is_scheme, is_scheme_char, nothing};
 ghost use Rattle.html_clean_policy.specs.PolicyFaults.{Extends};
 ghost use Rattle.html_clean_policy.specs.PolicyViews.{policy_view};
-ghost use Rattle.html_clean_policy.specs.Sound.{is_prefix_char, is_property};
+ghost use Rattle.html_clean_policy.specs.Sound.{is_prefix_char};
 
 use crate::elements::{is_dropped, is_never_kept};
 use crate::fault::{PolicyFault, PolicyRefused};
@@ -30,8 +30,9 @@ fn can_keep(tag: &HtmlTag) -> bool
 fn are_scheme_chars(text: &str) -> bool
     ensures { result ≡ list_all is_scheme_char (chars text.now) }
 {
-    text.chars()
-        .all(|c| c.is_ascii_lowercase() || c.is_ascii_digit() || matches!(c, '+' | '-' | '.'))
+    text.chars().all(|c| c.is_ascii_lowercase()
+        || c.is_ascii_digit()
+        || matches!(c, '+' | '-' | '.'))
 }
 
 fn is_scheme(text: &str) -> bool
@@ -50,7 +51,7 @@ fn are_property_chars(text: &str) -> bool
 }
 
 fn is_property(text: &str) -> bool
-    ensures { result ≡ is_property (chars text.now) }
+    ensures { result ≡ is_property_name (chars text.now) }
 {
     match split_first(text) {
         Some(_) => are_property_chars(text),
@@ -71,7 +72,16 @@ fn is_written(text: &str) -> bool
 }
 
 impl Policy {
-    /// Creates the policy that lets only text stay: no element, no attribute.
+    /// Creates the policy that lets only text stay: no element, no attribute, no URL.
+    ///
+    /// ```
+    /// use html_clean::Policy;
+    /// use html_names::tag;
+    ///
+    /// let policy = Policy::text(rt.alloc()).with_element(tag::em)?;
+    /// assert!(rt; policy.allows(&tag::em));
+    /// assert!(rt; !policy.allows(&tag::strong));
+    /// ```
     #[tactic(auto, using(std::proofs::StrCases::chars_of_empty))]
     pub fn text(alloc: Global) -> Policy
         ensures { policy_view result ≡ nothing }
@@ -89,7 +99,17 @@ impl Policy {
         }
     }
 
-    /// Lets the elements with that name stay.
+    /// Lets elements with that name stay. Fails if no policy keeps them
+    /// ([`is_dropped`](crate::is_dropped), [`is_never_kept`](crate::is_never_kept)).
+    ///
+    /// ```
+    /// use html_clean::{Policy, PolicyFault};
+    /// use html_names::tag;
+    ///
+    /// let policy = Policy::text(rt.alloc());
+    /// let refused = policy.with_element(tag::script).err().expect(&rt, "a fault");
+    /// assert!(rt; refused.fault == PolicyFault::NeverKeptTag(tag::script));
+    /// ```
     pub fn with_element(mut self, tag: HtmlTag) -> Result<Policy, PolicyRefused>
         ensures { Extends result (policy_view self) (made.with_element tag (policy_view self))
             1 tag (can_keep tag) }
@@ -109,7 +129,20 @@ impl Policy {
         }
     }
 
-    /// Lets the attribute stay on each element.
+    /// Lets the attribute stay on each element. Fails if it is an event handler or `srcdoc`.
+    ///
+    /// ```
+    /// use html_clean::Policy;
+    /// use html_dom::HtmlAttrs;
+    /// use html_names::{attr, tag};
+    ///
+    /// let alloc = rt.alloc();
+    /// let policy = Policy::text(alloc).with_attr(attr::title)?;
+    /// let mut attrs = HtmlAttrs::new(alloc);
+    /// attrs.push(attr::title, String::from_str(alloc, "Salt")?)?;
+    /// attrs.push(attr::id, String::from_str(alloc, "salt")?)?;
+    /// assert_eq!(rt; policy.kept_attrs(&tag::p, &attrs)?.0.len(), 1);
+    /// ```
     pub fn with_attr(mut self, attr: HtmlAttr) -> Result<Policy, PolicyRefused>
         ensures { Extends result (policy_view self) (made.with_attr attr (policy_view self))
             2 attr (not (is_barred attr)) }
@@ -129,7 +162,21 @@ impl Policy {
         }
     }
 
-    /// Lets the attribute stay on elements with that name.
+    /// Lets the attribute stay on elements with that name, if these stay. Fails as
+    /// [`with_element`](Policy::with_element) and [`with_attr`](Policy::with_attr) do.
+    ///
+    /// ```
+    /// use html_clean::Policy;
+    /// use html_dom::HtmlAttrs;
+    /// use html_names::{attr, tag};
+    ///
+    /// let alloc = rt.alloc();
+    /// let policy = Policy::text(alloc).with_own_attr(tag::ol, attr::start)?;
+    /// let mut attrs = HtmlAttrs::new(alloc);
+    /// attrs.push(attr::start, String::from_str(alloc, "3")?)?;
+    /// assert_eq!(rt; policy.kept_attrs(&tag::ol, &attrs)?.0.len(), 1);
+    /// assert_eq!(rt; policy.kept_attrs(&tag::ul, &attrs)?.0.len(), 0);
+    /// ```
     pub fn with_own_attr(mut self, tag: HtmlTag, attr: HtmlAttr) -> Result<Policy, PolicyRefused>
         ensures { Extends result (policy_view self) (made.with_own_attr tag attr (policy_view self))
             (if can_keep tag then 2 else 1) (if can_keep tag then attr else tag)
@@ -173,6 +220,13 @@ impl Policy {
     }
 
     /// Lets URLs with that scheme stay, such as `https`. Fails if it is no scheme in small letters.
+    ///
+    /// ```
+    /// use html_clean::Policy;
+    ///
+    /// let policy = Policy::text(rt.alloc()).with_scheme("mailto")?;
+    /// assert!(rt; policy.with_scheme("mailto:").is_err());
+    /// ```
     pub fn with_scheme(mut self, scheme: &str) -> Result<Policy, PolicyRefused>
         ensures { let text = chars scheme.now in
             Extends result (policy_view self) (made.with_scheme text (policy_view self))
@@ -199,12 +253,26 @@ impl Policy {
         }
     }
 
-    /// Lets declarations of that css property stay in `style`, such as `color`. Fails if the text is
-    /// empty or has other characters than small letters and `-`.
+    /// Lets declarations of that css property stay in `style`, such as `color`. Fails if the text
+    /// is empty or has other characters than small letters and `-`.
+    ///
+    /// ```
+    /// use html_clean::Policy;
+    /// use html_dom::HtmlAttrs;
+    /// use html_names::{attr, tag};
+    ///
+    /// let alloc = rt.alloc();
+    /// let policy = Policy::text(alloc).with_attr(attr::style)?.with_property("color")?;
+    /// let mut attrs = HtmlAttrs::new(alloc);
+    /// attrs.push(attr::style, String::from_str(alloc, "color: red; position: fixed")?)?;
+    /// let kept = policy.kept_attrs(&tag::p, &attrs)?;
+    /// let style = kept.get(&attr::style).expect(&rt, "a style");
+    /// assert_eq!(rt; style.as_str(), "color: red");
+    /// ```
     pub fn with_property(mut self, property: &str) -> Result<Policy, PolicyRefused>
         ensures { let text = chars property.now in
             Extends result (policy_view self) (made.with_property text (policy_view self))
-            4 text (is_property text) }
+            4 text (is_property_name text) }
     {
         let Ok(text) = String::from_str(*self.elements.allocator(), property) else {
             return Err(PolicyRefused {
@@ -230,6 +298,13 @@ impl Policy {
     /// Puts that text before each id and each name of a place, and before what refers to them,
     /// unless it stands there already. Fails if it has other characters than ASCII letters, digits,
     /// `-` and `_`.
+    ///
+    /// ```
+    /// use html_clean::Policy;
+    ///
+    /// let policy = Policy::inline(rt.alloc())?.with_prefix("comment-")?;
+    /// assert!(rt; policy.with_prefix("a b").is_err());
+    /// ```
     pub fn with_prefix(mut self, prefix: &str) -> Result<Policy, PolicyRefused>
         ensures { let text = chars prefix.now in
             Extends result (policy_view self) (made.with_prefix text (policy_view self))
@@ -253,6 +328,13 @@ impl Policy {
 
     /// Gives each `a`, `area` and `form` that leads elsewhere this `rel` in place of its own. Fails
     /// if the text has a character that is not read as it is written.
+    ///
+    /// ```
+    /// use html_clean::Policy;
+    ///
+    /// let policy = Policy::article(rt.alloc())?.with_rel("nofollow ugc")?;
+    /// assert!(rt; policy.with_rel("\0").is_err());
+    /// ```
     pub fn with_rel(mut self, rel: &str) -> Result<Policy, PolicyRefused>
         ensures { let text = chars rel.now in
             Extends result (policy_view self) (made.with_rel text (policy_view self))

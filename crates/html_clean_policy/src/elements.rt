@@ -55,7 +55,17 @@ fn has_dropped_name(name: &str) -> bool
     is_one_of(&DROPPED, name)
 }
 
-/// Returns whether an element goes with all that is in it, whatever the policy.
+/// Returns whether an element with that name goes with all that is in it, whatever the policy:
+/// scripts and styles, frames and plugins, `template`, `noscript`, SVG and MathML, and what a browser
+/// reads as text or as part of the head.
+///
+/// ```
+/// use html_clean::is_dropped;
+/// use html_names::tag;
+///
+/// assert!(rt; is_dropped(&tag::script));
+/// assert!(rt; !is_dropped(&tag::form));
+/// ```
 #[tactic(auto, unfolding(crate::specs::Policies::is_dropped))]
 pub fn is_dropped(tag: &HtmlTag) -> bool
     ensures { result ≡ is_dropped tag.now }
@@ -63,7 +73,16 @@ pub fn is_dropped(tag: &HtmlTag) -> bool
     has_dropped_kind(tag.resolve()) || has_dropped_name(tag.resolve())
 }
 
-/// Returns whether an element gives place to its children, whatever the policy.
+/// Returns whether an element with that name gives place to its children, whatever the policy: a
+/// body can't contain it as it is written (HTML Standard 13.2.6.4.7).
+///
+/// ```
+/// use html_clean::is_never_kept;
+/// use html_names::tag;
+///
+/// assert!(rt; is_never_kept(&tag::body));
+/// assert!(rt; !is_never_kept(&tag::main));
+/// ```
 #[tactic(auto, unfolding(crate::specs::Policies::is_never_kept))]
 pub fn is_never_kept(tag: &HtmlTag) -> bool
     ensures { result ≡ is_never_kept tag.now }

@@ -119,7 +119,8 @@ fn add_kept(
     value: &String,
 ) -> Result<(), AllocError>
     ensures { OnOk result (attrs_view kept.new ≡ attrs_view kept.old
-        ++ option_to_list (kept_pair (policy_view policy.now) tag.now (attr.now, text_view value.now))) }
+        ++ option_to_list
+        (kept_pair (policy_view policy.now) tag.now (attr.now, text_view value.now))) }
 {
     let alloc = *kept.0.allocator();
     if let Some(value) = kept_value(policy, alloc, tag, attr, value)? {

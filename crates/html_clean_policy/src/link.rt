@@ -63,11 +63,7 @@ fn without_rel(alloc: Global, attrs: HtmlAttrs) -> Result<HtmlAttrs, AllocError>
 
 /// Returns the attributes of a link, with that `rel` in place of each other one if they have a
 /// target.
-pub(crate) fn with_rel(
-    alloc: Global,
-    rel: &str,
-    attrs: HtmlAttrs,
-) -> Result<HtmlAttrs, AllocError>
+pub(crate) fn with_rel(alloc: Global, rel: &str, attrs: HtmlAttrs) -> Result<HtmlAttrs, AllocError>
     ensures { IfOk result (λ made. attrs_view made ≡ with_rel (chars rel.now) (attrs_view attrs)) }
 {
     if !leads(&attrs) {

@@ -123,6 +123,15 @@ impl Policy {
     /// Creates a policy for a line of text, such as a comment: what may stand in a line, with links
     /// but without images. URLs may have the schemes `http`, `https` and `mailto` or none, and links
     /// get `rel="nofollow"`. Fails only if an allocation fails.
+    ///
+    /// ```
+    /// use html_clean::Policy;
+    /// use html_names::tag;
+    ///
+    /// let policy = Policy::inline(rt.alloc())?;
+    /// assert!(rt; policy.allows(&tag::em));
+    /// assert!(rt; !policy.allows(&tag::img));
+    /// ```
     #[tactic(auto, using(std::proofs::StrCases::chars_of_empty, crate::proofs::ReadySound::inline_sound))]
     pub fn inline(alloc: Global) -> Result<Policy, AllocError>
         ensures { IfOk result (λ made. policy_view made ≡ ready.inline) }
@@ -145,6 +154,15 @@ impl Policy {
     /// `user-content-`. URLs may have the schemes `http`, `https` and `mailto` or none, and links get
     /// `rel="nofollow"`. This is about what GitHub keeps of the HTML in a README. Fails only if an
     /// allocation fails.
+    ///
+    /// ```
+    /// use html_clean::Policy;
+    /// use html_names::tag;
+    ///
+    /// let policy = Policy::article(rt.alloc())?;
+    /// assert!(rt; policy.allows(&tag::h2));
+    /// assert!(rt; !policy.allows(&tag::form));
+    /// ```
     #[tactic(auto, using(std::proofs::StrCases::chars_of_empty, crate::proofs::ReadySound::article_sound))]
     pub fn article(alloc: Global) -> Result<Policy, AllocError>
         ensures { IfOk result (λ made. policy_view made ≡ ready.article) }
@@ -166,6 +184,15 @@ impl Policy {
     /// which tables are laid out in mails, and `style` with the properties that programs for mails
     /// keep, but without ids. URLs may have the schemes `cid`, `http`, `https`, `mailto` and `tel`.
     /// Fails only if an allocation fails.
+    ///
+    /// ```
+    /// use html_clean::Policy;
+    /// use html_names::tag;
+    ///
+    /// let policy = Policy::mail(rt.alloc())?;
+    /// assert!(rt; policy.allows(&tag::td));
+    /// assert!(rt; !policy.allows(&tag::video));
+    /// ```
     #[tactic(auto, using(std::proofs::StrCases::chars_of_empty, crate::proofs::ReadySound::mail_sound))]
     pub fn mail(alloc: Global) -> Result<Policy, AllocError>
         ensures { IfOk result (λ made. policy_view made ≡ ready.mail) }

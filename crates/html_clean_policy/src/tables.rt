@@ -157,44 +157,12 @@ pub(crate) static ARTICLE_OWN_ATTRS: [(&str, &str); 11] = [
 ];
 
 pub(crate) static INLINE_ELEMENTS: [&str; 31] = [
-    "a",
-    "abbr",
-    "b",
-    "bdi",
-    "bdo",
-    "br",
-    "cite",
-    "code",
-    "data",
-    "del",
-    "dfn",
-    "em",
-    "i",
-    "ins",
-    "kbd",
-    "mark",
-    "q",
-    "rp",
-    "rt",
-    "ruby",
-    "s",
-    "samp",
-    "small",
-    "span",
-    "strong",
-    "sub",
-    "sup",
-    "time",
-    "u",
-    "var",
-    "wbr",
+    "a", "abbr", "b", "bdi", "bdo", "br", "cite", "code", "data", "del", "dfn", "em", "i", "ins",
+    "kbd", "mark", "q", "rp", "rt", "ruby", "s", "samp", "small", "span", "strong", "sub", "sup",
+    "time", "u", "var", "wbr",
 ];
 
-pub(crate) static INLINE_ATTRS: [&str; 3] = [
-    "dir",
-    "lang",
-    "title",
-];
+pub(crate) static INLINE_ATTRS: [&str; 3] = ["dir", "lang", "title"];
 
 pub(crate) static INLINE_OWN_ATTRS: [(&str, &str); 8] = [
     ("a", "href"),

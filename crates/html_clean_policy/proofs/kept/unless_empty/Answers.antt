@@ -8,4 +8,5 @@ returns-then-is_empty c = none_stays (string_bytes c.args.text) (search rules)
 
 pub returns-else-is_empty : goal.returns-else-is_empty
 returns-else-is_empty c =
-    some_stays (string_bytes c.args.text) (subst IsUtf8 c.as_str.ensures.value c.as_str.utf8) (search rules)
+    let utf8 = subst IsUtf8 c.as_str.ensures.value c.as_str.utf8 in
+    some_stays (string_bytes c.args.text) utf8 (search rules)
