@@ -1,0 +1,4 @@
+pub mod LastChars
+pub mod LastNodes
+pub mod PastEvents
+pub mod Stays
