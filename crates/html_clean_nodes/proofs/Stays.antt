@@ -1,6 +1,6 @@
 -- An element stays if the policy allows it and browsers leave it where it is.
 use Rattle.std.proofs.Common.{◌≡◌, Bool, true, false, ap, refl, sym, ◌∙◌, Some, None}
-use Rattle.std.specs.Prelude.{if◌then◌else◌, Option}
+use Rattle.std.specs.Prelude.{if◌then◌else◌}
 use Rattle.html_dom_tree.specs.Tree.{Head, none, ElementView}
 use Rattle.html_page_nesting.specs.{Kept.{keeps_element, kept_inside}, Walks.{surroundings_in}}
 use Rattle.html_page_nesting.specs.declared.surroundings.Surroundings.{Surroundings}

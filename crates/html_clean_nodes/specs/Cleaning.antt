@@ -1,5 +1,5 @@
 -- The same walk, event by event: the nodes that were made, and those around them.
-use Rattle.std.specs.Prelude.{◌≡◌, ℕ, Bool, true, false, ◌&&◌, ◌||◌, List, [], ◌∷◌, if◌then◌else◌, Option, Some, None, map, reverse}
+use Rattle.std.specs.Prelude.{◌≡◌, Bool, true, false, ◌&&◌, ◌||◌, List, [], ◌∷◌, if◌then◌else◌, Option, Some, None, map, reverse}
 use Rattle.html_names_core.specs.Kinds.{is_void}
 use Rattle.html_dom_tree.specs.{Tree.{Head, element_node, NodesView, none, with_last}, Views.{element_view, head_of, nodes_view}}
 use Rattle.html_dom_walk.specs.Events.{Event, tag, text, frame, enter, leave}
