@@ -17,7 +17,7 @@ DATA = Path(__file__).resolve().parent.parent / "crates" / "tests_rows" / "data"
 # The first words of rows that call the library. Any other row is a run of the program.
 CALLS = frozenset(
     "kinds attribute cast construct address decoded-fragment place-in nodes block-fragment inline-fragment math-fragment fragment-text spans bare document links anchors positions dead-links "
-    "distinct-ids list-lines list-page read as-browsers page-places fragment-as-browsers page-text items-text dead-fragments repeated-ids misnested "
+    "distinct-ids list-lines list-page read as-browsers page-places fragment-as-browsers clean page-text items-text dead-fragments repeated-ids misnested "
     "c-write c-document c-fragment c-dead-links c-unused c-check c-links c-version".split()
 )
 

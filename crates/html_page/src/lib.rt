@@ -35,8 +35,8 @@ pub use html_page_encoding::{DecodedPage, Encoding};
 pub use html_page_findings::{DeadFragment, RepeatedId, dead_fragments, element_at, repeated_ids};
 pub use html_page_nesting::{Misnested, Misnesting, misnested};
 pub use html_page_read::{
-    PageFault, PageNote, PageNotes, Places, decode_page_bytes, read_fragment, read_page,
-    read_page_bytes,
+    PageFault, PageNote, PageNotes, Places, decode_page_bytes, read_any_fragment, read_fragment,
+    read_page, read_page_bytes,
 };
 pub use html_page_stack::{PageError, PageRefusal};
 pub use html_page_text::{PageText, Shown, page_text};

@@ -72,6 +72,11 @@
 //! - `fragment-as-browsers [limit=N]`: the text of the nodes that `read_fragment` reads, and the same
 //!   behind it
 //!
+//! For a foreign fragment:
+//!
+//! - `clean POLICY [prefix=TEXT] [rel=TEXT] [limit=N]`: the text of what stays by the policy `text`,
+//!   `inline`, `article` or `mail`
+//!
 //! For an input of the library for C, its reply and its buffer, which had `room=N` points:
 //!
 //! - `c-write [kind=N] [layout=N]`, `c-document [layout=N] [links=N] [limit=N]`,
@@ -81,7 +86,7 @@
 //!
 //! A refusal is `refused`, its number, `at` and its span.
 
-use crate::{checks, documents, kinds, lists, nodes, pages, replies, runs};
+use crate::{checks, cleaned, documents, kinds, lists, nodes, pages, replies, runs};
 use anyhow::Result;
 use std::alloc::Global;
 use tests_rows_run::{Caller, Row};
@@ -122,6 +127,7 @@ impl Caller for Library {
             "as-browsers" => pages::as_browsers(alloc, row),
             "page-places" => pages::element_places(alloc, row),
             "fragment-as-browsers" => pages::fragment_as_browsers(alloc, row),
+            "clean" => cleaned::text(alloc, row),
             "page-text" => pages::text(alloc, row),
             "items-text" => pages::items_text(alloc, row),
             "dead-fragments" => checks::dead_fragment_list(alloc, row),

@@ -23,6 +23,7 @@
 
 mod calls;
 mod checks;
+mod cleaned;
 mod documents;
 mod kinds;
 mod lists;

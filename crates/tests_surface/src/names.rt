@@ -44,8 +44,8 @@ mod pages {
         PageFault, PageNote, PageNotes, PageRefusal, PageText, Place, Places, Point, Refused,
         RepeatedId, Shown, Span, Tag, Visit, Walk, attr, base_of, dead_fragments,
         decode_page_bytes, decoded_fragment, element_at, fragment_in, fragment_leads,
-        href_is_script, laws, misnested, page_text, place_in, place_names, property, read_fragment,
-        read_page, read_page_bytes, repeated_ids, tag,
+        href_is_script, laws, misnested, page_text, place_in, place_names, property,
+        read_any_fragment, read_fragment, read_page, read_page_bytes, repeated_ids, tag,
     };
 }
 

@@ -1,0 +1,10 @@
+pub mod Again
+pub mod Cleaned
+pub mod Kept
+pub mod Lists
+pub mod Named
+pub mod Names
+pub mod Pages
+pub mod Nested
+pub mod Texts
+pub mod Written

@@ -1,0 +1,2 @@
+pub mod CleanNodes
+pub mod CleanLaws
