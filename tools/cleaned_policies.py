@@ -1,5 +1,5 @@
-"""The policies of the cleaner, for `cleaned`: what each allows. Written by hand, from what they promise, and not from their
-code. `wide` is none of the cleaner's own: it allows all that one can allow, also what browsers move most."""
+"""The policies of the cleaner, for `cleaned`: what each allows. Written by hand, from the lists that
+crates/html_clean_policy/specs/Ready.antt promises, and not from the tables of the code."""
 
 from typing import NamedTuple
 
@@ -15,6 +15,8 @@ class Policy(NamedTuple):
     # whether URLs without a scheme stay
     relative: bool
     properties: frozenset[str]
+    # before ids and names
+    prefix: str
     # the `rel` of links
     rel: str | None
 
@@ -34,41 +36,70 @@ DROPPED = words(
     """script style iframe object embed applet template svg math base meta link title textarea plaintext noscript xmp noembed
     noframes frameset"""
 )
-INLINE = words(
-    """a abbr b bdi bdo br cite code data del dfn em i ins kbd mark q rb rp rt rtc ruby s samp small span strong sub sup time u
-    var wbr"""
+SCHEMES = words("http https mailto")
+
+TEXT = Policy(frozenset(), frozenset(), {}, frozenset(), False, frozenset(), "", None)
+INLINE = Policy(
+    elements=words(
+        """a abbr b bdi bdo br cite code data del dfn em i ins kbd mark q rp rt ruby s samp small span strong sub sup time u var
+        wbr"""
+    ),
+    attrs=words("dir lang title"),
+    own_attrs={"a": words("href"), "data": words("value"), "del": words("cite datetime"), "ins": words("cite datetime"),
+               "q": words("cite"), "time": words("datetime")},
+    schemes=SCHEMES,
+    relative=True,
+    properties=frozenset(),
+    prefix="",
+    rel="nofollow",
 )
-ARTICLE = INLINE | words(
-    """address article aside blockquote caption col colgroup dd details div dl dt figcaption figure footer h1 h2 h3 h4 h5 h6
-    header hgroup hr img li main nav ol p picture pre section source summary table tbody td tfoot th thead tr ul"""
+ARTICLE = Policy(
+    elements=words(
+        """a abbr b bdo blockquote br caption cite code dd del details dfn div dl dt em figcaption figure h1 h2 h3 h4 h5 h6 h7 h8
+        hr i img ins kbd li mark ol p picture pre q rp rt ruby s samp small source span strike strong sub summary sup table
+        tbody td tfoot th thead time tr tt ul var wbr"""
+    ),
+    attrs=words(
+        """abbr accept accept-charset accesskey action align alt aria-describedby aria-hidden aria-label aria-labelledby axis
+        border cellpadding cellspacing char charoff charset checked clear cols colspan compact coords datetime dir disabled
+        enctype for frame headers height hreflang hspace id ismap itemprop label lang maxlength media method multiple nohref
+        noshade nowrap open progress prompt readonly rel rev role rows rowspan rules scope selected shape size span start
+        summary tabindex title type usemap valign value vspace width"""
+    ),
+    own_attrs={"a": words("href name"), "blockquote": words("cite"), "del": words("cite"), "div": words("itemscope itemtype"),
+               "img": words("loading longdesc name src"), "ins": words("cite"), "q": words("cite"), "source": words("srcset")},
+    schemes=SCHEMES,
+    relative=True,
+    properties=frozenset(),
+    prefix="user-content-",
+    rel="nofollow",
 )
-MAIL = ARTICLE | words("acronym big center dir font nobr strike tt")
-WIDE = MAIL | words(
-    """area audio button datalist dialog fieldset form input label legend map marquee menu meter optgroup option output progress
-    search select track video my-element"""
-)
-SCHEMES = words("http https mailto tel")
-LINK = {"a": words("href"), "del": words("cite datetime"), "ins": words("cite datetime"), "q": words("cite"),
-        "time": words("datetime"), "data": words("value")}
-BLOCK = LINK | {"blockquote": words("cite"), "img": words("src srcset sizes alt width height loading"), "ol": words("start reversed type"),
-                "li": words("value"), "source": words("srcset sizes media type"), "details": words("open"),
-                "td": words("colspan rowspan headers"), "th": words("colspan rowspan headers scope abbr"),
-                "col": words("span"), "colgroup": words("span")}
-PROPERTIES = words(
-    """background-color border border-collapse border-color border-style border-width color font-family font-size font-style
-    font-weight height line-height margin margin-bottom margin-left margin-right margin-top max-width padding padding-bottom
-    padding-left padding-right padding-top text-align text-decoration text-indent vertical-align white-space width"""
+MAIL = Policy(
+    elements=words(
+        """a abbr address b big blockquote br caption center cite code col colgroup dd del dfn div dl dt em font h1 h2 h3 h4 h5
+        h6 hr i img ins kbd li ol p pre q s samp small span strike strong sub sup table tbody td tfoot th thead tr tt u ul
+        var wbr"""
+    ),
+    attrs=words(
+        """abbr align alt axis bgcolor border cellpadding cellspacing char charoff clear color colspan compact dir face frame
+        height hspace lang noshade nowrap rowspan rules scope size span start style summary title type valign value vspace
+        width"""
+    ),
+    own_attrs={"a": words("href"), "blockquote": words("cite"), "img": words("src")},
+    schemes=SCHEMES | words("cid tel"),
+    relative=False,
+    properties=words(
+        """background-color border border-bottom border-bottom-color border-bottom-style border-bottom-width border-collapse
+        border-color border-left border-left-color border-left-style border-left-width border-right border-right-color
+        border-right-style border-right-width border-spacing border-style border-top border-top-color border-top-style
+        border-top-width border-width caption-side clear color direction empty-cells float font font-family font-size
+        font-style font-variant font-weight height letter-spacing line-height list-style-position list-style-type margin
+        margin-bottom margin-left margin-right margin-top max-height max-width min-height min-width overflow padding
+        padding-bottom padding-left padding-right padding-top table-layout text-align text-decoration text-indent
+        text-transform vertical-align white-space width word-break word-spacing word-wrap"""
+    ),
+    prefix="",
+    rel="nofollow noopener noreferrer",
 )
 
-POLICIES = {
-    "text": Policy(frozenset(), frozenset(), {}, frozenset(), False, frozenset(), None),
-    "inline": Policy(INLINE, words("dir lang title"), LINK, SCHEMES, False, frozenset(), "nofollow noopener noreferrer"),
-    "article": Policy(ARTICLE, words("dir lang title id class"), BLOCK, SCHEMES, True, frozenset(), "nofollow noopener noreferrer"),
-    "mail": Policy(MAIL, words("dir lang title style align valign bgcolor width height border cellpadding cellspacing"),
-                   BLOCK, SCHEMES | {"cid"}, False, PROPERTIES, "nofollow noopener noreferrer"),
-    "wide": Policy(WIDE, words("""dir lang title style align color face id class name for headers aria-labelledby usemap href src
-                               srcset action formaction background poster cite ping type hidden open value checked autofocus
-                               is slot target popovertarget colspan start width size"""),
-                   BLOCK, SCHEMES, True, PROPERTIES, "nofollow noopener noreferrer"),
-}
-OWN = ("text", "inline", "article", "mail")
+POLICIES = {"text": TEXT, "inline": INLINE, "article": ARTICLE, "mail": MAIL}

@@ -20,7 +20,7 @@ article_attrs =
     ++ listed_names (codes "border cellpadding cellspacing char charoff charset checked clear")
     ++ listed_names (codes "cols colspan compact coords datetime dir disabled enctype for")
     ++ listed_names (codes "frame headers height hreflang hspace id ismap itemprop label lang")
-    ++ listed_names (codes "maxlength media method multiple name nohref noshade nowrap open")
+    ++ listed_names (codes "maxlength media method multiple nohref noshade nowrap open")
     ++ listed_names (codes "progress prompt readonly rel rev role rows rowspan rules scope")
     ++ listed_names (codes "selected shape size span start summary tabindex title type usemap")
     ++ listed_names (codes "valign value vspace width")
@@ -28,12 +28,14 @@ article_attrs =
 unfoldable pub article_own_attrs : List (List ℕ × List ℕ)
 article_own_attrs =
     (codes "a", codes "href") ∷
+    (codes "a", codes "name") ∷
     (codes "blockquote", codes "cite") ∷
     (codes "del", codes "cite") ∷
     (codes "div", codes "itemscope") ∷
     (codes "div", codes "itemtype") ∷
     (codes "img", codes "loading") ∷
     (codes "img", codes "longdesc") ∷
+    (codes "img", codes "name") ∷
     (codes "img", codes "src") ∷
     (codes "ins", codes "cite") ∷
     (codes "q", codes "cite") ∷

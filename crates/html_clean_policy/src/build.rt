@@ -131,6 +131,10 @@ impl Policy {
 
     /// Lets the attribute stay on each element. Fails if it is an event handler or `srcdoc`.
     ///
+    /// A policy should not let both `open` and `name` of `details` stay: browsers take `open` off a
+    /// `details` that follows an open one of the same `name` (HTML Standard 4.11.1), and so would not
+    /// show what stays as it is written.
+    ///
     /// ```
     /// use html_clean::Policy;
     /// use html_dom::HtmlAttrs;
@@ -163,7 +167,8 @@ impl Policy {
     }
 
     /// Lets the attribute stay on elements with that name, if these stay. Fails as
-    /// [`with_element`](Policy::with_element) and [`with_attr`](Policy::with_attr) do.
+    /// [`with_element`](Policy::with_element) and [`with_attr`](Policy::with_attr) do. Here too a
+    /// policy should not let both `open` and `name` of `details` stay, for the reason given there.
     ///
     /// ```
     /// use html_clean::Policy;

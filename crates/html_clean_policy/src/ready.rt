@@ -152,8 +152,9 @@ impl Policy {
     /// Creates a policy for an article, such as a page of documentation from elsewhere: headings,
     /// lists, tables, images, links and what may stand in a line, with ids that begin with
     /// `user-content-`. URLs may have the schemes `http`, `https` and `mailto` or none, and links get
-    /// `rel="nofollow"`. This is about what GitHub keeps of the HTML in a README. Fails only if an
-    /// allocation fails.
+    /// `rel="nofollow"`. This is about what GitHub keeps of the HTML in a README, but `name` stays on
+    /// `a` and `img` alone, since a policy should not let both `open` and `name` of `details` stay
+    /// ([`with_attr`](Policy::with_attr) says why). Fails only if an allocation fails.
     ///
     /// ```
     /// use html_clean::Policy;

@@ -67,7 +67,7 @@ pub(crate) static ARTICLE_ELEMENTS: [&str; 64] = [
     "wbr",
 ];
 
-pub(crate) static ARTICLE_ATTRS: [&str; 72] = [
+pub(crate) static ARTICLE_ATTRS: [&str; 71] = [
     "abbr",
     "accept",
     "accept-charset",
@@ -111,7 +111,6 @@ pub(crate) static ARTICLE_ATTRS: [&str; 72] = [
     "media",
     "method",
     "multiple",
-    "name",
     "nohref",
     "noshade",
     "nowrap",
@@ -142,14 +141,16 @@ pub(crate) static ARTICLE_ATTRS: [&str; 72] = [
     "width",
 ];
 
-pub(crate) static ARTICLE_OWN_ATTRS: [(&str, &str); 11] = [
+pub(crate) static ARTICLE_OWN_ATTRS: [(&str, &str); 13] = [
     ("a", "href"),
+    ("a", "name"),
     ("blockquote", "cite"),
     ("del", "cite"),
     ("div", "itemscope"),
     ("div", "itemtype"),
     ("img", "loading"),
     ("img", "longdesc"),
+    ("img", "name"),
     ("img", "src"),
     ("ins", "cite"),
     ("q", "cite"),
